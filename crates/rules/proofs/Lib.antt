@@ -1,0 +1,4 @@
+mod BothLaws
+mod LoadLaws
+mod PairsLaws
+pub mod States

@@ -1,0 +1,4 @@
+pub mod Boths
+pub mod Loads
+pub mod Pairs
+pub mod Rules
