@@ -1,12 +1,13 @@
 -- Part orders: doors as tests, induction by the last door, and what holds at each door.
 use mathlib.Core.Path.{_≡_, refl, sym, ap, subst, _∙_}
-use mathlib.Core.Bool.{true, false}
+use mathlib.Core.Bool.{true, false, not}
+use lib.Dec.{eqb}
 use mathlib.Core.List.{List, [], _∷_, _++_, append-nil, append-assoc}
 use mathlib.Core.Logic.{_⊎_, inl, inr, ⊎-elim}
 use Prim.Native.Nat.{ℕ}
 use native.Mathlib.Omega.{arith}
-use Rattle.std.proofs.shelf.Tests.{leb-true, and-parts, and-from, le-leb, cases-bool}
-use Rattle.doors.specs.Orders.{In, Door, PartOrder, Next, AtEach, isDoor}
+use Rattle.std.proofs.shelf.Tests.{leb-true, eqb-true, eq-eqb, and-parts, and-from, or-cases, or-left, or-right, not-true, not-from-false, both-ways, le-leb, cases-bool}
+use Rattle.doors.specs.Orders.{In, Door, PartOrder, Next, AtEach, isDoor, isIn, isPartOrder}
 
 -- ---- doors
 
@@ -18,6 +19,29 @@ door-is n j d = and-from _ _ (le-leb 1 j (d .low)) (le-leb j n (d .high))
 
 pub not-door : (n j : ℕ) → (Door n j → ⊥) → isDoor n j ≡ false
 not-door n j h = ⊎-elim (λ e. absurd (h (is-door n j e))) (λ e. e) (cases-bool (isDoor n j))
+
+-- ---- the tests tell what they say
+
+pub is-in : (j : ℕ) (w : List ℕ) → isIn j w ≡ true → In j w
+is-in j [] e = absurd (both-ways false refl e)
+is-in j (x ∷ w) e = ⊎-elim (λ a. inl (eqb-true j x a)) (λ a. inr (is-in j w a)) (or-cases (eqb j x) (isIn j w) e)
+
+pub in-is : (j : ℕ) (w : List ℕ) → In j w → isIn j w ≡ true
+in-is j [] h = absurd h
+in-is j (x ∷ w) h = ⊎-elim (λ e. or-left _ _ (eq-eqb j x e)) (λ r. or-right _ _ (in-is j w r)) h
+
+pub is-part : (n : ℕ) (w : List ℕ) → isPartOrder n w ≡ true → PartOrder n w
+is-part n [] e = tt
+is-part n (j ∷ w) e =
+    let p = and-parts (isDoor n j) _ e in
+    let q = and-parts (not (isIn j w)) _ (p .1) in
+    (is-door n j (p .0), λ h. both-ways (isIn j w) (not-true _ (q .0)) (in-is j w h), is-part n w (q .1))
+
+pub part-is : (n : ℕ) (w : List ℕ) → PartOrder n w → isPartOrder n w ≡ true
+part-is n [] p = refl
+part-is n (j ∷ w) p =
+    let new : isIn j w ≡ false = ⊎-elim (λ e. absurd (p .1 (is-in j w e))) (λ e. e) (cases-bool (isIn j w)) in
+    and-from _ _ (door-is n j (p .0)) (and-from _ _ (not-from-false _ new) (part-is n w (p .2)))
 
 -- ---- induction on part orders, by the last door
 

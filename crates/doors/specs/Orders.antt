@@ -1,10 +1,10 @@
 -- Part orders: lists of doors, none twice.
 use mathlib.Core.Path.{_≡_}
-use mathlib.Core.Bool.{Bool, _&&_}
+use mathlib.Core.Bool.{Bool, true, false, not, _&&_, _||_}
 use mathlib.Core.List.{List, [], _∷_, _++_}
 use mathlib.Core.Logic.{_⊎_}
 use Prim.Native.Nat.{ℕ, _≤_}
-use lib.Dec.{leb}
+use lib.Dec.{eqb, leb}
 
 -- j stands in w
 abbrev pub In : ℕ → List ℕ → Type 0
@@ -24,6 +24,15 @@ isDoor n j = leb 1 j && leb j n
 abbrev pub PartOrder : ℕ → List ℕ → Type 0
 PartOrder n [] = Unit {0}
 PartOrder n (j ∷ w) = Door n j × (In j w → ⊥) × PartOrder n w
+
+-- whether j stands in w, and whether w is a part order: the same, as tests
+abbrev pub isIn : ℕ → List ℕ → Bool
+isIn j [] = false
+isIn j (x ∷ w) = eqb j x || isIn j w
+
+abbrev pub isPartOrder : ℕ → List ℕ → Bool
+isPartOrder n [] = true
+isPartOrder n (j ∷ w) = isDoor n j && (not (isIn j w) && isPartOrder n w)
 
 -- w is a part order of n doors, and j a door that it lacks
 pub record Next (n : ℕ) (w : List ℕ) (j : ℕ) : Type 0 where

@@ -1,0 +1,4 @@
+pub mod Allowed
+pub mod Costs
+pub mod Times
+pub mod Verdicts
