@@ -40,6 +40,7 @@ broken n set w i h s bad = ⊎-elim (λ e. absurd (no-part (is-part n w e))) (λ
   where
     split : w ≡ take i w ++ getD w i 0 ∷ drop (i + 1) w
     split = sym (take-append-drop i w) ∙ ap (λ (v : List ℕ). take i w ++ v) (drop-more w i 0 h)
+
     no-part : PartOrder n w → ⊥
     no-part p =
         let x = part-next n (take i w) (getD w i 0) (drop (i + 1) w) (subst (PartOrder n) split p) in

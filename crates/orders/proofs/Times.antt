@@ -49,8 +49,10 @@ late-each r w k p = ⊎-elim inside outside (cases-lt k (length w))
   where
     few : length w ≤ 16
     few = let a = part-length (r .n) w (is-part (r .n) w p) in let b = r .most in omega arith
+
     inside : k < length w → getD (finishes r w) k 0 ≤ latest 16
     inside h = let e = getD-map-counting (λ i. finishOf r (take (i + 1) w)) 0 (length w) k k 0 h (omega arith) in omega (arith, few, e, late r (take (k + 1) w), length-take (k + 1) w)
+
     outside : length w ≤ k → getD (finishes r w) k 0 ≤ latest 16
     outside h = let e = getD-past (finishes r w) k 0 (omega (arith, length-map-counting (λ i. finishOf r (take (i + 1) w)) 0 (length w))) in omega (arith, e)
 

@@ -48,22 +48,28 @@ module _ {S : Type 0} (r : Round) (R : RuleSense S) (Keeps : List ℕ → Type 0
     where
       x : Next (r .n) u j
       x = part-next (r .n) u j v p
+
       van : vanAfter r (u ++ j ∷ []) ≡ goes r (vanAfter r u) j
       van = folded-push (goes r) yard u j
+
       state : stateOf R (u ++ j ∷ []) ≡ R .step (stateOf R u) j
       state = folded-push (R .step) (R .start) u j
+
       in-time : ltb (door r j .closes) (goes r (vanAfter r u) j .finish) ≡ false → finishOf r (u ++ j ∷ []) ≤ door r j .closes
       in-time e = omega (arith, ltb-false _ _ e, ap (λ (a : Van). a .finish) van)
+
       further : ltb (door r j .closes) (goes r (vanAfter r u) j .finish) ≡ false → R .bars (stateOf R u) j ≡ false → Judged r Keeps (u ++ j ∷ v) (verdictFrom r R (goes r (vanAfter r u) j) (R .step (stateOf R u) j) v)
       further e b =
           subst (λ (w : List ℕ). Judged r Keeps w (verdictFrom r R (goes r (vanAfter r u) j) (R .step (stateOf R u) j) v)) (append-assoc u (j ∷ []) v)
           (subst (λ (s : S). Judged r Keeps ((u ++ j ∷ []) ++ v) (verdictFrom r R (goes r (vanAfter r u) j) s v)) state
           (subst (λ (a : Van). Judged r Keeps ((u ++ j ∷ []) ++ v) (verdictFrom r R a (stateOf R (u ++ j ∷ [])) v)) van
           (go (each-more _ u j t (in-time e)) (rule .clear-keeps u j x k b))))
+
       late : ltb (door r j .closes) (goes r (vanAfter r u) j .finish) ≡ true → Judged r Keeps (u ++ j ∷ v) (verdictFrom r R (vanAfter r u) (stateOf R u) (j ∷ v))
       late e =
           subst (Judged r Keeps (u ++ j ∷ v)) (sym (cond-true _ (is.Closes j) _ e))
           (record { ahead = u; rest = v; split = refl; timely = t; keeps = k; wrong = omega (arith, ltb-true _ _ e, ap (λ (a : Van). a .finish) van) })
+
       timely : ltb (door r j .closes) (goes r (vanAfter r u) j .finish) ≡ false → Judged r Keeps (u ++ j ∷ v) (verdictFrom r R (vanAfter r u) (stateOf R u) (j ∷ v))
       timely e =
           ⊎-elim

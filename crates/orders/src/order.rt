@@ -5,8 +5,8 @@ ghost use denote.Ref.{now as held};
 ghost use Rattle.doors.specs.Orders.{isPartOrder};
 use round::table::Round;
 
-pub mod making;
 pub mod asking;
+pub mod making;
 
 #[derive(Clone, Copy)]
 pub struct Order<'a> {

@@ -27,6 +27,9 @@ impl Van {
     {
         let leg = round.drive(self.last, j);
         let finish = round.finish(self.finish, leg, j);
-        Van { last: j, finish: finish as u32 }
+        Van {
+            last: j,
+            finish: finish as u32,
+        }
     }
 }

@@ -1,21 +1,39 @@
 // Reading a round's tables, and its clock.
 ghost use mathlib.Core.Path.{_≡_};
-ghost use Prim.Native.Nat.{ℕ, _≤_};
+ghost use Prim.Native.Nat.{_+_, _≤_, max};
 ghost use lib.ListN.{getD, set, replicate};
-ghost use Rattle.round.specs.Tables.{blank, newDoor};
+ghost use Rattle.round.specs.Tables.{blank, newDoor, leg};
 ghost use Rattle.round.specs.Clock.{door, drive, finish, ClockLaws};
 use crate::door::BLANK;
 use crate::door::Door;
 use crate::table::Round;
 
-// The minutes at place j of a row of drives, 0 past its end.
-fn minutes_at(row: &[u16], j: usize) -> u32
+// What stands at place j of a row of drives, 0 past its end.
+fn minutes_at(row: &[u16], j: usize) -> u16
     ensures { λ r. ⌜ r ≡ getD (now (row .entry)) j 0 ⌝ }
 {
     match row.get(j) {
-        Some(minutes) => u32::from(*minutes),
+        Some(minutes) => *minutes,
         None => 0,
     }
+}
+
+// The same of place j of row i.
+fn leg_at(drives: &[[u16; 17]], i: usize, j: usize) -> u16
+    ensures { λ r. ⌜ r ≡ leg (now (drives .entry)) i j ⌝ }
+{
+    match drives.get(i) {
+        Some(row) => minutes_at(row, j),
+        None => 0,
+    }
+}
+
+// Work starts at the later of the door's opening and the arrival.
+fn ends(door: Door, from: u32, leg: u32) -> u64
+    ensures { λ r. ⌜ r ≡ max (door .opens) (from + leg) + door .work ⌝ }
+{
+    let arrives = u64::from(from) + u64::from(leg);
+    arrives.max(u64::from(door.opens)) + u64::from(door.work)
 }
 
 impl Round {
@@ -61,10 +79,7 @@ impl Round {
         ensures value { λ r. ⌜ r ≡ drive (now (self .entry)) i j ⌝ }
         ensures bound { λ r. ⌜ r ≤ 999 ⌝ }
     {
-        match self.drives.get(i) {
-            Some(row) => minutes_at(row, j),
-            None => 0,
-        }
+        u32::from(leg_at(&self.drives, i, j))
     }
 
     // The minute at which the work at door j ends, for a van that left its last place at minute `from` and drove `leg` minutes.
@@ -72,8 +87,6 @@ impl Round {
         ensures value { λ r. ⌜ r ≡ finish (now (self .entry)) from leg j ⌝ }
         ensures laws { λ _. ⌜ ClockLaws (now (self .entry)) ⌝ }
     {
-        let door = self.door(j);
-        let arrives = u64::from(from) + u64::from(leg);
-        arrives.max(u64::from(door.opens)) + u64::from(door.work)
+        ends(self.door(j), from, leg)
     }
 }

@@ -20,7 +20,7 @@ module _ {S : Type 0} {n : ℕ} {R : RuleSense S} {Keeps : List ℕ → Type 0} 
       (rule .start-stands)
 
   -- bars is exact at the state of a part order that keeps the rule
-  pub bars-exactly : (w : List ℕ) (j : ℕ) → Next n w j → Keeps w → Exact n R Keeps w j
+  pub bars-exactly : (w : List ℕ) (j : ℕ) → Next n w j → Keeps w → Exact Keeps w j (R .bars (stateOf R w) j)
   bars-exactly w j x k = record {
     yes-breaks = rule .bars-breaks _ w j x (state-stands w (x .part));
     breaks-yes = λ h. ⊎-elim (λ e. e) (λ e. absurd (h (rule .clear-keeps w j x k e))) (cases-bool (R .bars (stateOf R w) j));

@@ -42,7 +42,7 @@ pub record RuleLaws {S : Type 0} (n : ℕ) (R : RuleSense S) (Keeps : List ℕ �
   pub outside-step : (s : S) (j : ℕ) → (Door n j → ⊥) → R .step s j ≡ s
   pub outside-bars : (s : S) (j : ℕ) → (Door n j → ⊥) → R .bars s j ≡ false
 
--- At the state of a part order that keeps the rule, bars is yes exactly where the next door breaks it.
-pub record Exact {S : Type 0} (n : ℕ) (R : RuleSense S) (Keeps : List ℕ → Type 0) (w : List ℕ) (j : ℕ) : Type 0 where
-  pub yes-breaks : R .bars (stateOf R w) j ≡ true → Keeps (w ++ j ∷ []) → ⊥
-  pub breaks-yes : (Keeps (w ++ j ∷ []) → ⊥) → R .bars (stateOf R w) j ≡ true
+-- The answer b, to whether j is barred after w, is yes exactly when w followed by j breaks the rule.
+pub record Exact (Keeps : List ℕ → Type 0) (w : List ℕ) (j : ℕ) (b : Bool) : Type 0 where
+  pub yes-breaks : b ≡ true → Keeps (w ++ j ∷ []) → ⊥
+  pub breaks-yes : (Keeps (w ++ j ∷ []) → ⊥) → b ≡ true

@@ -3,3 +3,4 @@ pub mod both;
 pub mod load;
 pub mod pairs;
 pub mod rule;
+pub mod state;

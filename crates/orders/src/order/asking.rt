@@ -1,20 +1,29 @@
 // When each door of an order finishes, what the order costs, and what is wrong with it.
 ghost use mathlib.Core.Path.{_≡_};
 ghost use Prim.Native.Nat.{ℕ, _≤_};
+ghost use lib.Dec.{ltb};
 ghost use lib.ListN.{getD};
 ghost use Rattle.std.specs.Of.Vec.{vec-items};
 ghost use Rattle.std.specs.Vec.{made};
-ghost use Rattle.round.specs.Clock.{latest};
+ghost use Rattle.round.specs.Clock.{latest, door};
 ghost use Rattle.orders.specs.Costs.{cost};
 ghost use Rattle.orders.specs.Times.{yard, finishes};
 ghost use Rattle.orders.specs.Verdicts.{verdict, verdictFrom, Judged};
 use super::Order;
 use crate::van::Van;
 use crate::verdict::Verdict;
+use round::table::Round;
 use rules::rule::Rule;
 use std::alloc::AllocError;
 use std::alloc::Global;
 use tallies::tally::Tally;
+
+// Whether door j closes before the work of the van there ends.
+fn closes_before(round: &Round, van: Van, j: usize) -> bool
+    ensures { λ r. ⌜ r ≡ ltb (door (now (round .entry)) j .closes) (van .finish) ⌝ }
+{
+    u32::from(round.door(j).closes) < van.finish
+}
 
 impl<'a> Order<'a> {
     // The minutes at which the doors finish, in their order.
@@ -65,7 +74,7 @@ impl<'a> Order<'a> {
         let mut state = rule.start();
         for j in self.doors {
             van = van.goes(self.round, *j);
-            if van.finish > u32::from(self.round.door(*j).closes) {
+            if closes_before(self.round, van, *j) {
                 return Verdict::Closes(*j);
             }
             if rule.bars(state, *j) {

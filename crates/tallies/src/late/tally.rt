@@ -22,7 +22,10 @@ impl LateDoors {
         ensures n { λ r. ⌜ r .n ≡ now (round .entry) .n ⌝ }
         ensures doors { λ r. ⌜ r .doors ≡ now (round .entry) .doors ⌝ }
     {
-        LateDoors { n: round.n, doors: round.doors }
+        LateDoors {
+            n: round.n,
+            doors: round.doors,
+        }
     }
 
     // By how many minutes door j is late, if its work ends at `finish`.

@@ -20,11 +20,12 @@ goes-van-requires g c κs =
     subst (λ (a : Van). a .finish ≤ latest 15) (sym van) (soon r w (c .loop-j .j-index) (c .args .self .now .part) (c .loop-j-test .taken))
 
 pub loop-j-again : need.loop-j-again
-loop-j-again g c =
-    (omega arith,
-    trip-next (c .args .self .now .round .now) (g .T·Tally .sense (c .args .tally .now)) (c .args .self .now .doors .now) (c .loop-j .j-index)
-    (record { van = c .loop-j .van; cost = c .loop-j .value }) (record { van = c .goes-van .result; cost = c .step-value .result }) (c .drive-leg .result)
-    (c .loop-j-test .taken) (c .loop-j .inv .1) (c .drive-leg .ensures .value) (c .goes-van .ensures) (c .step-value .ensures))
+loop-j-again g c = (
+  omega arith,
+  trip-next (c .args .self .now .round .now) (g .T·Tally .sense (c .args .tally .now)) (c .args .self .now .doors .now) (c .loop-j .j-index)
+      (record { van = c .loop-j .van; cost = c .loop-j .value }) (record { van = c .goes-van .result; cost = c .step-value .result }) (c .drive-leg .result)
+      (c .loop-j-test .taken) (c .loop-j .inv .1) (c .drive-leg .ensures .value) (c .goes-van .ensures) (c .step-value .ensures),
+)
 
 pub returns : need.returns
 returns g c =

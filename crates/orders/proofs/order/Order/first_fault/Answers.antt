@@ -6,8 +6,6 @@ use native.Mathlib.Omega.{arith}
 use lib.Dec.{ltb}
 use lib.ListN.{take, drop, getD}
 use Rattle.std.proofs.shelf.Lists.{drop-all}
-use Rattle.std.proofs.shelf.Tests.{lt-ltb, le-ltb}
-use Rattle.round.specs.declared.door.Door.{Door}
 use Rattle.round.specs.Clock.{latest, door}
 use Rattle.orders.specs.declared.van.Van.{Van}
 use Rattle.orders.specs.Times.{yard, goes, vanAfter}
@@ -20,23 +18,21 @@ pub goes-van-requires : need.goes-van-requires
 goes-van-requires g c κs =
     subst (λ (a : Van). a .finish ≤ latest 15) (sym (c .loop-j .inv .1)) (soon (c .args .self .now .round .now) (c .args .self .now .doors .now) (c .loop-j .j-index) (c .args .self .now .part) (c .loop-j-test .taken))
 
-pub returns-then-van-from : need.returns-then-van-from
-returns-then-van-from g c =
+pub returns-then-closes-before : need.returns-then-closes-before
+returns-then-closes-before g c =
     let r = c .args .self .now .round .now in
     let w = c .args .self .now .doors .now in
     let j = getD w (c .loop-j .j-index) 0 in
-    let closes : c .from .result ≡ door r j .closes = c .from .ensures ∙ ap (λ (d : Door). d .closes) (c .door .ensures) in
-    let went : c .goes-van .result .finish ≡ goes r (c .loop-j .van) j .finish = ap (λ (a : Van). a .finish) (c .goes-van .ensures) in
-    sym (closes-at r (g .R·Rule .sense (c .args .rule .now)) (c .loop-j .van) (c .loop-j .state) w (c .loop-j .j-index) (c .loop-j-test .taken) (lt-ltb _ _ (omega (arith, closes, went)))) ∙ c .loop-j .inv .2
+    let same : c .closes-before .result ≡ ltb (door r j .closes) (goes r (c .loop-j .van) j .finish) = c .closes-before .ensures ∙ ap (λ (a : Van). ltb (door r j .closes) (a .finish)) (c .goes-van .ensures) in
+    sym (closes-at r (g .R·Rule .sense (c .args .rule .now)) (c .loop-j .van) (c .loop-j .state) w (c .loop-j .j-index) (c .loop-j-test .taken) (sym same ∙ c .if-closes-before .taken)) ∙ c .loop-j .inv .2
 
 pub returns-then-bars : need.returns-then-bars
 returns-then-bars g c =
     let r = c .args .self .now .round .now in
     let w = c .args .self .now .doors .now in
     let j = getD w (c .loop-j .j-index) 0 in
-    let closes : c .from .result ≡ door r j .closes = c .from .ensures ∙ ap (λ (d : Door). d .closes) (c .door .ensures) in
-    let went : c .goes-van .result .finish ≡ goes r (c .loop-j .van) j .finish = ap (λ (a : Van). a .finish) (c .goes-van .ensures) in
-    sym (breaks-at r (g .R·Rule .sense (c .args .rule .now)) (c .loop-j .van) (c .loop-j .state) w (c .loop-j .j-index) (c .loop-j-test .taken) (le-ltb _ _ (omega (arith, closes, went))) (sym (c .if-bars .ensures tt))) ∙ c .loop-j .inv .2
+    let same : c .closes-before .result ≡ ltb (door r j .closes) (goes r (c .loop-j .van) j .finish) = c .closes-before .ensures ∙ ap (λ (a : Van). ltb (door r j .closes) (a .finish)) (c .goes-van .ensures) in
+    sym (breaks-at r (g .R·Rule .sense (c .args .rule .now)) (c .loop-j .van) (c .loop-j .state) w (c .loop-j .j-index) (c .loop-j-test .taken) (sym same ∙ c .if-closes-before .left) (sym (c .if-bars .ensures tt))) ∙ c .loop-j .inv .2
 
 pub loop-j-again : need.loop-j-again
 loop-j-again g c =
@@ -45,14 +41,14 @@ loop-j-again g c =
     let i = c .loop-j .j-index in
     let j = getD w i 0 in
     let R = g .R·Rule .sense (c .args .rule .now) in
-    let closes : c .from .result ≡ door r j .closes = c .from .ensures ∙ ap (λ (d : Door). d .closes) (c .door .ensures) in
-    let went : c .goes-van .result .finish ≡ goes r (c .loop-j .van) j .finish = ap (λ (a : Van). a .finish) (c .goes-van .ensures) in
-    let on = goes-on r R (c .loop-j .van) (c .loop-j .state) w i (c .loop-j-test .taken) (le-ltb _ _ (omega (arith, closes, went))) (sym (c .if-bars .ensures tt)) in
-    (omega arith,
-    c .goes-van .ensures ∙ ap (λ (a : Van). goes r a j) (c .loop-j .inv .1) ∙ van-next r w i (c .loop-j-test .taken),
-    ap (λ (a : Van). verdictFrom r R a (c .step-state .result) (drop (i + 1) w)) (c .goes-van .ensures)
-    ∙ ap (λ (s : g .R·State .Denot). verdictFrom r R (goes r (c .loop-j .van) j) s (drop (i + 1) w)) (c .step-state .ensures)
-    ∙ sym on ∙ c .loop-j .inv .2)
+    let same : c .closes-before .result ≡ ltb (door r j .closes) (goes r (c .loop-j .van) j .finish) = c .closes-before .ensures ∙ ap (λ (a : Van). ltb (door r j .closes) (a .finish)) (c .goes-van .ensures) in
+    let on = goes-on r R (c .loop-j .van) (c .loop-j .state) w i (c .loop-j-test .taken) (sym same ∙ c .if-closes-before .left) (sym (c .if-bars .ensures tt)) in (
+      omega arith,
+      c .goes-van .ensures ∙ ap (λ (a : Van). goes r a j) (c .loop-j .inv .1) ∙ van-next r w i (c .loop-j-test .taken),
+      ap (λ (a : Van). verdictFrom r R a (c .step-state .result) (drop (i + 1) w)) (c .goes-van .ensures)
+          ∙ ap (λ (s : g .R·State .Denot). verdictFrom r R (goes r (c .loop-j .van) j) s (drop (i + 1) w)) (c .step-state .ensures)
+          ∙ sym on ∙ c .loop-j .inv .2,
+    )
 
 pub returns : need.returns
 returns g c =

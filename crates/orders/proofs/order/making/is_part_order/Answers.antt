@@ -21,10 +21,11 @@ loop-j-again c =
     let j = getD (c .args .list .now) (c .loop-j .j-index) 0 in
     let p = and-parts _ _ (sym (c .if-not-is-new .ensures tt)) in
     let d = is-door (c .args .n) j (p .0) in
-    let added = c .with-seen .ensures .added (omega arith) in
-    (omega arith,
-    subst (λ (s : ℕ). Seen (c .args .n) s (take (c .loop-j .j-index + 1) (c .args .list .now))) (sym added)
-    (seen-more (c .args .n) (c .loop-j .seen) (c .args .list .now) (c .loop-j .j-index) (c .loop-j-test .taken) (c .loop-j .inv .1) d (has-false (c .loop-j .seen) j (not-true _ (p .1)))))
+    let added = c .with-seen .ensures .added (omega arith) in (
+      omega arith,
+      subst (λ (s : ℕ). Seen (c .args .n) s (take (c .loop-j .j-index + 1) (c .args .list .now))) (sym added)
+          (seen-more (c .args .n) (c .loop-j .seen) (c .args .list .now) (c .loop-j .j-index) (c .loop-j-test .taken) (c .loop-j .inv .1) d (has-false (c .loop-j .seen) j (not-true _ (p .1)))),
+    )
 
 pub returns : need.returns
 returns c = sym (part-is (c .args .n) (c .args .list .now) (subst (PartOrder (c .args .n)) (take-all _ _ (c .loop-j-test .left)) (c .loop-j .inv .1 .part)))
