@@ -1,0 +1,13 @@
+pub mod Pieces
+pub mod Split
+pub mod Number
+pub mod Tokens
+pub mod Fields
+pub mod Lines
+pub mod Kinds
+pub mod Drafts
+pub mod Steps
+pub mod Reading
+pub mod Form
+pub mod Rounds
+pub mod Codes
