@@ -27,4 +27,6 @@ withRow d i row = record { n = d .n; load = d .load; limit = d .limit; doors = d
 
 -- a pair: the set of the doors ahead of its second door gets its first
 abbrev pub withPair : Draft → Pair → Draft
-withPair d p = record { n = d .n; load = d .load; limit = d .limit; doors = d .doors; drives = d .drives; ahead = set (d .ahead) (p .then) (bitOr (getD (d .ahead) (p .then) 0) (2 ^ p .first)) }
+withPair d p =
+    let more : ℕ = bitOr (getD (d .ahead) (p .then) 0) (2 ^ p .first) in
+    record { n = d .n; load = d .load; limit = d .limit; doors = d .doors; drives = d .drives; ahead = set (d .ahead) (p .then) more }

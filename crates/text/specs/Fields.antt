@@ -15,13 +15,18 @@ use Rattle.text.specs.Number.{plain, minus, dash}
 -- a number from low to high
 abbrev pub numberIn : ℕ → ℕ → List ℕ → ℕ → ℕ → Result ℕ Refusal
 numberIn low high bs line field =
-    cond (plain bs) (cond (leb low (value 10 bs) && leb (value 10 bs) high) (Ok (value 10 bs)) (Err (OutOfRange line field))) (Err (NotNumber line field))
+    cond (plain bs)
+    (cond (leb low (value 10 bs) && leb (value 10 bs) high) (Ok (value 10 bs)) (Err (OutOfRange line field)))
+    (Err (NotNumber line field))
 
 -- a number from -99 to 99
 abbrev pub changeIn : List ℕ → ℕ → ℕ → Result ℤ Refusal
 changeIn bs line field =
-    cond (plain bs) (cond (leb (value 10 bs) 99) (Ok (pos (value 10 bs))) (Err (OutOfRange line field)))
-    (cond (minus bs) (cond (leb (value 10 (drop 1 bs)) 99) (Ok (negℤ (pos (value 10 (drop 1 bs))))) (Err (OutOfRange line field))) (Err (NotNumber line field)))
+    cond (plain bs)
+    (cond (leb (value 10 bs) 99) (Ok (pos (value 10 bs))) (Err (OutOfRange line field)))
+    (cond (minus bs)
+    (cond (leb (value 10 (drop 1 bs)) 99) (Ok (negℤ (pos (value 10 (drop 1 bs))))) (Err (OutOfRange line field)))
+    (Err (NotNumber line field)))
 
 -- a "-", which stands for 0 minutes
 abbrev pub dashIn : List ℕ → ℕ → ℕ → Result ℕ Refusal

@@ -28,7 +28,8 @@ headFields h = codes "round" ∷ decimal (h .n) ∷ decimal (h .load) ∷ decima
 
 -- the fields of the line of door k
 abbrev pub doorFields : ℕ → Door → List (List ℕ)
-doorFields k x = codes "door" ∷ decimal k ∷ decimal (x .opens) ∷ decimal (x .closes) ∷ decimal (x .due) ∷ decimal (x .work) ∷ signed (x .change) ∷ []
+doorFields k x =
+    codes "door" ∷ decimal k ∷ decimal (x .opens) ∷ decimal (x .closes) ∷ decimal (x .due) ∷ decimal (x .work) ∷ signed (x .change) ∷ []
 
 -- the lines of the doors from k on
 abbrev pub doorsFields : ℕ → List Door → List (List (List ℕ))

@@ -50,4 +50,8 @@ endedBy k (b ∷ bs) = cond (eqb b 9) k Other
 
 -- the kind that the start of a line names
 abbrev pub started : List ℕ → Kind
-started f = cond (startsRound f) (endedBy Round (drop 5 f)) (cond (startsDoor f) (endedBy Door (drop 4 f)) (cond (startsDrive f) (endedBy Drive (drop 5 f)) (cond (startsFirst f) (endedBy First (drop 5 f)) Other)))
+started f =
+    cond (startsRound f) (endedBy Round (drop 5 f))
+    (cond (startsDoor f) (endedBy Door (drop 4 f))
+    (cond (startsDrive f) (endedBy Drive (drop 5 f))
+    (cond (startsFirst f) (endedBy First (drop 5 f)) Other)))

@@ -28,4 +28,6 @@ Accepts (Err e) is text = (d : Draft) → HasForm text d → ⊥
 
 -- a text above 16,384 bytes is refused, and any other is read
 abbrev pub Bounded : {A : Type 0} → Result A Refusal → Round → Round → List ℕ → Type 0
-Bounded r was is text = (16384 < length text → (r ≡ Err TooLong) × (is ≡ was)) × (length text ≤ 16384 → Reads r was is text × Accepts r is text)
+Bounded r was is text =
+    (16384 < length text → (r ≡ Err TooLong) × (is ≡ was))
+    × (length text ≤ 16384 → Reads r was is text × Accepts r is text)

@@ -57,14 +57,13 @@ pub(crate) fn piece<'a>(bytes: &'a [u8], sep: u8, at: usize) -> &'a [u8]
     ensures { λ r. ⌜ now r ≡ getD (pieces sep (now (bytes .entry))) at [] ⌝ }
 {
     let mut rest = bytes;
-    for turn in 0..at {
+    for _turn in 0..at {
         match cut_at(rest, sep) {
             Split::More(_, after) => rest = after,
             Split::Last(_) => return &[],
         }
     }
     match cut_at(rest, sep) {
-        Split::More(front, _) => front,
-        Split::Last(front) => front,
+        Split::More(front, _) | Split::Last(front) => front,
     }
 }

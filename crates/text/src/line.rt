@@ -148,9 +148,9 @@ fn dash_at(line: Line<'_>, field: usize) -> Result<u16, Refusal>
 {
     match field_at(line, field) {
         Token::Dash { .. } => Ok(0),
-        Token::Number { line, field, .. } => Err(Refusal::NotNumber { line, field }),
-        Token::Negative { line, field, .. } => Err(Refusal::NotNumber { line, field }),
-        Token::Word { line, field, .. } => Err(Refusal::NotNumber { line, field }),
+        Token::Number { line, field, .. }
+        | Token::Negative { line, field, .. }
+        | Token::Word { line, field, .. } => Err(Refusal::NotNumber { line, field }),
     }
 }
 

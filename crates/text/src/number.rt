@@ -62,9 +62,9 @@ pub(crate) fn within(token: Token<'_>, low: u16, high: u16) -> Result<u16, Refus
                 Ok(v as u16)
             }
         }
-        Token::Negative { line, field, .. } => Err(Refusal::NotNumber { line, field }),
-        Token::Dash { line, field, .. } => Err(Refusal::NotNumber { line, field }),
-        Token::Word { line, field, .. } => Err(Refusal::NotNumber { line, field }),
+        Token::Negative { line, field, .. }
+        | Token::Dash { line, field, .. }
+        | Token::Word { line, field, .. } => Err(Refusal::NotNumber { line, field }),
     }
 }
 
@@ -90,7 +90,7 @@ pub(crate) fn change(token: Token<'_>) -> Result<i8, Refusal>
                 Ok(negated(v))
             }
         }
-        Token::Dash { line, field, .. } => Err(Refusal::NotNumber { line, field }),
-        Token::Word { line, field, .. } => Err(Refusal::NotNumber { line, field }),
+        Token::Dash { line, field, .. } | Token::Word { line, field, .. } =>
+            Err(Refusal::NotNumber { line, field }),
     }
 }
