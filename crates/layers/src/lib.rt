@@ -1,0 +1,2 @@
+// The records of a diagram.
+pub mod node;
