@@ -1,0 +1,6 @@
+mod Earlies
+mod Folds
+mod Legs
+mod Overs
+mod Scattered
+mod Steps

@@ -1,0 +1,28 @@
+// All labels of a diagram's records.
+ghost use mathlib.Core.Bool.{cond};
+ghost use mathlib.Core.Path.{_≡_};
+ghost use lib.ListN.{length};
+ghost use Rattle.labels.specs.Passes.{fits, relabelled};
+use crate::down::label_down;
+use crate::up::label_up;
+use layers::node::Node;
+use round::table::Round;
+use rules::rule::Rule;
+use tallies::tally::Tally;
+
+// Works out all labels anew from the arcs. A list too short for the round and the width, and a width out of 1 to 128, are left alone.
+pub fn relabel<R: Rule, T: Tally>(
+    round: &Round,
+    rule: &R,
+    tally: &T,
+    nodes: &mut [Node<R::State, T::Value>],
+    width: usize,
+)
+    ensures { λ _. ⌜ now (nodes .exit) ≡ cond (fits (now (round .entry) .n) width (length (now (nodes .entry)))) (relabelled (now (round .entry)) (R·Rule .sense (now (rule .entry))) (T·Tally .sense (now (tally .entry))) width (now (nodes .entry))) (now (nodes .entry)) ⌝ }
+{
+    if width < 1 || width > 128 || nodes.len() < round.n * width + 1 {
+        return;
+    }
+    label_down(round, rule, tally, nodes, width);
+    label_up(nodes, round.n, width);
+}
