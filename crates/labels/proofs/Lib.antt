@@ -4,3 +4,4 @@ mod Legs
 mod Overs
 mod Scattered
 mod Steps
+mod Suffixes

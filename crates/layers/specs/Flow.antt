@@ -1,4 +1,4 @@
--- Layers of arcs, and what flows along them. A node is the list of its targets by door, 0 for None, suc b for the node at place b of the next layer.
+-- Layers of arcs, and what flows along them. A node is the list of its targets by door, 0 for none, suc b for the node at place b of the next layer.
 use mathlib.Core.Path.{_≡_}
 use mathlib.Core.Bool.{Bool, true, false, cond, not, _&&_, _||_}
 use mathlib.Core.List.{List, [], _∷_, _++_, map}

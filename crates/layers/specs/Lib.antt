@@ -1,3 +1,5 @@
+pub mod Calls
+pub mod Claim
 pub mod Flow
 pub mod Labels
 pub mod Records

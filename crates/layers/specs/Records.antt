@@ -41,7 +41,7 @@ module _ {S V : Type 0} where
   abbrev pub upsIn : List (Node S V) → List (Option Up)
   upsIn = map (λ x. Some (x .label .up))
 
-  -- the arcs of all layers; the end has None
+  -- the arcs of all layers; the end has none
   abbrev pub drawn : ℕ → List (List (Node S V)) → Net
   drawn n [] = []
   drawn n (N ∷ []) = []

@@ -1,2 +1,3 @@
-// The records of a diagram.
+// The records of a diagram, and what is claimed of it.
+pub mod claim;
 pub mod node;
