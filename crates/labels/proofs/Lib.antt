@@ -1,5 +1,7 @@
 mod Earlies
 mod Folds
+mod Inward
+mod Laying
 mod Legs
 mod Overs
 mod Scattered
