@@ -116,7 +116,7 @@ stand-table (suc W) (suc m) f h on off =
     ap (λ (q : Bool). cond q (f 0 ∷ standing (table W (λ k. f (suc k)))) []) (on 0 (omega arith))
     ∙ ap (λ (z : List (Node _ _)). f 0 ∷ z) (stand-table W m (λ k. f (suc k)) (le-of-suc-le-suc h) (λ k q. on (suc k) (omega arith)) (λ q. off (omega arith)))
 
-module _ {S V : Type 0} {Keeps : List ℕ → Type 0} {Stands : S → List ℕ → Type 0} (r : Round) (rule : RuleSense S) (ruled : RuleLaws (r .n) rule Keeps Stands) (tally : TallySense V) (W : ℕ) (w : 1 ≤ W) where
+module _ {S V : Type 0} (r : Round) (rule : RuleSense S) (tally : TallySense V) (W : ℕ) (w : 1 ≤ W) where
   abbrev pub Labs : Type 0
   Labs = List (Option (Lab r rule tally))
 
@@ -159,7 +159,7 @@ module _ {S V : Type 0} {Keeps : List ℕ → Type 0} {Stands : S → List ℕ �
 
   filled-next : (labs : Labs) (L M : Layer) (Ls : Net) → Tied (L ∷ M ∷ Ls) → Filled labs (length L) → Filled (labelsNext r rule tally labs L (length M)) (length M)
   filled-next labs L M Ls t f = record {
-    there = labels-full r rule ruled tally W w labs L M Ls t (f .there);
+    there = labels-full r rule tally W w labs L M Ls t (f .there);
     beyond = unfold labelsNext next in table-end (length M) (λ b. gather (merge r rule tally) (ins (arrive r rule tally) b labs L));
     long = unfold labelsNext next in table-long (length M) (λ b. gather (merge r rule tally) (ins (arrive r rule tally) b labs L));
     lasting = lasting-next labs L (length M);

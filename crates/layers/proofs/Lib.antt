@@ -6,6 +6,8 @@ pub mod Exact
 pub mod Flows
 pub mod Lively
 pub mod Main
+pub mod Meaning
+pub mod Means
 pub mod Model
 pub mod Places
 pub mod Proper

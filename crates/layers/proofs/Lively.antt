@@ -56,7 +56,7 @@ module _ (W : ℕ) where
       (omega (arith, h .0, redirect-length (λ a j b. suc (moved lo hi b)) L), (omega (arith, h .1 .0, drop-length hi (set M lo v) (omega (arith, length-set M lo v)), length-set M lo v), h .1 .1))
   roomy-join (suc d) lo hi (L ∷ Ls) k h = (h .0, roomy-join d lo hi Ls k (h .1))
 
-module _ {S V : Type 0} {Keeps : List ℕ → Type 0} {Stands : S → List ℕ → Type 0} (r : Round) (rule : RuleSense S) (ruled : RuleLaws (r .n) rule Keeps Stands) (tally : TallySense V) (W : ℕ) (w : 1 ≤ W) where
+module _ {S V : Type 0} (r : Round) (rule : RuleSense S) (tally : TallySense V) (W : ℕ) (w : 1 ≤ W) where
   pub roomy-sweeps : (i : ℕ) (labs : List (Option (Lab r rule tally))) (Ls : Net) → Roomy W Ls → Roomy W (sweeps r rule tally i labs Ls)
   unfolding sweeps
   roomy-sweeps i labs [] h = tt
@@ -78,15 +78,6 @@ module _ {S V : Type 0} {Keeps : List ℕ → Type 0} {Stands : S → List ℕ �
   pub roomy-open : (k : ℕ) → Roomy W (table k (λ i. allDoors r rule tally ∷ []))
   roomy-open zero = tt
   roomy-open (suc k) = (w, roomy-open k)
-
-  pub lively : (cs : List (Call V)) → Tied (after r rule tally W cs (opened r rule tally)) × Roomy W (after r rule tally W cs (opened r rule tally))
-  unfolding sweep cut
-  lively cs = safe-after r rule tally W (λ Ls. Tied Ls × Roomy W Ls) (λ c. Unit {0})
-      (λ Ls s. (tidied-tied (sweeps r rule tally 0 (firsts r rule tally) Ls), roomy-tidied W (sweeps r rule tally 0 (firsts r rule tally) Ls) (roomy-sweeps 0 (firsts r rule tally) Ls (s .1))))
-      (λ c Ls q s. (tidied-tied (cuts r rule tally c (firsts r rule tally) Ls), roomy-tidied W (cuts r rule tally c (firsts r rule tally) Ls) (roomy-cuts c (firsts r rule tally) Ls (s .1))))
-      (λ d a Ls x y z s. (part-tied r rule ruled tally d a (firsts r rule tally) Ls x z (s .0), roomy-part d a (firsts r rule tally) Ls y (s .1)))
-      (λ d lo hi Ls x y z s. (join-tied d lo hi Ls x y z (s .0), roomy-join W d lo hi Ls y (s .1)))
-      cs (opened r rule tally) (any-cut r rule tally W cs) (opened-tied r rule tally, unfold opened in roomy-open (r .n))
 
   -- so every node has a label, from below and from above
   pub labels-full : (labs : List (Option (Lab r rule tally))) (L M : Layer) (Ls : Net) → Tied (L ∷ M ∷ Ls) → ((a : ℕ) → a < length L → (l : Lab r rule tally) × (getD labs a None ≡ Some l))

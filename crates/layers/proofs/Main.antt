@@ -37,7 +37,7 @@ module _ {S V : Type 0} {Keeps : List ℕ → Type 0} {Stands : S → List ℕ �
   Y = X r rule ruled tally W w1 later D
 
   well : Well r rule ruled tally W w1 later D
-  well = proper-after r rule ruled tally W w1 cs (opened r rule tally) (proper-opened r rule ruled tally W w1)
+  well = proper-after r rule ruled tally W w1 cs (opened r rule tally) (proper-opened r rule tally W w1)
 
   -- from the records to the arcs and back
   on-path : (w : List ℕ) → Path-from D 0 w → IsPath (r .n) W Y w
@@ -93,12 +93,12 @@ unfolding relaid
 worked-out A rule tally ruled r e W a b lent cs =
     let x = ruled (r .n) e in let l = drop (r .n * W + 1) lent in let o = run-opened r rule x tally W a lent cs in
     let D = after r rule tally W cs (opened r rule tally) in
-    let p = proper-after r rule x tally W a cs (opened r rule tally) (proper-opened r rule x tally W a) in
+    let p = proper-after r rule x tally W a cs (opened r rule tally) (proper-opened r rule tally W a) in
     o ∙ ap (λ (z : Net). laid r rule tally W z ++ l) (sym (ap (arcs (r .n) W) o ∙ arcs-X r rule x tally W a l D p))
 
 pub settled-means : {S V : Type 0} {Keeps : List ℕ → Type 0} {Stands : S → List ℕ → Type 0} (A : ℕ → Type 0) (rule : RuleSense S) (tally : TallySense V) → ((n : ℕ) → A n → RuleLaws n rule Keeps Stands) → Settled-means A rule tally
 settled-means {S} {V} A rule tally ruled r e W a b lent cs =
     let x = ruled (r .n) e in let l = drop (r .n * W + 1) lent in
     let D = after r rule tally W cs (opened r rule tally) in
-    let p = proper-after r rule x tally W a cs (opened r rule tally) (proper-opened r rule x tally W a) in
+    let p = proper-after r rule x tally W a cs (opened r rule tally) (proper-opened r rule tally W a) in
     subst (λ (xs : List (Node S V)). settled r rule tally W xs ≡ (agreedAll r rule tally (nodes (r .n) W xs) && eqb (sweepAnswer r rule tally W xs) 0)) (sym (run-opened r rule x tally W a lent cs)) (settled-means-X r rule x tally W a l D p)

@@ -116,7 +116,15 @@ unfolding tidied
 first-tidied [] = refl
 first-tidied (L ∷ Ls) = simp redirect-length
 
-module _ {S V : Type 0} {Keeps : List ℕ → Type 0} {Stands : S → List ℕ → Type 0} (r : Round) (rule : RuleSense S) (ruled : RuleLaws (r .n) rule Keeps Stands) (tally : TallySense V) (W : ℕ) (w : 1 ≤ W) where
+-- every diagram of n doors and width W: n layers of arcs, one first node, n targets to a node, at most W nodes to a layer, each node on a path
+pub record Proper (n W : ℕ) (Ls : Net) : Type 0 where
+  pub deep : length Ls ≡ n
+  pub one-first : width Ls ≡ 1
+  pub even : EvenIn n Ls
+  pub roomy : Roomy W Ls
+  pub tied : Tied Ls
+
+module _ {S V : Type 0} (r : Round) (rule : RuleSense S) (tally : TallySense V) (W : ℕ) (w : 1 ≤ W) where
   even-sweeps : (i : ℕ) (labs : List (Option (Lab r rule tally))) (Ls : Net) → EvenIn (r .n) Ls → EvenIn (r .n) (sweeps r rule tally i labs Ls) × (width (sweeps r rule tally i labs Ls) ≡ width Ls)
   unfolding sweeps
   even-sweeps i labs [] h = (tt, refl)
@@ -141,20 +149,12 @@ module _ {S V : Type 0} {Keeps : List ℕ → Type 0} {Stands : S → List ℕ �
   )
   even-part (suc d) a labs (L ∷ Ls) k h = ((h .0, even-part d a (labelsNext r rule tally labs L (width Ls)) Ls k (h .1) .0), refl)
 
-  -- every diagram: n layers of arcs, one first node, n targets to a node, at most W nodes to a layer, each node on a path
-  pub record Proper (Ls : Net) : Type 0 where
-    pub deep : length Ls ≡ r .n
-    pub one-first : width Ls ≡ 1
-    pub even : EvenIn (r .n) Ls
-    pub roomy : Roomy W Ls
-    pub tied : Tied Ls
-
-  pub proper-opened : Proper (opened r rule tally)
+  pub proper-opened : Proper (r .n) W (opened r rule tally)
   proper-opened = record {
     deep = unfold opened in table-length r rule tally (r .n) (λ i. allDoors r rule tally ∷ []);
     one-first = unfold opened in wide (r .n);
     even = unfold opened in evens (r .n);
-    roomy = unfold opened in roomy-open r rule ruled tally W w (r .n);
+    roomy = unfold opened in roomy-open r rule tally W w (r .n);
     tied = opened-tied r rule tally;
   }
     where
@@ -166,32 +166,34 @@ module _ {S V : Type 0} {Keeps : List ℕ → Type 0} {Stands : S → List ℕ �
       evens zero = tt
       evens (suc k) = (λ nd i. elim i [ inl e ↦ ap (λ (y : Outs). length y) e ∙ table-length r rule tally (r .n) (λ m. 1) | inr x ↦ absurd x ], evens k)
 
-  proper-tidied : (Ls : Net) → length Ls ≡ r .n → width Ls ≡ 1 → EvenIn (r .n) Ls → Roomy W Ls → Proper (tidied Ls)
+  proper-tidied : (Ls : Net) → length Ls ≡ r .n → width Ls ≡ 1 → EvenIn (r .n) Ls → Roomy W Ls → Proper (r .n) W (tidied Ls)
   proper-tidied Ls a b c d = record { deep = tidied-length Ls ∙ a; one-first = first-tidied Ls ∙ b; even = even-tidied (r .n) Ls c; roomy = roomy-tidied W Ls d; tied = tidied-tied Ls }
 
-  pub proper-sweep : (Ls : Net) → Proper Ls → Proper (sweep r rule tally Ls)
+  pub proper-sweep : (Ls : Net) → Proper (r .n) W Ls → Proper (r .n) W (sweep r rule tally Ls)
   unfolding sweep
   proper-sweep Ls p = let e = even-sweeps 0 (firsts r rule tally) Ls (p .even) in
-      proper-tidied (sweeps r rule tally 0 (firsts r rule tally) Ls) (sweeps-length r rule tally 0 (firsts r rule tally) Ls ∙ p .deep) (e .1 ∙ p .one-first) (e .0) (roomy-sweeps r rule ruled tally W w 0 (firsts r rule tally) Ls (p .roomy))
+      proper-tidied (sweeps r rule tally 0 (firsts r rule tally) Ls) (sweeps-length r rule tally 0 (firsts r rule tally) Ls ∙ p .deep) (e .1 ∙ p .one-first) (e .0) (roomy-sweeps r rule tally W w 0 (firsts r rule tally) Ls (p .roomy))
 
-  pub proper-cut : (c : V) (Ls : Net) → Unit {0} → Proper Ls → Proper (cut r rule tally c Ls)
+  pub proper-cut : (c : V) (Ls : Net) → Unit {0} → Proper (r .n) W Ls → Proper (r .n) W (cut r rule tally c Ls)
   unfolding cut
   proper-cut c Ls u p = let e = even-cuts c (firsts r rule tally) Ls (p .even) in
-      proper-tidied (cuts r rule tally c (firsts r rule tally) Ls) (cuts-length r rule tally c (firsts r rule tally) Ls ∙ p .deep) (e .1 ∙ p .one-first) (e .0) (roomy-cuts r rule ruled tally W w c (firsts r rule tally) Ls (p .roomy))
+      proper-tidied (cuts r rule tally c (firsts r rule tally) Ls) (cuts-length r rule tally c (firsts r rule tally) Ls ∙ p .deep) (e .1 ∙ p .one-first) (e .0) (roomy-cuts r rule tally W w c (firsts r rule tally) Ls (p .roomy))
 
-  pub proper-part : (d a : ℕ) (Ls : Net) → a < length (getD Ls (suc d) []) → length (getD Ls (suc d) []) < W → oneGroup r rule tally d a (firsts r rule tally) Ls ≡ false → Proper Ls → Proper (partAt r rule tally d a (firsts r rule tally) Ls)
-  proper-part d a Ls x y z p = let e = even-part d a (firsts r rule tally) Ls x (p .even) in
-      record { deep = part-length r rule tally d a (firsts r rule tally) Ls ∙ p .deep; one-first = e .1 ∙ p .one-first; even = e .0; roomy = roomy-part r rule ruled tally W w d a (firsts r rule tally) Ls y (p .roomy); tied = part-tied r rule ruled tally d a (firsts r rule tally) Ls x z (p .tied) }
-
-  pub proper-join : (d lo hi : ℕ) (Ls : Net) → lo < hi → hi < length (getD Ls (suc d) []) → clash (node (getD Ls (suc d) []) lo) (node (getD Ls (suc d) []) hi) ≡ false → Proper Ls → Proper (joinAt d lo hi Ls)
+  pub proper-join : (d lo hi : ℕ) (Ls : Net) → lo < hi → hi < length (getD Ls (suc d) []) → clash (node (getD Ls (suc d) []) lo) (node (getD Ls (suc d) []) hi) ≡ false → Proper (r .n) W Ls → Proper (r .n) W (joinAt d lo hi Ls)
   proper-join d lo hi Ls x y z p =
       record { deep = join-length d lo hi Ls ∙ p .deep; one-first = first-join d lo hi Ls ∙ p .one-first; even = even-join (r .n) d lo hi Ls x y (p .even); roomy = roomy-join W d lo hi Ls y (p .roomy); tied = join-tied d lo hi Ls x y z (p .tied) }
 
-  pub proper-after : (cs : List (Call V)) (Ls : Net) → Proper Ls → Proper (after r rule tally W cs Ls)
-  proper-after cs Ls p = safe-after r rule tally W Proper (λ c. Unit {0}) proper-sweep proper-cut proper-part proper-join cs Ls (any-cut r rule tally W cs) p
+-- parting, and so a list of calls, by the laws of the rule: an arrival agrees with itself
+module _ {S V : Type 0} {Keeps : List ℕ → Type 0} {Stands : S → List ℕ → Type 0} (r : Round) (rule : RuleSense S) (ruled : RuleLaws (r .n) rule Keeps Stands) (tally : TallySense V) (W : ℕ) (w : 1 ≤ W) where
+  pub proper-part : (d a : ℕ) (Ls : Net) → a < length (getD Ls (suc d) []) → length (getD Ls (suc d) []) < W → oneGroup r rule tally d a (firsts r rule tally) Ls ≡ false → Proper (r .n) W Ls → Proper (r .n) W (partAt r rule tally d a (firsts r rule tally) Ls)
+  proper-part d a Ls x y z p = let e = even-part r rule tally W w d a (firsts r rule tally) Ls x (p .even) in
+      record { deep = part-length r rule tally d a (firsts r rule tally) Ls ∙ p .deep; one-first = e .1 ∙ p .one-first; even = e .0; roomy = roomy-part r rule tally W w d a (firsts r rule tally) Ls y (p .roomy); tied = part-tied r rule ruled tally d a (firsts r rule tally) Ls x z (p .tied) }
 
-  pub proper-parted : (k i a : ℕ) (Ls : Net) → 1 ≤ i → Proper Ls → Proper (parted r rule tally W k i a Ls .1)
-  proper-parted = safe-parted r rule tally W Proper (λ c. Unit {0}) proper-sweep proper-cut proper-part proper-join
+  pub proper-after : (cs : List (Call V)) (Ls : Net) → Proper (r .n) W Ls → Proper (r .n) W (after r rule tally W cs Ls)
+  proper-after cs Ls p = safe-after r rule tally W (Proper (r .n) W) (λ c. Unit {0}) (proper-sweep r rule tally W w) (proper-cut r rule tally W w) proper-part (proper-join r rule tally W w) cs Ls (any-cut r rule tally W cs) p
 
-  pub proper-refines : (k i : ℕ) (Ls : Net) → 1 ≤ i → Proper Ls → Proper (refines r rule tally W k i Ls .1)
-  proper-refines = safe-refines r rule tally W Proper (λ c. Unit {0}) proper-sweep proper-cut proper-part proper-join
+  pub proper-parted : (k i a : ℕ) (Ls : Net) → 1 ≤ i → Proper (r .n) W Ls → Proper (r .n) W (parted r rule tally W k i a Ls .1)
+  proper-parted = safe-parted r rule tally W (Proper (r .n) W) (λ c. Unit {0}) (proper-sweep r rule tally W w) (proper-cut r rule tally W w) proper-part (proper-join r rule tally W w)
+
+  pub proper-refines : (k i : ℕ) (Ls : Net) → 1 ≤ i → Proper (r .n) W Ls → Proper (r .n) W (refines r rule tally W k i Ls .1)
+  proper-refines = safe-refines r rule tally W (Proper (r .n) W) (λ c. Unit {0}) (proper-sweep r rule tally W w) (proper-cut r rule tally W w) proper-part (proper-join r rule tally W w)

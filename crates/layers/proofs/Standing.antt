@@ -37,43 +37,43 @@ nothing-less m k h = same-bool (eqb (m - k) 0) (eqb k m)
 
 module _ {S V : Type 0} {Keeps : List ℕ → Type 0} {Stands : S → List ℕ → Type 0} (r : Round) (rule : RuleSense S) (ruled : RuleLaws (r .n) rule Keeps Stands) (tally : TallySense V) (W : ℕ) (w : 1 ≤ W) (later : List (Node S V)) where
   abbrev pub Well : Net → Type 0
-  Well Ls = Proper r rule ruled tally W w Ls
+  Well Ls = Proper (r .n) W Ls
 
   abbrev pub X : Net → List (Node S V)
   X Ls = laid r rule tally W Ls ++ later
 
-  full : (Ls : Net) → Well Ls → Full r rule ruled tally W w (firsts r rule tally) Ls
+  pub full : (Ls : Net) → Well Ls → Full r rule tally W w (firsts r rule tally) Ls
   full [] p = absurd (omega (arith, p .deep, r .one))
-  full (L ∷ Ls) p = full-first r rule ruled tally W w L Ls (p .one-first) (p .tied) (p .roomy) (even-of (r .n) (L ∷ Ls) (p .even))
+  full (L ∷ Ls) p = full-first r rule tally W w L Ls (p .one-first) (p .tied) (p .roomy) (even-of (r .n) (L ∷ Ls) (p .even))
 
   abbrev pub Stood : Net → List (List (Node S V))
-  Stood Ls = stood r rule ruled tally W w (firsts r rule tally) Ls
+  Stood Ls = stood r rule tally W w (firsts r rule tally) Ls
 
   -- the nodes that stand are those of the arcs, with the labels worked out from the arcs
   pub nodes-X : (Ls : Net) → Well Ls → nodes (r .n) W (X Ls) ≡ Stood Ls
   unfolding laid
-  nodes-X Ls p = ap (λ (k : ℕ). layers W k (X Ls)) (sym (p .deep)) ∙ layers-laid r rule ruled tally W w later (firsts r rule tally) Ls (full Ls p)
+  nodes-X Ls p = ap (λ (k : ℕ). layers W k (X Ls)) (sym (p .deep)) ∙ layers-laid r rule tally W w later (firsts r rule tally) Ls (full Ls p)
 
   pub arcs-X : (Ls : Net) → Well Ls → arcs (r .n) W (X Ls) ≡ Ls
-  arcs-X Ls p = ap (drawn (r .n)) (nodes-X Ls p) ∙ drawn-stood r rule ruled tally W w (firsts r rule tally) Ls (full Ls p)
+  arcs-X Ls p = ap (drawn (r .n)) (nodes-X Ls p) ∙ drawn-stood r rule tally W w (firsts r rule tally) Ls (full Ls p)
 
   relaid-X : (Ls Ms : Net) → Well Ls → relaid r rule tally W (X Ls) Ms ≡ X Ms
   unfolding relaid
-  relaid-X Ls Ms p = ap (λ (y : List (Node S V)). laid r rule tally W Ms ++ y) (later-stays r rule ruled tally W w later Ls (p .deep))
+  relaid-X Ls Ms p = ap (λ (y : List (Node S V)). laid r rule tally W Ms ++ y) (later-stays r rule tally W w later Ls (p .deep))
 
   pub swept-X : (Ls : Net) → Well Ls → swept r rule tally W (X Ls) ≡ X (sweep r rule tally Ls)
   unfolding swept sweep
   swept-X Ls p = relaid-X Ls _ p ∙ ap (λ (N : List (List (Node S V))). X (tidied (thinned r rule tally 0 N))) (nodes-X Ls p)
-      ∙ ap (λ (z : Net). X (tidied z)) (thinned-stood r rule ruled tally W w 0 (firsts r rule tally) Ls (omega (arith, p .deep)) (full Ls p))
+      ∙ ap (λ (z : Net). X (tidied z)) (thinned-stood r rule tally W w 0 (firsts r rule tally) Ls (omega (arith, p .deep)) (full Ls p))
 
   pub cut-X : (c : V) (Ls : Net) → Well Ls → cutAt r rule tally W c (X Ls) ≡ X (cut r rule tally c Ls)
   unfolding cutAt cut
   cut-X c Ls p = relaid-X Ls _ p ∙ ap (λ (N : List (List (Node S V))). X (tidied (trimmed r rule tally c N))) (nodes-X Ls p)
-      ∙ ap (λ (z : Net). X (tidied z)) (trimmed-stood r rule ruled tally W w c (firsts r rule tally) Ls (full Ls p))
+      ∙ ap (λ (z : Net). X (tidied z)) (trimmed-stood r rule tally W w c (firsts r rule tally) Ls (full Ls p))
 
-  at-X : (d : ℕ) (Ls : Net) (p : Well Ls) → d < r .n → (downsIn (layer (r .n) W d (X Ls)) ≡ labsAt r rule ruled tally W w d (firsts r rule tally) Ls) × (arcsIn (r .n) (layer (r .n) W d (X Ls)) ≡ getD Ls d []) × (length (layer (r .n) W d (X Ls)) ≡ length (getD Ls d []))
+  at-X : (d : ℕ) (Ls : Net) (p : Well Ls) → d < r .n → (downsIn (layer (r .n) W d (X Ls)) ≡ labsAt r rule tally W w d (firsts r rule tally) Ls) × (arcsIn (r .n) (layer (r .n) W d (X Ls)) ≡ getD Ls d []) × (length (layer (r .n) W d (X Ls)) ≡ length (getD Ls d []))
   at-X d Ls p h =
-      let q = stood-at r rule ruled tally W w d (firsts r rule tally) Ls (full Ls p) (omega (arith, p .deep)) in
+      let q = stood-at r rule tally W w d (firsts r rule tally) Ls (full Ls p) (omega (arith, p .deep)) in
       let e = ap (λ (N : List (List (Node S V))). getD N d []) (nodes-X Ls p) in
       (ap downsIn e ∙ q .0, ap (arcsIn (r .n)) e ∙ q .1, ap (λ (N : List (Node S V)). length N) e ∙ q .2)
 
@@ -81,16 +81,16 @@ module _ {S V : Type 0} {Keeps : List ℕ → Type 0} {Stands : S → List ℕ �
   unfolding oneGroupIn arrivals
   group-X i a c Ls p lo hi e =
       let q = at-X (i - 1) Ls p (omega arith) in
-      ap (λ (z : List _). agreeing r rule tally z) (ap₂ (λ x y. ins (arrive r rule tally) (a - 1) x y) (q .0) (q .1) ∙ ap (λ (k : ℕ). ins (arrive r rule tally) k (labsAt r rule ruled tally W w (i - 1) (firsts r rule tally) Ls) (getD Ls (i - 1) [])) e)
-      ∙ sym (group-at r rule ruled tally W w (i - 1) c (firsts r rule tally) Ls (omega (arith, p .deep)))
+      ap (λ (z : List _). agreeing r rule tally z) (ap₂ (λ x y. ins (arrive r rule tally) (a - 1) x y) (q .0) (q .1) ∙ ap (λ (k : ℕ). ins (arrive r rule tally) k (labsAt r rule tally W w (i - 1) (firsts r rule tally) Ls) (getD Ls (i - 1) [])) e)
+      ∙ sym (group-at r rule tally W w (i - 1) c (firsts r rule tally) Ls (omega (arith, p .deep)))
 
   split-X : (i a c : ℕ) (Ls : Net) → Well Ls → 1 ≤ i → i < r .n → a - 1 ≡ c → split r rule tally W i a (X Ls) ≡ X (partAt r rule tally (i - 1) c (firsts r rule tally) Ls)
   unfolding split
   split-X i a c Ls p lo hi e =
       relaid-X Ls _ p ∙ ap X
       (ap₂ (λ x y. partedAt r rule tally (i - 1) (a - 1) x y) (at-X (i - 1) Ls p (omega arith) .0) (arcs-X Ls p)
-      ∙ ap (λ (k : ℕ). partedAt r rule tally (i - 1) k (labsAt r rule ruled tally W w (i - 1) (firsts r rule tally) Ls) Ls) e
-      ∙ part-at r rule ruled tally W w (i - 1) c (firsts r rule tally) Ls)
+      ∙ ap (λ (k : ℕ). partedAt r rule tally (i - 1) k (labsAt r rule tally W w (i - 1) (firsts r rule tally) Ls) Ls) e
+      ∙ part-at r rule tally W w (i - 1) c (firsts r rule tally) Ls)
 
   -- ---- part and join: a refusal leaves the list
   refusals : (x y z t : Bool) (a b c d : ℕ) (A B : List (Node S V)) → cond (eqb (cond x (suc a) (cond y (suc b) (cond z (suc c) (cond t (suc d) 0)))) 0) A B ≡ cond x B (cond y B (cond z B (cond t B A)))
@@ -176,7 +176,7 @@ module _ {S V : Type 0} {Keeps : List ℕ → Type 0} {Stands : S → List ℕ �
   splitsAll-X zero i Ls p lo hi = refl
   splitsAll-X (suc k) i Ls p lo hi =
       let s = sweep r rule tally Ls in
-      let ps = proper-sweep r rule ruled tally W w Ls p in
+      let ps = proper-sweep r rule tally W w Ls p in
       let q = partedArcs r rule tally W W i 0 s in
       let G : Bool × List (Node S V) → ℕ × List (Node S V) = λ p. cond (p .0) (i, p .1) (splitsAll r rule tally W k (suc i) (p .1)) in
       ap G (ap (splits r rule tally W W i 1) (swept-X Ls p) ∙ splits-X W i 0 s ps lo (omega arith))
@@ -188,7 +188,7 @@ module _ {S V : Type 0} {Keeps : List ℕ → Type 0} {Stands : S → List ℕ �
 
   pub answer-X : (Ls : Net) → Well Ls → sweepAnswer r rule tally W (X Ls) ≡ countArcs Ls - countArcs (sweep r rule tally Ls)
   unfolding fewer
-  answer-X Ls p = ap₂ (λ (x y : Net). countArcs x - countArcs y) (arcs-X Ls p) (ap (arcs (r .n) W) (swept-X Ls p) ∙ arcs-X (sweep r rule tally Ls) (proper-sweep r rule ruled tally W w Ls p))
+  answer-X Ls p = ap₂ (λ (x y : Net). countArcs x - countArcs y) (arcs-X Ls p) (ap (arcs (r .n) W) (swept-X Ls p) ∙ arcs-X (sweep r rule tally Ls) (proper-sweep r rule tally W w Ls p))
 
   sweptOut-X : (k : ℕ) (Ls : Net) → Well Ls → sweptOut r rule tally W k (X Ls) ≡ X (untilQuiet r rule tally W k Ls)
   unfolding sweptOut untilQuiet
@@ -196,7 +196,7 @@ module _ {S V : Type 0} {Keeps : List ℕ → Type 0} {Stands : S → List ℕ �
   sweptOut-X (suc k) Ls p =
       let s = sweep r rule tally Ls in
       ap₂ (λ (x : Bool) (y : List (Node S V)). cond x y (sweptOut r rule tally W k y)) (ap (λ (m : ℕ). eqb m 0) (answer-X Ls p) ∙ nothing-less (countArcs Ls) (countArcs s) (sweep-fewer r rule tally Ls)) (swept-X Ls p)
-      ∙ go (eqb (countArcs s) (countArcs Ls)) (sweptOut-X k s (proper-sweep r rule ruled tally W w Ls p))
+      ∙ go (eqb (countArcs s) (countArcs Ls)) (sweptOut-X k s (proper-sweep r rule tally W w Ls p))
     where
       go : (x : Bool) → sweptOut r rule tally W k (X (sweep r rule tally Ls)) ≡ X (untilQuiet r rule tally W k (sweep r rule tally Ls)) → cond x (X (sweep r rule tally Ls)) (sweptOut r rule tally W k (X (sweep r rule tally Ls))) ≡ X (elim x [ true ↦ sweep r rule tally Ls | false ↦ untilQuiet r rule tally W k (sweep r rule tally Ls) ])
       go true h = refl
@@ -229,7 +229,7 @@ module _ {S V : Type 0} {Keeps : List ℕ → Type 0} {Stands : S → List ℕ �
   pub bound-X : (Ls : Net) → Well Ls → bound (r .n) W (X Ls) ≡ boundOf r rule tally Ls
   unfolding bound boundOf
   bound-X Ls p =
-      ap₂ (λ (N : List (List (Node S V))) (k : ℕ). valueIn (getD N k [])) (nodes-X Ls p) (sym (p .deep)) ∙ value-stood r rule ruled tally W w (firsts r rule tally) Ls (full Ls p)
+      ap₂ (λ (N : List (List (Node S V))) (k : ℕ). valueIn (getD N k [])) (nodes-X Ls p) (sym (p .deep)) ∙ value-stood r rule tally W w (firsts r rule tally) Ls (full Ls p)
 
   pub must-X : (i j : ℕ) (Ls : Net) → Well Ls → must (r .n) W i j (X Ls) ≡ mustOf r rule tally i j Ls
   unfolding must mustOf
@@ -239,12 +239,12 @@ module _ {S V : Type 0} {Keeps : List ℕ → Type 0} {Stands : S → List ℕ �
   unfolding settled settledOf settles
   settled-X Ls p =
       ap (λ (N : List (List (Node S V))). agreedAll r rule tally N && quietFrom r rule tally 0 N) (nodes-X Ls p)
-      ∙ ap₂ _&&_ (agrees-stood r rule ruled tally W w (firsts r rule tally) Ls (full Ls p)) (quiet-stood r rule ruled tally W w 0 (firsts r rule tally) Ls (omega (arith, p .deep)) (full Ls p))
+      ∙ ap₂ _&&_ (agrees-stood r rule tally W w (firsts r rule tally) Ls (full Ls p)) (quiet-stood r rule tally W w 0 (firsts r rule tally) Ls (omega (arith, p .deep)) (full Ls p))
 
   -- settled is yes exactly when the in-arcs agree and a sweep would answer 0
   pub settled-means-X : (Ls : Net) → Well Ls → settled r rule tally W (X Ls) ≡ (agreedAll r rule tally (nodes (r .n) W (X Ls)) && eqb (sweepAnswer r rule tally W (X Ls)) 0)
   settled-means-X Ls p =
-      let ea : agreedAll r rule tally (nodes (r .n) W (X Ls)) ≡ agrees r rule tally (firsts r rule tally) Ls = ap (agreedAll r rule tally) (nodes-X Ls p) ∙ agrees-stood r rule ruled tally W w (firsts r rule tally) Ls (full Ls p) in
+      let ea : agreedAll r rule tally (nodes (r .n) W (X Ls)) ≡ agrees r rule tally (firsts r rule tally) Ls = ap (agreedAll r rule tally) (nodes-X Ls p) ∙ agrees-stood r rule tally W w (firsts r rule tally) Ls (full Ls p) in
       let en : eqb (sweepAnswer r rule tally W (X Ls)) 0 ≡ eqb (countArcs (sweep r rule tally Ls)) (countArcs Ls) = ap (λ (m : ℕ). eqb m 0) (answer-X Ls p) ∙ nothing-less (countArcs Ls) (countArcs (sweep r rule tally Ls)) (sweep-fewer r rule tally Ls) in
       settled-X Ls p ∙ same-bool (settledOf r rule tally Ls) (agrees r rule tally (firsts r rule tally) Ls && eqb (countArcs (sweep r rule tally Ls)) (countArcs Ls))
       (λ e. let q = settled-yes r rule tally Ls (p .one-first) (p .tied) e in ap₂ _&&_ (q .0) (eq-eqb (countArcs (sweep r rule tally Ls)) (countArcs Ls) (ap countArcs (q .1))))
@@ -254,4 +254,4 @@ module _ {S V : Type 0} {Keeps : List ℕ → Type 0} {Stands : S → List ℕ �
 pub run-opened : {S V : Type 0} {Keeps : List ℕ → Type 0} {Stands : S → List ℕ → Type 0} (r : Round) (rule : RuleSense S) (ruled : RuleLaws (r .n) rule Keeps Stands) (tally : TallySense V) (W : ℕ) (w : 1 ≤ W) (lent : List (Node S V)) (cs : List (Call V))
     → run r rule tally W cs (openedOn r rule tally W lent) ≡ laid r rule tally W (after r rule tally W cs (opened r rule tally)) ++ drop (r .n * W + 1) lent
 unfolding openedOn relaid
-run-opened r rule ruled tally W w lent cs = run-X r rule ruled tally W w (drop (r .n * W + 1) lent) cs (opened r rule tally) (proper-opened r rule ruled tally W w)
+run-opened r rule ruled tally W w lent cs = run-X r rule ruled tally W w (drop (r .n * W + 1) lent) cs (opened r rule tally) (proper-opened r rule tally W w)

@@ -1,5 +1,6 @@
 // What is claimed of every diagram, as contracts for any rule and any tally.
 ghost use Rattle.layers.specs.Claim.{Kept, Worked-out, Settled-means};
+ghost use Rattle.layers.specs.LabelLaws.{Labels-mean};
 use rules::rule::Rule;
 use tallies::tally::Tally;
 
@@ -17,4 +18,10 @@ pub fn labels_stand<R: Rule, T: Tally>(rule: &R, tally: &T)
 // In such a run the diagram is settled exactly when the in-arcs of each node agree and a sweep would take out nothing.
 pub fn settled_means<R: Rule, T: Tally>(rule: &R, tally: &T)
     ensures { λ _. ⌜ Settled-means (R·Rule .serves (now (rule .entry))) (R·Rule .sense (now (rule .entry))) (T·Tally .sense (now (tally .entry))) ⌝ }
+{}
+
+// In such a run the sets of each node that stands are the doors on every path to it and on at least one, and likewise on from it
+// to the end; its finish is within the clock's bound for its layer, and its value is one that the tally allows there.
+pub fn labels_mean<R: Rule, T: Tally>(rule: &R, tally: &T)
+    ensures { λ _. ⌜ Labels-mean (R·Rule .serves (now (rule .entry))) (R·Rule .sense (now (rule .entry))) (T·Tally .serves (now (tally .entry))) (T·Tally .sense (now (tally .entry))) (T·Tally .allows (now (tally .entry))) ⌝ }
 {}
