@@ -4,6 +4,7 @@ pub mod Calls
 pub mod Counts
 pub mod Exact
 pub mod Flows
+pub mod Laid
 pub mod Lively
 pub mod Main
 pub mod Meaning

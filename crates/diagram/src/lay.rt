@@ -1,0 +1,1 @@
+// Lays the arcs of a diagram that is just opened.
