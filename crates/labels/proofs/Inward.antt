@@ -54,6 +54,7 @@ module _ {S V : Type 0} (r : Round) (R : RuleSense S) (T : TallySense V) where
     where
       here : getD to a 0 ≡ getD to (a + 0) 0
       here = ap (λ (k : ℕ). getD to k 0) (omega arith)
+
       there : (i : ℕ) → a + 1 + i ≡ a + suc i
       there i = omega arith
   doors-in b l (x ∷ ts) to a (suc m) h e =
@@ -63,6 +64,7 @@ module _ {S V : Type 0} (r : Round) (R : RuleSense S) (T : TallySense V) where
     where
       here : getD to a 0 ≡ getD to (a + 0) 0
       here = ap (λ (k : ℕ). getD to k 0) (omega arith)
+
       there : (i : ℕ) → a + 1 + i ≡ a + suc i
       there i = omega arith
 

@@ -87,8 +87,10 @@ module _ {S V : Type 0} (r : Round) (R : RuleSense S) (T : TallySense V) where
     where
       f : ℕ → Option (Down S V)
       f b = gather (merge r R T) (ins (arrive r R T) b labs L)
+
       inside : b < m → orBlank r R T (gather (merge r R T) (ins (arrive r R T) b labs L)) ≡ orBlank r R T (getD (table m (λ b. gather (merge r R T) (ins (arrive r R T) b labs L))) b None)
       inside h = ap (orBlank r R T) (sym (table-at m b (λ b. gather (merge r R T) (ins (arrive r R T) b labs L)) None h))
+
       beyond : m ≤ b → orBlank r R T (gather (merge r R T) (ins (arrive r R T) b labs L)) ≡ orBlank r R T (getD (table m (λ b. gather (merge r R T) (ins (arrive r R T) b labs L))) b None)
       beyond h =
           ap (λ xs. orBlank r R T (gather (merge r R T) xs)) (in-nothing b m labs L g h)
@@ -104,17 +106,22 @@ module _ {S V : Type 0} (r : Round) (R : RuleSense S) (T : TallySense V) where
     where
       f : ℕ → Node S V
       f b = withDown (getD vs b (blankNode r R T)) (gathered r R T (arrivals r R T (b + 1) us))
+
       long : length (map bare (map f (counting 0 (length vs)))) ≡ length vs
       long = length-map (map f (counting 0 (length vs))) bare ∙ length-map-counting f 0 (length vs)
+
       many : length vs ≡ m
       many = sym (length-map vs arcsOf) ∙ ap length ev ∙ table-long m (arcsAt M)
+
       arcs-same : (b : ℕ) → b < m → getD vs b (blankNode r R T) .arcs ≡ arcsAt M b
       arcs-same b h = sym (getD-map arcsOf vs b (blankNode r R T) (arcsAt M b) (omega (arith, many))) ∙ ap (λ xs. getD xs b (arcsAt M b)) ev ∙ table-at m b (arcsAt M) (arcsAt M b) h
+
       label-same : (b : ℕ) → gathered r R T (arrivals r R T (b + 1) us) ≡ orBlank r R T (getD (labelsNext r R T labs L cnt) b None)
       label-same b =
           ap (λ (t : ℕ). gathered r R T (arrivals r R T t us)) (add-one b)
           ∙ ap (gathered r R T) (sym (bare-from (suc b) us) ∙ ap (joined (fromNode r R T (suc b))) eu ∙ arrivals-in r R T b w labs L g n fits)
           ∙ gathered-is r R T (ins (arrive r R T) b labs L) ∙ next-label b cnt labs L ranged
+
       at-each : (b : ℕ) (d : Node S V) → b < m → getD (map bare (map f (counting 0 (length vs)))) b d ≡ place r R T M (labelsNext r R T labs L cnt) [] b
       at-each b d h =
           getD-map bare (map f (counting 0 (length vs))) b d d (omega (arith, many, length-map-counting f 0 (length vs)))
@@ -169,11 +176,14 @@ module _ {S V : Type 0} (r : Round) (R : RuleSense S) (T : TallySense V) where
       let nb : map bare N ≡ table 1 (place r R T [] (labelsNext r R T labs L 1) []) = next-block w 1 1 labs L [] (take w xs) (part w 1 xs) last (good .0) (good .1) (good .2) first arr in
       let nl : length N ≡ 1 = half-long 1 (place r R T [] (labelsNext r R T labs L 1) []) N nb in
       let one : flatDown r R T w 0 xs ≡ layerDone r R T w 0 1 w xs = down-last r R T w xs in
-      let back : drop w (flatDown r R T w 0 xs) ≡ N ++ drop (w + length N) xs = ap (drop w) one ∙ step-back w 1 xs us in
-      ((ap (λ ys. map bare (take w ys)) one ∙ ap (map bare) (step-front w 1 xs us) ∙ first,
-      ap (λ ys. map bare (take 1 ys)) back ∙ ap (map bare) (take-at N (drop (w + length N) xs) 1 nl) ∙ nb),
-      (let e : suc 0 * w + 1 ≡ w + 1 = omega (arith, suc-mul 0 w, zero-mul w) in
-      ap (λ (i : ℕ). drop i (flatDown r R T w 0 xs)) e ∙ sym (drop-drop 1 w (flatDown r R T w 0 xs)) ∙ ap (drop 1) back ∙ drop-at N (drop (w + length N) xs) 1 nl ∙ ap (λ (i : ℕ). drop i xs) (ap (λ (i : ℕ). w + i) nl ∙ sym e)))
+      let back : drop w (flatDown r R T w 0 xs) ≡ N ++ drop (w + length N) xs = ap (drop w) one ∙ step-back w 1 xs us in (
+        (
+          ap (λ ys. map bare (take w ys)) one ∙ ap (map bare) (step-front w 1 xs us) ∙ first,
+          ap (λ ys. map bare (take 1 ys)) back ∙ ap (map bare) (take-at N (drop (w + length N) xs) 1 nl) ∙ nb,
+        ),
+        (let e : suc 0 * w + 1 ≡ w + 1 = omega (arith, suc-mul 0 w, zero-mul w) in
+            ap (λ (i : ℕ). drop i (flatDown r R T w 0 xs)) e ∙ sym (drop-drop 1 w (flatDown r R T w 0 xs)) ∙ ap (drop 1) back ∙ drop-at N (drop (w + length N) xs) 1 nl ∙ ap (λ (i : ℕ). drop i xs) (ap (λ (i : ℕ). w + i) nl ∙ sym e)),
+      )
   down-laid w zero labs L (M ∷ Ls) xs k good last first arr = absurd (omega arith)
   down-laid w (suc k) labs L [] xs e good last first arr = absurd (omega arith)
   down-laid w (suc k) labs L (M ∷ Ls) xs e good last first arr =
@@ -191,17 +201,20 @@ module _ {S V : Type 0} (r : Round) (R : RuleSense S) (T : TallySense V) where
       let same : flatDown r R T w (suc k) xs ≡ take w Y ++ Z = down-front r R T w k xs (ap length front ∙ us) in
       let long : length (take w Y) ≡ w = ap length front ∙ us in
       let ih = down-laid w k labs′ M Ls (drop w Y) (omega arith) (good .3) (lasting-next labs L (length M))
-               (ap (λ ys. map bare (take w ys)) back ∙ ap (map bare) (take-at N D w nl) ∙ nb)
-               (subst (Arranged w Ls) (sym (ap (drop w) back ∙ drop-at N D w nl ∙ far)) (arr .1)) in
-      ((ap (λ ys. map bare (take w ys)) same ∙ ap (map bare) (take-at (take w Y) Z w long ∙ front) ∙ first,
-      subst (Half w labs′ (M ∷ Ls)) (sym (ap (drop w) same ∙ drop-at (take w Y) Z w long)) (ih .0)),
-      (let m = suc k * w + 1 in
-      let q = k * w + 1 in
-      let em : suc (suc k) * w + 1 ≡ w + m = omega (arith, suc-mul (suc k) w) in
-      let eq : m ≡ w + q = omega (arith, suc-mul k w) in
-      let et : w + length N + q ≡ suc (suc k) * w + 1 = omega (arith, nl, suc-mul (suc k) w, suc-mul k w) in
-      ap₂ (λ (i : ℕ) ys. drop i ys) em same ∙ sym (drop-drop m w (take w Y ++ Z)) ∙ ap (drop m) (drop-at (take w Y) Z w long) ∙ ih .1
-      ∙ ap₂ (λ (i : ℕ) ys. drop i ys) eq back ∙ sym (drop-drop q w (N ++ D)) ∙ ap (drop q) (drop-at N D w nl) ∙ drop-drop q (w + length N) xs ∙ ap (λ (i : ℕ). drop i xs) et))
+      (ap (λ ys. map bare (take w ys)) back ∙ ap (map bare) (take-at N D w nl) ∙ nb)
+      (subst (Arranged w Ls) (sym (ap (drop w) back ∙ drop-at N D w nl ∙ far)) (arr .1)) in (
+        (
+          ap (λ ys. map bare (take w ys)) same ∙ ap (map bare) (take-at (take w Y) Z w long ∙ front) ∙ first,
+          subst (Half w labs′ (M ∷ Ls)) (sym (ap (drop w) same ∙ drop-at (take w Y) Z w long)) (ih .0),
+        ),
+        (let m = suc k * w + 1 in
+            let q = k * w + 1 in
+            let em : suc (suc k) * w + 1 ≡ w + m = omega (arith, suc-mul (suc k) w) in
+            let eq : m ≡ w + q = omega (arith, suc-mul k w) in
+            let et : w + length N + q ≡ suc (suc k) * w + 1 = omega (arith, nl, suc-mul (suc k) w, suc-mul k w) in
+            ap₂ (λ (i : ℕ) ys. drop i ys) em same ∙ sym (drop-drop m w (take w Y ++ Z)) ∙ ap (drop m) (drop-at (take w Y) Z w long) ∙ ih .1
+            ∙ ap₂ (λ (i : ℕ) ys. drop i ys) eq back ∙ sym (drop-drop q w (N ++ D)) ∙ ap (drop q) (drop-at N D w nl) ∙ drop-drop q (w + length N) xs ∙ ap (λ (i : ℕ). drop i xs) et),
+      )
 
 -- ---- up
 gatheredUp-is : (xs : List Up) → gatheredUp xs ≡ orNoUp (gather mergeUp xs)
@@ -269,9 +282,12 @@ numbered-at b vs d h =
 
 linked : {S V : Type 0} (us : List (Option Up)) (vs : List (Node S V)) (b : ℕ) (d : Node S V) (x : Up) → b < length vs → getD us b None ≡ Some x → getD vs b d .label .up ≡ x → Linked us vs b
 linked us vs b d x h e q =
-    let n = numbered-at b vs d h in
-    (x, e, (λ z. let c : _≡_ {A = ℕ} 0 1 = cc in omega arith),
-    (λ v rest m. let v-is : getD vs b d ≡ v = cc in let r-is : [] ≡ rest = cc in (sym r-is, subst (λ (y : Node _ _). y .label .up ≡ x) v-is q)))
+    let n = numbered-at b vs d h in (
+      x,
+      e,
+      (λ z. let c : _≡_ {A = ℕ} 0 1 = cc in omega arith),
+      (λ v rest m. let v-is : getD vs b d ≡ v = cc in let r-is : [] ≡ rest = cc in (sym r-is, subst (λ (y : Node _ _). y .label .up ≡ x) v-is q)),
+    )
 
 module _ {S V : Type 0} (r : Round) (R : RuleSense S) (T : TallySense V) (w : ℕ) where
   node-ups : (L : Layer) (Ls : Net) (labs : List (Option (Down S V))) (vs : List (Node S V)) (a : ℕ) → length (node L a) ≤ 16 → ((j b : ℕ) → target (node L a) j ≡ suc b → Linked (ups Ls) vs b)
@@ -283,9 +299,9 @@ module _ {S V : Type 0} (r : Round) (R : RuleSense S) (T : TallySense V) (w : �
       ap gatheredUp (doors-up (ups Ls) vs nd (padded nd) 0 16 h (λ i lt. ap (λ (k : ℕ). getD (padded nd) k 0) (zero-add i) ∙ table-at 16 i (λ k. getD nd k 0) 0 lt) (λ i b e. g (suc i) b e))
       ∙ gatheredUp-is (outs climb (ups Ls) 1 nd)
       ∙ ⊎-elim
-        (λ lt. ap orNoUp (sym (getD-map f L a [] None lt)))
-        (λ ge. ap (λ x. orNoUp (gather mergeUp (outs climb (ups Ls) 1 x))) (getD-past L a [] ge) ∙ ap orNoUp (sym (getD-past (map f L) a None (omega (arith, length-map L f)))))
-        (cases-lt a (length L))
+      (λ lt. ap orNoUp (sym (getD-map f L a [] None lt)))
+      (λ ge. ap (λ x. orNoUp (gather mergeUp (outs climb (ups Ls) 1 x))) (getD-past L a [] ge) ∙ ap orNoUp (sym (getD-past (map f L) a None (omega (arith, length-map L f)))))
+      (cases-lt a (length L))
 
   risen-block : (L : Layer) (labs : List (Option (Down S V))) (U : List (Option Up)) (us vs : List (Node S V)) → map bare us ≡ table w (place r R T L labs [])
       → ((a : ℕ) → gatheredUp (upsOf vs (place r R T L labs [] a)) ≡ orNoUp (getD U a None)) → map (risen vs) us ≡ table w (place r R T L labs U)
@@ -294,12 +310,12 @@ module _ {S V : Type 0} (r : Round) (R : RuleSense S) (T : TallySense V) (w : �
       let many : length us ≡ w = half-long r R T w (place r R T L labs []) us e in
       table-list w (place r R T L labs U) (map (risen vs) us) (length-map us (risen vs) ∙ many)
       (λ a d h.
-        let z = getD us a d in
-        let is : bare z ≡ place r R T L labs [] a =
-            sym (getD-map bare us a d (place r R T L labs [] a) (omega (arith, many))) ∙ ap (λ xs. getD xs a (place r R T L labs [] a)) e ∙ table-at w a (place r R T L labs []) (place r R T L labs [] a) h in
-        getD-map (risen vs) us a d d (omega (arith, many))
-        ∙ ap (λ (y : Node S V). withUp y (gatheredUp (upsOf vs y))) is
-        ∙ ap (withUp (place r R T L labs [] a)) (g a))
+      let z = getD us a d in
+      let is : bare z ≡ place r R T L labs [] a =
+      sym (getD-map bare us a d (place r R T L labs [] a) (omega (arith, many))) ∙ ap (λ xs. getD xs a (place r R T L labs [] a)) e ∙ table-at w a (place r R T L labs []) (place r R T L labs [] a) h in
+      getD-map (risen vs) us a d d (omega (arith, many))
+      ∙ ap (λ (y : Node S V). withUp y (gatheredUp (upsOf vs y))) is
+      ∙ ap (withUp (place r R T L labs [] a)) (g a))
 
   up-first : (us Z vs : List (Node S V)) (m : ℕ) → length us ≡ w → take m Z ≡ vs → layerUp 0 w w m (us ++ Z) ≡ map (risen vs) us ++ Z
   unfolding layerUp
@@ -322,7 +338,7 @@ module _ {S V : Type 0} (r : Round) (R : RuleSense S) (T : TallySense V) (w : �
       up-last w ys ∙ ap (layerUp 0 w w 1) cleared
       ∙ up-first us (E ++ rest) E 1 many (take-at E rest 1 refl)
       ∙ ap (λ xs. xs ++ (E ++ rest)) (risen-block L labs (ups (L ∷ [])) us E (half .0) (λ a. node-ups L [] labs E a (good .0 a) (λ j b t. let z : b ≡ 0 = omega (arith, tied a j b t) in
-        linked (ups []) E b (blankNode r R T) noUp (omega (arith, z)) (ap (λ (i : ℕ). getD {A = Option Up} (Some noUp ∷ []) i None) z) (ap (λ (i : ℕ). getD E i (blankNode r R T) .label .up) z))))
+      linked (ups []) E b (blankNode r R T) noUp (omega (arith, z)) (ap (λ (i : ℕ). getD {A = Option Up} (Some noUp ∷ []) i None) z) (ap (λ (i : ℕ). getD E i (blankNode r R T) .label .up) z))))
       ∙ sym (append-assoc (table w (place r R T L labs (ups (L ∷ [])))) E rest)
       ∙ ap (λ (i : ℕ). (table w (place r R T L labs (ups (L ∷ []))) ++ E) ++ drop i ys) (sym last)
   up-laid zero labs L (M ∷ Ls) ys e good tied half = absurd (omega arith)
@@ -344,11 +360,11 @@ module _ {S V : Type 0} (r : Round) (R : RuleSense S) (T : TallySense V) (w : �
       ∙ ap (λ x. layerUp 0 w w w (us ++ x)) ih
       ∙ up-first us ((VS ++ X) ++ later) VS w many front
       ∙ ap (λ x. x ++ ((VS ++ X) ++ later)) (risen-block L labs (ups (L ∷ M ∷ Ls)) us VS (half .0) (λ a. node-ups L (M ∷ Ls) labs VS a (good .0 a) (λ j b t.
-        let lt : b < length M = tied .0 a j b t in
-        let room : b < w = omega (arith, good .3 .1) in
-        let x = ups-full M Ls (tied .2) (tied .3) b lt in
-        linked U VS b (blankNode r R T) (x .0) (omega (arith, table-long w (place r R T M labs′ U))) (x .1)
-        (ap (λ (v : Node S V). v .label .up) (table-at w b (place r R T M labs′ U) (blankNode r R T) room) ∙ ap orNoUp (x .1)))))
+      let lt : b < length M = tied .0 a j b t in
+      let room : b < w = omega (arith, good .3 .1) in
+      let x = ups-full M Ls (tied .2) (tied .3) b lt in
+      linked U VS b (blankNode r R T) (x .0) (omega (arith, table-long w (place r R T M labs′ U))) (x .1)
+      (ap (λ (v : Node S V). v .label .up) (table-at w b (place r R T M labs′ U) (blankNode r R T) room) ∙ ap orNoUp (x .1)))))
       ∙ sym (append-assoc (table w (place r R T L labs (ups (L ∷ M ∷ Ls)))) (VS ++ X) later)
       ∙ ap (λ x. (table w (place r R T L labs (ups (L ∷ M ∷ Ls))) ++ (VS ++ X)) ++ x) end
 
@@ -358,14 +374,15 @@ module _ {S V : Type 0} (r : Round) (R : RuleSense S) (T : TallySense V) (w : �
       let many : length us ≡ w = sym (length-map us arcsOf) ∙ ap length e ∙ table-long w (arcsAt L) in
       table-list w (place r R T L (firsts r R T) []) (map bare (firstLayer r R T us)) (length-map (firstLayer r R T us) bare ∙ first-long r R T us ∙ many)
       (λ a d h.
-        let arcs : getD us a (blankNode r R T) .arcs ≡ arcsAt L a =
-            sym (getD-map arcsOf us a (blankNode r R T) (arcsAt L a) (omega (arith, many))) ∙ ap (λ xs. getD xs a (arcsAt L a)) e ∙ table-at w a (arcsAt L) (arcsAt L a) h in
-        at-first us a d (omega (arith, many)) ∙ ap (λ (x : Arcs). record { arcs = x; label = record { down = orBlank r R T (getD (firsts r R T) a None); up = noUp } }) arcs)
+      let arcs : getD us a (blankNode r R T) .arcs ≡ arcsAt L a =
+      sym (getD-map arcsOf us a (blankNode r R T) (arcsAt L a) (omega (arith, many))) ∙ ap (λ xs. getD xs a (arcsAt L a)) e ∙ table-at w a (arcsAt L) (arcsAt L a) h in
+      at-first us a d (omega (arith, many)) ∙ ap (λ (x : Arcs). record { arcs = x; label = record { down = orBlank r R T (getD (firsts r R T) a None); up = noUp } }) arcs)
     where
       at-rest : (us : List (Node S V)) (a : ℕ) (d : Node S V) → a < length us → getD (map bare (map (cleared r R T) us)) a d ≡ record { arcs = getD us a (blankNode r R T) .arcs; label = record { down = blank r R T; up = noUp } }
       at-rest [] a d h = absurd (omega arith)
       at-rest (u ∷ us) zero d h = refl
       at-rest (u ∷ us) (suc a) d h = at-rest us a d (omega arith)
+
       at-first : (us : List (Node S V)) (a : ℕ) (d : Node S V) → a < length us → getD (map bare (firstLayer r R T us)) a d ≡ record { arcs = getD us a (blankNode r R T) .arcs; label = record { down = orBlank r R T (getD (firsts r R T) a None); up = noUp } }
       at-first [] a d h = absurd (omega arith)
       at-first (u ∷ us) zero d h = refl

@@ -28,7 +28,7 @@ use Rattle.layers.proofs.Walk.{within, Neat, Going, going-next, Told, told-non
 use Rattle.layers.proofs.Shapes.{part-keeps, join-keeps, neat-tidied, neat-join, neat-part, neat-sweeps, neat-cuts}
 
 -- a test with two outcomes keeps what both keep
-either : {X : Type 0} (P : X → Type 0) (q : Bool) (x y : X) → (q ≡ true → P x) → (q ≡ false → P y) → P (elim q [ true ↦ x | false ↦ y ])
+pub either : {X : Type 0} (P : X → Type 0) (q : Bool) (x y : X) → (q ≡ true → P x) → (q ≡ false → P y) → P (elim q [ true ↦ x | false ↦ y ])
 either P true x y f g = f refl
 either P false x y f g = g refl
 

@@ -4,6 +4,7 @@ pub mod Calls
 pub mod Counts
 pub mod Exact
 pub mod Flows
+pub mod Keys
 pub mod Laid
 pub mod Lively
 pub mod Main
@@ -20,3 +21,4 @@ pub mod Tied
 pub mod Ties
 pub mod Walk
 pub mod Ways
+pub mod Wholes

@@ -78,7 +78,7 @@ rank-lt (false ∷ fs) (x ∷ X) zero e h = clashing (sym e)
 rank-lt (true ∷ fs) (x ∷ X) (suc b) e h = let q = rank-lt fs X b e (le-of-suc-le-suc h) in omega arith
 rank-lt (false ∷ fs) (x ∷ X) (suc b) e h = rank-lt fs X b e (le-of-suc-le-suc h)
 
-compress-back : (fs : List Bool) (X : Layer) (c : ℕ) → c < length (compress fs X) → (b : ℕ) × (getD fs b false ≡ true) × (rank fs b ≡ c)
+pub compress-back : (fs : List Bool) (X : Layer) (c : ℕ) → c < length (compress fs X) → (b : ℕ) × (getD fs b false ≡ true) × (rank fs b ≡ c)
 unfolding rank compress
 compress-back [] X c h = absurd (not-suc-le-zero h)
 compress-back (f ∷ fs) [] c h = absurd (not-suc-le-zero h)
@@ -86,7 +86,7 @@ compress-back (true ∷ fs) (x ∷ X) zero h = (0, refl, refl)
 compress-back (true ∷ fs) (x ∷ X) (suc c) h = let q = compress-back fs X c (le-of-suc-le-suc h) in (suc (q .0), q .1, ap suc (q .2))
 compress-back (false ∷ fs) (x ∷ X) c h = let q = compress-back fs X c h in (suc (q .0), q .1, q .2)
 
-renumber-back : (fs : List Bool) (b c : ℕ) → renumber fs b ≡ suc c → (getD fs b false ≡ true) × (rank fs b ≡ c)
+pub renumber-back : (fs : List Bool) (b c : ℕ) → renumber fs b ≡ suc c → (getD fs b false ≡ true) × (rank fs b ≡ c)
 unfolding renumber
 renumber-back fs b c e = go (getD fs b false) refl e
   where

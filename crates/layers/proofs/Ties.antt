@@ -59,7 +59,7 @@ pub length-more : (M : Layer) (nd : Outs) → length (M ++ (nd ∷ [])) ≡ suc 
 length-more M nd = omega (arith, length-append M (nd ∷ []))
 
 -- the nodes of a layer with one more are those of the layer
-more-back : (M : Layer) (nd : Outs) (c : ℕ) → c < suc (length M) → ((c < length M) × (node (M ++ (nd ∷ [])) c ≡ node M c)) ⊎ ((c ≡ length M) × (node (M ++ (nd ∷ [])) c ≡ nd))
+pub more-back : (M : Layer) (nd : Outs) (c : ℕ) → c < suc (length M) → ((c < length M) × (node (M ++ (nd ∷ [])) c ≡ node M c)) ⊎ ((c ≡ length M) × (node (M ++ (nd ∷ [])) c ≡ nd))
 more-back M nd c h = go (ltb c (length M)) refl
   where
     go : (q : Bool) → ltb c (length M) ≡ q → ((c < length M) × (node (M ++ (nd ∷ [])) c ≡ node M c)) ⊎ ((c ≡ length M) × (node (M ++ (nd ∷ [])) c ≡ nd))

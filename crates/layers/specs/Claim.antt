@@ -14,7 +14,7 @@ use Rattle.orders.specs.Allowed.{Allowed}
 use Rattle.orders.specs.Costs.{cost}
 use Rattle.layers.specs.declared.node.Node.{Node}
 use Rattle.layers.specs.Flow.{Path-from}
-use Rattle.layers.specs.Calls.{Call, EachCut, nodes, arcs, relaid, agreedAll, sweepAnswer, openedOn, run, bound, must, settled}
+use Rattle.layers.specs.Calls.{Call, EachCut, nodes, arcs, relaid, agreedAll, sweepAnswer, openedOn, refined, run, bound, must, settled}
 
 -- i stands ahead of j in w
 abbrev pub Ahead : ℕ → ℕ → List ℕ → Type 0
@@ -76,3 +76,9 @@ abbrev pub Settled-means : {S V : Type 0} → (ℕ → Type 0) → RuleSense S �
 Settled-means {S} {V} Rule-serves rule tally =
     (r : Round) → Rule-serves (r .n) → (W : ℕ) → 1 ≤ W → W ≤ 128 → (lent : List (Node S V)) (cs : List (Call V))
     → let xs = run r rule tally W cs (openedOn r rule tally W lent) in settled r rule tally W xs ≡ (agreedAll r rule tally (nodes (r .n) W xs) && eqb (sweepAnswer r rule tally W xs) 0)
+
+-- after every list of calls: refine that answers 0, for whole, leaves the diagram settled
+abbrev pub Whole-settles : {S V : Type 0} → (ℕ → Type 0) → RuleSense S → TallySense V → Type 0
+Whole-settles {S} {V} Rule-serves rule tally =
+    (r : Round) → Rule-serves (r .n) → (W : ℕ) → 1 ≤ W → W ≤ 128 → (lent : List (Node S V)) (cs : List (Call V))
+    → let xs = run r rule tally W cs (openedOn r rule tally W lent) in refined r rule tally W xs .0 ≡ 0 → settled r rule tally W (refined r rule tally W xs .1) ≡ true

@@ -1,5 +1,5 @@
 // What is claimed of every diagram, as contracts for any rule and any tally.
-ghost use Rattle.layers.specs.Claim.{Kept, Worked-out, Settled-means};
+ghost use Rattle.layers.specs.Claim.{Kept, Worked-out, Settled-means, Whole-settles};
 ghost use Rattle.layers.specs.LabelLaws.{Labels-mean};
 use rules::rule::Rule;
 use tallies::tally::Tally;
@@ -24,4 +24,9 @@ pub fn settled_means<R: Rule, T: Tally>(rule: &R, tally: &T)
 // to the end; its finish is within the clock's bound for its layer, and its value is one that the tally allows there.
 pub fn labels_mean<R: Rule, T: Tally>(rule: &R, tally: &T)
     ensures { λ _. ⌜ Labels-mean (R·Rule .serves (now (rule .entry))) (R·Rule .sense (now (rule .entry))) (T·Tally .serves (now (tally .entry))) (T·Tally .sense (now (tally .entry))) (T·Tally .allows (now (tally .entry))) ⌝ }
+{}
+
+// In such a run refine that answers whole leaves the diagram settled.
+pub fn whole_settles<R: Rule, T: Tally>(rule: &R, tally: &T)
+    ensures { λ _. ⌜ Whole-settles (R·Rule .serves (now (rule .entry))) (R·Rule .sense (now (rule .entry))) (T·Tally .sense (now (tally .entry))) ⌝ }
 {}
