@@ -25,7 +25,7 @@ use Rattle.layers.specs.declared.node.Down.{Down}
 use Rattle.layers.specs.declared.node.Up.{Up}
 use Rattle.layers.specs.Flow.{table, Outs, Layer, Net, node, target, width, ins, gather, next, read, consO, outs, up, Ranged, Led, Tied}
 use Rattle.layers.specs.Labels.{arrive, merge, first, firsts, labelsNext, climb, mergeUp, noUp, ups}
-use Rattle.layers.specs.Records.{blank, orBlank, orNoUp, padded, place, laidFrom, laid}
+use Rattle.layers.specs.Records.{arcsAt, blank, orBlank, orNoUp, padded, place, laidFrom, laid}
 use Rattle.layers.proofs.Flows.{table-at, Among, ins-from}
 use Rattle.layers.proofs.Bridge.{table-long}
 use Rattle.layers.proofs.Lively.{ups-full}
@@ -50,9 +50,6 @@ bare x = withUp x noUp
 
 abbrev pub arcsOf : {S V : Type 0} → Node S V → Arcs
 arcsOf x = x .arcs
-
-abbrev pub arcsAt : Layer → ℕ → Arcs
-arcsAt L a = record { to = padded (getD L a []) }
 
 -- the arcs of the records are those of the net, w records to a layer, and the end's
 abbrev pub Arranged : {S V : Type 0} → ℕ → Net → List (Node S V) → Type 0

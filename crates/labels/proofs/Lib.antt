@@ -1,7 +1,7 @@
 mod Earlies
 mod Folds
 mod Inward
-mod Laying
+pub mod Laying
 mod Legs
 mod Overs
 mod Scattered

@@ -43,7 +43,7 @@ pub map-table : {A B : Type 0} (f : A → B) (m : ℕ) (g : ℕ → A) → map f
 map-table f zero g = refl
 map-table f (suc m) g = ap (λ (x : List _). f (g 0) ∷ x) (map-table f m (λ k. g (suc k)))
 
-table-ext : {A : Type 0} (m : ℕ) (f g : ℕ → A) → ((k : ℕ) → k < m → f k ≡ g k) → table m f ≡ table m g
+pub table-ext : {A : Type 0} (m : ℕ) (f g : ℕ → A) → ((k : ℕ) → k < m → f k ≡ g k) → table m f ≡ table m g
 table-ext zero f g h = refl
 table-ext (suc m) f g h = ap₂ (λ (x : _) (y : List _). x ∷ y) (h 0 (omega arith)) (table-ext m (λ k. f (suc k)) (λ k. g (suc k)) (λ k q. h (suc k) (omega arith)))
 

@@ -7,6 +7,7 @@ use Rattle.std.specs.declared.option.Option.the-variants.{Some, None}
 use Prim.Native.Nat.{ℕ, zero, suc, _+_, _*_}
 use lib.Dec.{eqb}
 use lib.ListN.{length, getD, take, drop}
+use Rattle.layers.specs.declared.node.Arcs.{Arcs}
 use Rattle.layers.specs.declared.node.Node.{Node}
 use Rattle.layers.specs.declared.node.Down.{Down}
 use Rattle.layers.specs.declared.node.Up.{Up}
@@ -50,6 +51,15 @@ module _ {S V : Type 0} where
 -- ---- writing: arcs, with all labels worked out anew from them; an unused place has no arcs, empty sets, finish 0 and the starts
 abbrev pub padded : Outs → List ℕ
 padded nd = table 16 (λ k. getD nd k 0)
+
+-- the arcs of place k of a layer
+abbrev pub arcsAt : Layer → ℕ → Arcs
+arcsAt L k = record { to = padded (getD L k []) }
+
+-- the arcs of all places, W to a layer, and of the end
+abbrev pub laidArcs : ℕ → Net → List Arcs
+laidArcs W [] = table 1 (arcsAt [])
+laidArcs W (L ∷ Ls) = table W (arcsAt L) ++ laidArcs W Ls
 
 abbrev pub orNoUp : Option Up → Up
 orNoUp None = noUp
