@@ -23,11 +23,13 @@ use Rattle.layers.specs.declared.node.Arcs.{Arcs}
 use Rattle.layers.specs.declared.node.Node.{Node}
 use Rattle.layers.specs.declared.node.Down.{Down}
 use Rattle.layers.specs.declared.node.Up.{Up}
-use Rattle.layers.specs.Flow.{table, Outs, Layer, Net, node, target, width, ins, gather, next, read, consO, outs, up, Ranged, Led, Tied}
+use Rattle.layers.specs.Flow.{table, Outs, Layer, Net, node, target, width, ins, gather, next, read, consO, outs, up, Ranged, Led, Tied, Roomy}
 use Rattle.layers.specs.Labels.{arrive, merge, first, firsts, labelsNext, climb, mergeUp, noUp, ups}
 use Rattle.layers.specs.Records.{arcsAt, blank, orBlank, orNoUp, padded, place, laidFrom, laid}
 use Rattle.layers.proofs.Flows.{table-at, Among, ins-from}
-use Rattle.layers.proofs.Bridge.{table-long}
+use Rattle.layers.proofs.Bridge.{Even, table-long}
+use Rattle.layers.proofs.Proper.{Proper, even-of}
+use Rattle.layers.specs.Calls.{relaid}
 use Rattle.layers.proofs.Lively.{ups-full}
 use Rattle.labels.specs.Passes.{part, over, withDown, withUp, blankNode, byDoor, fromNode, arrivals, gathered, labelled, nextLayer, layerDone, numbered, upBy, upsOf, gatheredUp, risen, layerUp, endCleared, cleared, firstLayer, begun, passUp, relabelled}
 use Rattle.std.proofs.shelf.Bits.{pow-pos}
@@ -60,6 +62,14 @@ Arranged w (L ∷ Ls) xs = (map arcsOf (take w xs) ≡ table w (arcsAt L)) × Ar
 abbrev pub Good : ℕ → Net → Type 0
 Good w [] = Unit {0}
 Good w (L ∷ Ls) = ((a : ℕ) → length (node L a) ≤ 16) × (length L ≤ w) × Ranged L (width Ls) × Good w Ls
+
+few : (n : ℕ) (L : Layer) → n ≤ 16 → ((a : ℕ) → a < length L → length (node L a) ≡ n) → (a : ℕ) → length (node L a) ≤ 16
+few n L h e a = ⊎-elim (λ lt. omega (arith, e a lt)) (λ ge. let z = ap length (getD-past L a [] ge) in omega arith) (cases-lt a (length L))
+
+good : (n w : ℕ) (Ls : Net) → n ≤ 16 → Even n Ls → Roomy w Ls → Tied Ls → Good w Ls
+good n w [] h even room t = tt
+good n w (L ∷ []) h even room t = (few n L h (even .0), room .0, t, tt)
+good n w (L ∷ M ∷ Ls) h even room t = (few n L h (even .0), room .0, t .0, good n w (M ∷ Ls) h (even .1) (room .1) (t .3))
 
 -- ---- down
 module _ {S V : Type 0} (r : Round) (R : RuleSense S) (T : TallySense V) where
@@ -410,3 +420,11 @@ module _ {S V : Type 0} (r : Round) (R : RuleSense S) (T : TallySense V) (w : �
       ∙ up-is w (suc k) k (flatDown r R T w k B) refl
       ∙ up-laid k (firsts r R T) L Ls (flatDown r R T w k B) el good tied (d .0)
       ∙ ap (λ ys. laidFrom r R T w (firsts r R T) (L ∷ Ls) ++ ys) (d .1 ∙ tail ∙ ap (λ (n : ℕ). drop (n * w + 1) xs) (sym en))
+
+  -- of a net that a diagram may have
+  pub relabelled-proper : (Ls : Net) (xs : List (Node S V)) → Proper (r .n) w Ls → Arranged w Ls xs → relabelled r R T w xs ≡ relaid r R T w xs Ls
+  unfolding relaid
+  relabelled-proper [] xs p arr = let none : 0 ≡ r .n = p .deep in absurd (omega (arith, r .one))
+  relabelled-proper (L ∷ Ls) xs p arr =
+      let deep : suc (length Ls) ≡ r .n = p .deep in
+      relabelled-laid (length Ls) L Ls xs (sym deep) refl (good (r .n) w (L ∷ Ls) (r .most) (even-of (r .n) (L ∷ Ls) (p .even)) (p .roomy) (p .tied)) (p .tied) arr
