@@ -1,1 +1,2 @@
 mod Arcs_laid
+mod Opened
