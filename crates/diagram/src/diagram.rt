@@ -13,6 +13,8 @@ use layers::node::Node;
 use rules::rule::Rule;
 use tallies::tally::Tally;
 
+pub mod asks;
+
 #[derive(Drop)]
 pub struct Diagram<'a, S, V> {
     room: Room<'a>,
