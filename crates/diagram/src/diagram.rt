@@ -16,21 +16,21 @@ use tallies::tally::Tally;
 pub mod asks;
 
 #[derive(Drop)]
-pub struct Diagram<'a, S, V> {
+pub struct Diagram<'a, 'n, S, V> {
     room: Room<'a>,
-    nodes: &'a mut [Node<S, V>],
+    nodes: &'n mut [Node<S, V>],
     ghost fits: { held (room .round) .n * room .width + 1 ≤ length (held nodes) },
 }
 
-impl<'a, S: Copy, V: Copy> Diagram<'a, S, V> {
+impl<'a, 'n, S: Copy, V: Copy> Diagram<'a, 'n, S, V> {
     // A node in each layer, and an arc for every door from each but the end. The list is long enough, as the check has found.
     // Whatever calls follow, and in whatever order, nothing allowed is lost that no ceiling rules out.
     pub fn open<R: Rule<State = S>, T: Tally<Value = V>>(
         room: Room<'a>,
         rule: &R,
         tally: &T,
-        nodes: &'a mut [Node<S, V>],
-    ) -> Diagram<'a, S, V>
+        nodes: &'n mut [Node<S, V>],
+    ) -> Diagram<'a, 'n, S, V>
         requires { ⌜ now (room .round) .n * room .width + 1 ≤ length (now nodes) ⌝ }
         ensures room { λ d. ⌜ d .room ≡ room .entry ⌝ }
         ensures records { λ d. ⌜ now (d .nodes) ≡ openedOn (now (room .entry .round)) (R·Rule .sense (now (rule .entry))) (T·Tally .sense (now (tally .entry))) (room .entry .width) (now (nodes .entry)) ⌝ }

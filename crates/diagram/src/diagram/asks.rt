@@ -21,7 +21,7 @@ fn end_value<S: Copy, V: Copy>(nodes: &[Node<S, V>], n: usize, width: usize) -> 
     }
 }
 
-impl<'a, S: Copy, V: Copy> Diagram<'a, S, V> {
+impl<'a, 'n, S: Copy, V: Copy> Diagram<'a, 'n, S, V> {
     // What no wanted order undercuts; none if no order is left.
     pub fn bound(&self) -> Option<V>
         ensures { λ r. ⌜ r ≡ bound (now (now (self .entry) .room .round) .n) (now (self .entry) .room .width) (now (now (self .entry) .nodes)) ⌝ }
