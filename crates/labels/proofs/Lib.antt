@@ -1,9 +1,9 @@
 mod Earlies
-mod Folds
+pub mod Folds
 mod Inward
 pub mod Laying
-mod Legs
-mod Overs
+pub mod Legs
+pub mod Overs
 mod Scattered
-mod Steps
+pub mod Steps
 mod Suffixes

@@ -27,7 +27,7 @@ fn look_from(round: &Round, lasts: DoorSet, j: usize, best: Option<u32>, i: usiz
 }
 
 // The least drive to j from a member of `lasts` other than j, or 0.
-pub(crate) fn leg_from(round: &Round, lasts: DoorSet, j: usize) -> u32
+pub fn leg_from(round: &Round, lasts: DoorSet, j: usize) -> u32
     ensures { λ r. ⌜ r ≡ leg (now (round .entry)) lasts j ⌝ }
 {
     let mut best: Option<u32> = None;

@@ -1,0 +1,15 @@
+mod Counts
+mod Examples
+mod Joins
+mod Layers
+mod Marks
+mod Meets
+mod Numbers
+mod Parts
+mod Redirects
+mod Shifts
+mod Stay
+mod Targets
+mod Thins
+mod Trims
+mod Words
