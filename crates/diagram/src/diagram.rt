@@ -6,6 +6,7 @@ ghost use lib.ListN.{length};
 ghost use denote.Ref.{name, now as held};
 ghost use Rattle.layers.specs.Calls.{Call, openedOn, run};
 ghost use Rattle.layers.specs.Claim.{Sure};
+ghost use Rattle.diagram.specs.Shape.{Written, Tidy, OneFirst};
 use crate::lay::lay_arcs;
 use crate::room::Room;
 use labels::relabel::relabel;
@@ -20,6 +21,9 @@ pub struct Diagram<'a, 'n, S, V> {
     room: Room<'a>,
     nodes: &'n mut [Node<S, V>],
     ghost fits: { held (room .round) .n * room .width + 1 ≤ length (held nodes) },
+    ghost written: { Written (held (room .round) .n) (room .width) (held nodes) },
+    ghost tidy: { Tidy (held (room .round) .n) (room .width) (held nodes) },
+    ghost first: { OneFirst (held (room .round) .n) (room .width) (held nodes) },
 }
 
 impl<'a, 'n, S: Copy, V: Copy> Diagram<'a, 'n, S, V> {

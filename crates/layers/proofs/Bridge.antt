@@ -345,7 +345,7 @@ module _ {S V : Type 0} (r : Round) (rule : RuleSense S) (tally : TallySense V) 
   value-stood labs (L ∷ Ls) f = value-stood (labelsNext r rule tally labs L (width Ls)) Ls (f .1)
 
   -- ---- later places
-  laid-long : (labs : Labs) (Ls : Net) → length (laidFrom r rule tally W labs Ls) ≡ length Ls * W + 1
+  pub laid-long : (labs : Labs) (Ls : Net) → length (laidFrom r rule tally W labs Ls) ≡ length Ls * W + 1
   unfolding laidFrom
   laid-long labs [] = omega (arith, zero-mul W)
   laid-long labs (L ∷ Ls) =

@@ -48,6 +48,10 @@ module _ {S V : Type 0} where
   drawn n (N ∷ []) = []
   drawn n (N ∷ M ∷ Ns) = arcsIn n N ∷ drawn n (M ∷ Ns)
 
+  -- the arcs of each place, as they stand
+  abbrev pub arcsRead : List (Node S V) → List Arcs
+  arcsRead = map (λ x. x .arcs)
+
 -- ---- writing: arcs, with all labels worked out anew from them; an unused place has no arcs, empty sets, finish 0 and the starts
 abbrev pub padded : Outs → List ℕ
 padded nd = table 16 (λ k. getD nd k 0)
