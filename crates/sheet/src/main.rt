@@ -1,4 +1,5 @@
-// The round sheet: reads a round's text on standard input, opens its diagram and prints a cost that no allowed order undercuts.
+// The round sheet: reads a round's text on standard input, opens its diagram and prints a cost that no allowed
+// order undercuts, and which doors have to come ahead of which.
 ghost use mathlib.Core.Path.{_≡_};
 ghost use Prim.Native.Nat.{_+_, _*_, _≤_};
 ghost use lib.ListN.{length};
@@ -68,6 +69,22 @@ fn print_bound(rt: &LibcRuntime, bound: Option<(u32, u32)>) -> Result<(), AnyErr
     Ok(())
 }
 
+// The pairs of doors of which the first has to come ahead of the second.
+fn print_musts<S: Copy, V: Copy>(
+    rt: &LibcRuntime,
+    diagram: &Diagram<'_, '_, S, V>,
+    round: &Round,
+) -> Result<(), AnyError> {
+    for i in 1..=round.n {
+        for j in 1..=round.n {
+            if let Ok(true) = diagram.must(i, j) {
+                println!(rt, "must\t{i}\t{j}")?;
+            }
+        }
+    }
+    Ok(())
+}
+
 fn print_sheet(rt: &LibcRuntime, round: &Round) -> Result<(), AnyError> {
     let rule = Both {
         first: Pairs::of(round),
@@ -78,7 +95,8 @@ fn print_sheet(rt: &LibcRuntime, round: &Round) -> Result<(), AnyError> {
     match Room::check(round, WIDTH, records.len()) {
         Ok(room) => {
             let diagram = Diagram::open(room, &rule, &tally, &mut records);
-            print_bound(rt, diagram.bound())
+            print_bound(rt, diagram.bound())?;
+            print_musts(rt, &diagram, round)
         }
         Err(refusal) => {
             let number = refusal.number();
