@@ -7,7 +7,7 @@ use Prim.Native.Nat.{ℕ, _≤_, _+_, _*_}
 use native.Mathlib.Omega.{arith}
 use lib.Dec.{eqb}
 use lib.ListN.{drop}
-use Rattle.std.proofs.shelf.Tests.{not-true, not-false}
+use Rattle.std.proofs.shelf.Tests.{both-ways, not-true, not-false}
 use Rattle.std.specs.declared.option.Option.{Option}
 use Rattle.std.specs.declared.option.Option.the-variants.{Some, None}
 use Rattle.round.specs.declared.table.Round.{Round}
@@ -20,7 +20,7 @@ use Rattle.layers.specs.Flow.{Net, Path-from, seeks}
 use Rattle.layers.specs.Labels.{opened}
 use Rattle.layers.specs.Records.{laid}
 use Rattle.layers.specs.Calls.{Call, nodes, arcs, relaid, agreedAll, sweepAnswer, bound, must, settled}
-use Rattle.layers.specs.Claim.{IsPath, Nothing-lost, Nothing-false, Sure, Kept, Worked-out, Settled-means}
+use Rattle.layers.specs.Claim.{IsPath, Must-means, Nothing-lost, Nothing-false, Sure, Kept, Worked-out, Settled-means}
 use Rattle.layers.proofs.Ways.{clashing}
 use Rattle.layers.proofs.Model.{after, bound as boundOf, must as mustOf, settled as settledOf}
 use Rattle.layers.proofs.Calls.{still, bound-below}
@@ -102,3 +102,10 @@ settled-means {S} {V} A rule tally ruled r e W a b lent cs =
     let D = after r rule tally W cs (opened r rule tally) in
     let p = proper-after r rule x tally W a cs (opened r rule tally) (proper-opened r rule tally W a) in
     subst (λ (xs : List (Node S V)). settled r rule tally W xs ≡ (agreedAll r rule tally (nodes (r .n) W xs) && eqb (sweepAnswer r rule tally W xs) 0)) (sym (run-opened r rule x tally W a lent cs)) (settled-means-X r rule x tally W a l D p)
+
+pub must-means : {S V : Type 0} (n W i j : ℕ) (xs : List (Node S V)) → Must-means n W i j xs (must n W i j xs)
+unfolding must
+must-means n W i j xs = record {
+  yes = λ e w p h. both-ways (seeks (arcs n W xs) 0 (j ∷ i ∷ [])) (not-true (seeks (arcs n W xs) 0 (j ∷ i ∷ [])) e) (seen (arcs n W xs) j i w p h);
+  no′ = λ e. sought (arcs n W xs) j i (not-false (seeks (arcs n W xs) 0 (j ∷ i ∷ [])) e);
+}

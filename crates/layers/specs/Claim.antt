@@ -1,6 +1,6 @@
 -- The claim: only what a ceiling rules out can go missing, and once the diagram is settled nothing false is left in it.
 use mathlib.Core.Path.{_≡_}
-use mathlib.Core.Bool.{true, false, _&&_}
+use mathlib.Core.Bool.{Bool, true, false, _&&_}
 use mathlib.Core.List.{List, [], _∷_}
 use mathlib.Core.Logic.{_⊎_}
 use Prim.Native.Nat.{ℕ, _≤_}
@@ -24,6 +24,11 @@ Ahead i j (k ∷ w) = ((i ≡ k) × In j w) ⊎ Ahead i j w
 -- w is read along a path from the first node to the end, in the diagram of n doors and width W in these records
 abbrev pub IsPath : {S V : Type 0} → ℕ → ℕ → List (Node S V) → List ℕ → Type 0
 IsPath n W xs w = Path-from (arcs n W xs) 0 w
+
+-- what the answer b to must(i, j) says of the paths: j stands at an earlier place than i on none, or on this one
+pub record Must-means {S V : Type 0} (n W i j : ℕ) (xs : List (Node S V)) (b : Bool) : Type 0 where
+  pub yes : b ≡ true → (w : List ℕ) → IsPath n W xs w → Ahead j i w → ⊥
+  pub no′ : b ≡ false → (w : List ℕ) × IsPath n W xs w × Ahead j i w
 
 -- of the records xs, which the calls cs left
 module _ {S V : Type 0} (r : Round) (rule : RuleSense S) (Keeps : List ℕ → Type 0) (tally : TallySense V) (W : ℕ) (cs : List (Call V)) where

@@ -4,6 +4,7 @@ ghost use Prim.Native.Nat.{_+_, _*_, _<_, _≤_};
 ghost use lib.ListN.{length};
 ghost use Rattle.std.specs.Results.{Cases};
 ghost use Rattle.layers.specs.Calls.{bound, must, mustAnswer};
+ghost use Rattle.layers.specs.Claim.{Must-means};
 ghost use Rattle.diagram.specs.Refusals.{numberOf};
 use super::Diagram;
 use crate::refusal::Refusal;
@@ -35,7 +36,8 @@ impl<'a, 'n, S: Copy, V: Copy> Diagram<'a, 'n, S, V> {
 
     // Yes if no path has door j at an earlier place than door i, and so if i is ahead of j in every wanted order.
     pub fn must(&self, i: usize, j: usize) -> Result<bool, Refusal>
-        ensures { λ r. ⌜ Cases r (λ b. (mustAnswer (now (now (self .entry) .room .round) .n) i j ≡ 0) × (b ≡ must (now (now (self .entry) .room .round) .n) (now (self .entry) .room .width) i j (now (now (self .entry) .nodes)))) (λ e. mustAnswer (now (now (self .entry) .room .round) .n) i j ≡ numberOf e) ⌝ }
+        ensures answer { λ r. ⌜ Cases r (λ b. (mustAnswer (now (now (self .entry) .room .round) .n) i j ≡ 0) × (b ≡ must (now (now (self .entry) .room .round) .n) (now (self .entry) .room .width) i j (now (now (self .entry) .nodes)))) (λ e. mustAnswer (now (now (self .entry) .room .round) .n) i j ≡ numberOf e) ⌝ }
+        ensures paths { λ r. ⌜ Cases r (λ b. Must-means (now (now (self .entry) .room .round) .n) (now (self .entry) .room .width) i j (now (now (self .entry) .nodes)) b) (λ e. Unit {0}) ⌝ }
     {
         let n = self.room.round.n;
         if i < 1 || i > n || j < 1 || j > n {
