@@ -18,9 +18,9 @@ use Rattle.layers.specs.Records.{laid}
 use Rattle.layers.specs.Calls.{arcs, relaid, openedOn}
 use Rattle.layers.proofs.Counts.{tidied-same}
 use Rattle.layers.proofs.Laid.{arcs-laid, written}
-use Rattle.layers.proofs.Proper.{proper-opened}
+use Rattle.layers.proofs.Proper.{lawful, proper-opened}
 use Rattle.labels.specs.Passes.{fits, relabelled}
-use Rattle.labels.proofs.Laying.{Arranged, relabelled-proper}
+use Rattle.labels.proofs.Laying.{Arranged, relabelled-lawful}
 use Rattle.diagram.specs.Opening.{everyDoor, arcsOpened, arced}
 use Rattle.diagram.specs.Shape.{targets, Written, Tidy, OneFirst}
 use Rattle.diagram.proofs.Arcs_laid.{arced-long, after-all, arranged}
@@ -39,7 +39,7 @@ module _ {S V : Type 0} (r : Round) (R : RuleSense S) (T : TallySense V) (W : �
   unfolding openedOn relaid
   laid-opened =
       let m = r .n * W + 1 in
-      relabelled-proper r R T W (opened r R T) ys (proper-opened r R T W a) in-layers
+      relabelled-lawful r R T W (opened r R T) ys (lawful (r .n) W (opened r R T) (proper-opened r R T W a)) in-layers
       ∙ ap (λ zs. laid r R T W (opened r R T) ++ zs) (after-all (arcsOpened (everyDoor (r .n)) (r .n) W) m xs)
 
   pub room : fits (r .n) W (length ys) ≡ true

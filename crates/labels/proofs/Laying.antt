@@ -4,7 +4,7 @@ use mathlib.Core.Bool.{Bool, true, false, cond}
 use mathlib.Core.List.{List, [], _∷_, _++_, map, append-assoc}
 use mathlib.Core.Logic.{_⊎_, inl, inr, ⊎-elim}
 use Prim.Native.Nat.{ℕ, zero, suc, _+_, _-_, _*_, _≤_, _<_}
-use native.Mathlib.Nat.{zero-add, suc-mul, zero-mul}
+use native.Mathlib.Nat.{zero-add, suc-add, suc-mul, zero-mul}
 use native.Mathlib.Numerals.{add-one}
 use native.Mathlib.Omega.{arith}
 use lib.Dec.{eqb}
@@ -23,12 +23,11 @@ use Rattle.layers.specs.declared.node.Arcs.{Arcs}
 use Rattle.layers.specs.declared.node.Node.{Node}
 use Rattle.layers.specs.declared.node.Down.{Down}
 use Rattle.layers.specs.declared.node.Up.{Up}
-use Rattle.layers.specs.Flow.{table, Outs, Layer, Net, node, target, width, ins, gather, next, read, consO, outs, up, Ranged, Led, Tied, Roomy}
+use Rattle.layers.specs.Flow.{table, Outs, Layer, Net, node, target, width, ins, gather, next, read, consO, outs, up, Ranged, Led, Tied, Roomy, Even, Lawful}
 use Rattle.layers.specs.Labels.{arrive, merge, first, firsts, labelsNext, climb, mergeUp, noUp, ups}
-use Rattle.layers.specs.Records.{arcsAt, blank, orBlank, orNoUp, padded, place, laidFrom, laid}
+use Rattle.layers.specs.Records.{arcsRead, laidArcs, arcsAt, blank, orBlank, orNoUp, padded, place, laidFrom, laid}
 use Rattle.layers.proofs.Flows.{table-at, Among, ins-from}
-use Rattle.layers.proofs.Bridge.{Even, table-long}
-use Rattle.layers.proofs.Proper.{Proper, even-of}
+use Rattle.layers.proofs.Bridge.{table-long}
 use Rattle.layers.specs.Calls.{relaid}
 use Rattle.layers.proofs.Lively.{ups-full}
 use Rattle.labels.specs.Passes.{part, over, withDown, withUp, blankNode, byDoor, fromNode, arrivals, gathered, labelled, nextLayer, layerDone, numbered, upBy, upsOf, gatheredUp, risen, layerUp, endCleared, cleared, firstLayer, begun, passUp, relabelled}
@@ -70,6 +69,30 @@ good : (n w : ℕ) (Ls : Net) → n ≤ 16 → Even n Ls → Roomy w Ls → Tied
 good n w [] h even room t = tt
 good n w (L ∷ []) h even room t = (few n L h (even .0), room .0, t, tt)
 good n w (L ∷ M ∷ Ls) h even room t = (few n L h (even .0), room .0, t .0, good n w (M ∷ Ls) h (even .1) (room .1) (t .3))
+
+-- ---- the flat list of arcs
+split : {X Y : Type 0} (f : X → Y) (w m : ℕ) (xs : List X) → map f (take (w + m) xs) ≡ map f (take w xs) ++ map f (take m (drop w xs))
+split f zero m xs = ap (λ (k : ℕ). map f (take k xs)) (zero-add m)
+split f (suc w) m [] = ap (λ (k : ℕ). map f (take k [])) (suc-add w m) ∙ sym (none m)
+  where
+    none : (m : ℕ) → map f (take m []) ≡ []
+    none zero = refl
+    none (suc m) = refl
+split f (suc w) m (x ∷ xs) = ap (λ (k : ℕ). map f (take k (x ∷ xs))) (suc-add w m) ∙ ap (λ ys. f x ∷ ys) (split f w m xs)
+
+arranged-of : {S V : Type 0} (w : ℕ) (Ls : Net) (xs : List (Node S V)) → length Ls * w + 1 ≤ length xs → arcsRead (take (length Ls * w + 1) xs) ≡ laidArcs w Ls → Arranged w Ls xs
+arranged-of w [] xs h e = let one : 1 ≡ 0 * w + 1 = omega (arith, zero-mul w) in ap (λ (k : ℕ). map arcsOf (take k xs)) one ∙ e
+arranged-of w (L ∷ Ls) xs h e =
+    let m = length Ls * w + 1 in
+    let both : suc (length Ls) * w + 1 ≡ w + m = omega (arith, suc-mul (length Ls) w) in
+    let A = map arcsOf (take w xs) in
+    let B = map arcsOf (take m (drop w xs)) in
+    let g = arcsAt L in
+    let whole : A ++ B ≡ table w g ++ laidArcs w Ls = sym (split arcsOf w m xs) ∙ ap (λ (k : ℕ). map arcsOf (take k xs)) (sym both) ∙ e in
+    let long : length A ≡ w = length-map (take w xs) arcsOf ∙ length-take-le w xs (omega (arith, both)) in (
+      sym (take-at A B w long) ∙ ap (take w) whole ∙ take-at (table w g) (laidArcs w Ls) w (table-long w g),
+      arranged-of w Ls (drop w xs) (omega (arith, both, length-drop w xs)) (sym (drop-at A B w long) ∙ ap (drop w) whole ∙ drop-at (table w g) (laidArcs w Ls) w (table-long w g)),
+    )
 
 -- ---- down
 module _ {S V : Type 0} (r : Round) (R : RuleSense S) (T : TallySense V) where
@@ -421,10 +444,16 @@ module _ {S V : Type 0} (r : Round) (R : RuleSense S) (T : TallySense V) (w : �
       ∙ up-laid k (firsts r R T) L Ls (flatDown r R T w k B) el good tied (d .0)
       ∙ ap (λ ys. laidFrom r R T w (firsts r R T) (L ∷ Ls) ++ ys) (d .1 ∙ tail ∙ ap (λ (n : ℕ). drop (n * w + 1) xs) (sym en))
 
-  -- of a net that a diagram may have
-  pub relabelled-proper : (Ls : Net) (xs : List (Node S V)) → Proper (r .n) w Ls → Arranged w Ls xs → relabelled r R T w xs ≡ relaid r R T w xs Ls
+  -- of arcs that a diagram may have
+  pub relabelled-lawful : (Ls : Net) (xs : List (Node S V)) → Lawful (r .n) w Ls → Arranged w Ls xs → relabelled r R T w xs ≡ relaid r R T w xs Ls
   unfolding relaid
-  relabelled-proper [] xs p arr = let none : 0 ≡ r .n = p .deep in absurd (omega (arith, r .one))
-  relabelled-proper (L ∷ Ls) xs p arr =
+  relabelled-lawful [] xs p arr = let none : 0 ≡ r .n = p .deep in absurd (omega (arith, r .one))
+  relabelled-lawful (L ∷ Ls) xs p arr =
       let deep : suc (length Ls) ≡ r .n = p .deep in
-      relabelled-laid (length Ls) L Ls xs (sym deep) refl (good (r .n) w (L ∷ Ls) (r .most) (even-of (r .n) (L ∷ Ls) (p .even)) (p .roomy) (p .tied)) (p .tied) arr
+      relabelled-laid (length Ls) L Ls xs (sym deep) refl (good (r .n) w (L ∷ Ls) (r .most) (p .even) (p .roomy) (p .tied)) (p .tied) arr
+
+  -- the same, of the flat list of arcs
+  pub relabelled-read : (Ls : Net) (xs : List (Node S V)) → Lawful (r .n) w Ls → r .n * w + 1 ≤ length xs → arcsRead (take (r .n * w + 1) xs) ≡ laidArcs w Ls → relabelled r R T w xs ≡ relaid r R T w xs Ls
+  relabelled-read Ls xs p h e =
+      let n : length Ls * w + 1 ≡ r .n * w + 1 = ap (λ (k : ℕ). k * w + 1) (p .deep) in
+      relabelled-lawful Ls xs p (arranged-of w Ls xs (omega (arith, n)) (ap (λ (k : ℕ). arcsRead (take k xs)) n ∙ e))

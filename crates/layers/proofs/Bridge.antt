@@ -24,11 +24,7 @@ use Rattle.layers.proofs.Flows.{ins-from, next-some, next-at, gather-all, tabl
 use Rattle.layers.proofs.Sets.{or-left, one-self, none-has}
 use Rattle.layers.proofs.Model.{sweeps, cuts, partAt, oneGroup, agreed, agrees, quiet, valueO}
 use Rattle.layers.proofs.Lively.{labels-full, ups-full}
-
--- every node has exactly n targets
-abbrev pub Even : ℕ → Net → Type 0
-Even n [] = Unit {0}
-Even n (L ∷ Ls) = ((a : ℕ) → a < length L → length (node L a) ≡ n) × Even n Ls
+pub use Rattle.layers.specs.Flow.{Even}
 
 -- ---- tables
 take-table : {A : Type 0} (m : ℕ) (f : ℕ → A) (rest : List A) → take m (table m f ++ rest) ≡ table m f

@@ -11,7 +11,7 @@ use Rattle.std.specs.declared.option.Option.the-variants.{Some}
 use Rattle.round.specs.declared.table.Round.{Round}
 use Rattle.rules.specs.Rules.{RuleLaws, RuleSense}
 use Rattle.tallies.specs.Tallies.{TallySense}
-use Rattle.layers.specs.Flow.{table, Outs, Layer, Net, node, width, eachNode, redirect, Mark, marksNext, marksUp, flags, compress, renumber, tidy, tidied, dropAt, moved, bothOut, clash, joinAt, Tied, Roomy}
+use Rattle.layers.specs.Flow.{table, Outs, Layer, Net, node, width, eachNode, redirect, Mark, marksNext, marksUp, flags, compress, renumber, tidy, tidied, dropAt, moved, bothOut, clash, joinAt, Tied, Roomy, Lawful}
 use Rattle.layers.specs.Labels.{Lab, firsts, labelsNext, opened, allDoors}
 use Rattle.layers.specs.Calls.{Call}
 use Rattle.layers.proofs.Flows.{Among, among-split}
@@ -123,6 +123,9 @@ pub record Proper (n W : ℕ) (Ls : Net) : Type 0 where
   pub even : EvenIn n Ls
   pub roomy : Roomy W Ls
   pub tied : Tied Ls
+
+pub lawful : (n W : ℕ) (Ls : Net) → Proper n W Ls → Lawful n W Ls
+lawful n W Ls p = record { deep = p .deep; one-first = p .one-first; even = even-of n Ls (p .even); roomy = p .roomy; tied = p .tied }
 
 module _ {S V : Type 0} (r : Round) (rule : RuleSense S) (tally : TallySense V) (W : ℕ) (w : 1 ≤ W) where
   even-sweeps : (i : ℕ) (labs : List (Option (Lab r rule tally))) (Ls : Net) → EvenIn (r .n) Ls → EvenIn (r .n) (sweeps r rule tally i labs Ls) × (width (sweeps r rule tally i labs Ls) ≡ width Ls)

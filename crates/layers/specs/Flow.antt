@@ -262,3 +262,16 @@ Tied (L ∷ M ∷ Ls) = Ranged L (length M) × Fed L (length M) × Led M × Tied
 abbrev pub Roomy : ℕ → Net → Type 0
 Roomy W [] = Unit {0}
 Roomy W (L ∷ Ls) = (length L ≤ W) × Roomy W Ls
+
+-- each node has n targets, one for each door
+abbrev pub Even : ℕ → Net → Type 0
+Even n [] = Unit {0}
+Even n (L ∷ Ls) = ((a : ℕ) → a < length L → length (node L a) ≡ n) × Even n Ls
+
+-- the arcs that a diagram of n doors and width W may have: n layers, one first node, at most W nodes to a layer, each on a path
+pub record Lawful (n W : ℕ) (Ls : Net) : Type 0 where
+  pub deep : length Ls ≡ n
+  pub one-first : width Ls ≡ 1
+  pub even : Even n Ls
+  pub roomy : Roomy W Ls
+  pub tied : Tied Ls

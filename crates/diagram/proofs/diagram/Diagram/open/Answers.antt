@@ -36,7 +36,7 @@ ghost-result g c =
     let a = c .args .room .wide in
     let b = c .args .room .narrow in
     let xs = c .args .nodes .now in
-    let all = both r R T W a b xs (c .lay-arcs .last .nodes) (c .relabel .last .nodes) (c .pre) (c .lay-arcs .ensures) (c .relabel .ensures) in (
+    let all = both r R T W a b xs (c .lay-arcs .last .nodes) (c .relabel .last .nodes) (c .pre) (c .lay-arcs .ensures) (c .relabel .ensures .passes) in (
       omega arith,
       (
         subst (Written (r .n) W) (sym all) (opened-written r R T W a b xs (c .pre)),
@@ -57,7 +57,7 @@ returns g c =
     let a = c .args .room .wide in
     let b = c .args .room .narrow in
     let xs = c .args .nodes .now in
-    let all = both r R T W a b xs (c .lay-arcs .last .nodes) (c .relabel .last .nodes) (c .pre) (c .lay-arcs .ensures) (c .relabel .ensures) in
+    let all = both r R T W a b xs (c .lay-arcs .last .nodes) (c .relabel .last .nodes) (c .pre) (c .lay-arcs .ensures) (c .relabel .ensures .passes) in
     record {
       room = refl;
       records = all;
