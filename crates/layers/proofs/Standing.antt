@@ -17,8 +17,9 @@ use Rattle.layers.specs.Records.{layers, arcsIn, downsIn, drawn, laid}
 use Rattle.layers.specs.Calls.{Call, Sweep, Part, Join, Cut, Refine, thinned, trimmed, arrivals, partedAt, nodes, arcs, layer, relaid, openedOn, fewer, swept, sweepAnswer, cutAt, partAnswer, split, joinAnswer, joined, splits, splitsAll, sweptOut, refined, does, run, bound, must, settled, agreedAll, quietFrom, valueIn, oneGroup as oneGroupIn, isFull, parted as partedIn, badNode as badNodeIn}
 use Rattle.layers.proofs.Model.{sweep, cut, oneGroup, partAt, count, done, refused, badLayer, badNode, part, join, unless, swept as untilQuiet, parted as partedArcs, refines, refine, act, after, agrees, settles, bound as boundOf, must as mustOf, settled as settledOf}
 use Rattle.layers.proofs.Counts.{sweep-fewer, settled-yes, settled-if}
-use Rattle.layers.proofs.Bridge.{Full, stood, labsAt, full-first, layers-laid, drawn-stood, thinned-stood, trimmed-stood, quiet-stood, agrees-stood, stood-at, group-at, part-at, value-stood, later-stays}
-use Rattle.layers.proofs.Proper.{Proper, even-of, proper-opened, proper-sweep, proper-part, proper-after, proper-parted, proper-refines}
+use Rattle.layers.proofs.Bridge.{Full, stood, labsAt, thinned-stood, trimmed-stood, quiet-stood, agrees-stood, stood-at, group-at, part-at, value-stood, later-stays}
+use Rattle.layers.proofs.Laid.{full as full-laid, nodes-laid, arcs-laid}
+use Rattle.layers.proofs.Proper.{Proper, proper-opened, proper-sweep, proper-part, proper-after, proper-parted, proper-refines}
 
 pub same-bool : (p q : Bool) → (p ≡ true → q ≡ true) → (q ≡ true → p ≡ true) → p ≡ q
 same-bool true q f g = sym (f refl)
@@ -43,19 +44,17 @@ module _ {S V : Type 0} {Keeps : List ℕ → Type 0} {Stands : S → List ℕ �
   X Ls = laid r rule tally W Ls ++ later
 
   pub full : (Ls : Net) → Well Ls → Full r rule tally W w (firsts r rule tally) Ls
-  full [] p = absurd (omega (arith, p .deep, r .one))
-  full (L ∷ Ls) p = full-first r rule tally W w L Ls (p .one-first) (p .tied) (p .roomy) (even-of (r .n) (L ∷ Ls) (p .even))
+  full = full-laid r rule tally W w later
 
   abbrev pub Stood : Net → List (List (Node S V))
   Stood Ls = stood r rule tally W w (firsts r rule tally) Ls
 
   -- the nodes that stand are those of the arcs, with the labels worked out from the arcs
   pub nodes-X : (Ls : Net) → Well Ls → nodes (r .n) W (X Ls) ≡ Stood Ls
-  unfolding laid
-  nodes-X Ls p = ap (λ (k : ℕ). layers W k (X Ls)) (sym (p .deep)) ∙ layers-laid r rule tally W w later (firsts r rule tally) Ls (full Ls p)
+  nodes-X = nodes-laid r rule tally W w later
 
   pub arcs-X : (Ls : Net) → Well Ls → arcs (r .n) W (X Ls) ≡ Ls
-  arcs-X Ls p = ap (drawn (r .n)) (nodes-X Ls p) ∙ drawn-stood r rule tally W w (firsts r rule tally) Ls (full Ls p)
+  arcs-X = arcs-laid r rule tally W w later
 
   relaid-X : (Ls Ms : Net) → Well Ls → relaid r rule tally W (X Ls) Ms ≡ X Ms
   unfolding relaid
