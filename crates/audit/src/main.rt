@@ -1,5 +1,7 @@
 // Audits the diagram: rounds of up to 6 doors drawn by dice, and calls drawn by dice on their diagrams, held after each call
 // against a list of all orders that is made without a diagram. Prints a line for each round, and sums.
+#![tactic(auto)]
+
 mod ahead;
 mod calls;
 mod case;

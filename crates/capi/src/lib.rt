@@ -1,4 +1,6 @@
 // What C calls: a round sheet in one call, on numbers and bytes. The header morvuges.h says how they are laid out.
+#![tactic(auto)]
+
 ghost use Rattle.std.specs.Prelude.{◌≡◌, ◌+◌, ◌-◌, ◌*◌, ◌/◌, ◌≤◌, min, negsuc, length};
 ghost use Rattle.layers.specs.Calls.{openedOn, refined};
 ghost use Rattle.tallies.specs.Late.{lateSense};

@@ -1,4 +1,6 @@
 // The order diagram over a lent list of node records.
+#![tactic(auto)]
+
 pub mod diagram;
 mod lay;
 pub mod room;

@@ -1,4 +1,6 @@
 // Sets of doors as masks, and part orders.
+#![tactic(auto)]
+
 ghost use Rattle.std.specs.Prelude.{◌≡◌, ◌^◌, ◌<◌, ◌≤◌, bit_or};
 ghost use Rattle.doors.specs.Sets.{digit, has};
 

@@ -1,4 +1,6 @@
 // Works out all labels anew: one pass down over the sources and their doors, and one pass up.
+#![tactic(auto)]
+
 pub mod blank;
 mod down;
 pub mod leg;

@@ -1,4 +1,6 @@
 // The records of a diagram, and what is claimed of it.
+#![tactic(auto)]
+
 pub mod claim;
 pub mod node;
 pub mod refusal;

@@ -1,4 +1,6 @@
 // Whoever lends a list of records knows it again once the diagram is gone.
+#![tactic(auto)]
+
 ghost use Rattle.std.specs.Prelude.{true, false, ◌≡◌, ◌+◌, ◌*◌, ◌≤◌, length};
 ghost use Rattle.layers.specs.Calls.{openedOn};
 

@@ -1,4 +1,6 @@
 // Lists the orders of a small round one after another, straight from what allowed and cost mean; no diagram has a part in it.
+#![tactic(auto)]
+
 #[cfg(test)]
 mod cases;
 pub mod list;

@@ -1,5 +1,7 @@
 // Works out the labels of a full diagram of width 128 again and again, for the time that it takes.
 // The round's text comes on standard input; every node of every layer has an arc for every door.
+#![tactic(auto)]
+
 use anyhow::anyhow;
 use labels::relabel::relabel;
 use layers::node::{Arcs, Down, Label, Node, Up};

@@ -1,5 +1,7 @@
 // Says of one order of a round's doors when each door finishes, whether the order is allowed, and what it costs.
 // The round's text comes on standard input, and the doors as arguments.
+#![tactic(auto)]
+
 use anyhow::anyhow;
 use orders::order::Order;
 use orders::verdict::Verdict;

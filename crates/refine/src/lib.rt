@@ -1,4 +1,6 @@
 // Refining a diagram layer by layer, and whether it is settled.
+#![tactic(auto)]
+
 pub mod answer;
 pub mod refine;
 pub mod settled;

@@ -1,5 +1,7 @@
 // The round sheet: reads a round's text on standard input, opens its diagram, refines it, and prints a cost that no allowed
 // order undercuts, and which doors have to come ahead of which.
+#![tactic(auto)]
+
 use anyhow::anyhow;
 use diagram::diagram::Diagram;
 use diagram::room::Room;

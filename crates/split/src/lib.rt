@@ -1,4 +1,6 @@
 // Parting and joining nodes in the lent list of records.
+#![tactic(auto)]
+
 mod agree;
 pub mod agreeing;
 mod check;

@@ -3,6 +3,8 @@
 //   door   its number, opens, closes, due, work, change    (each door in turn)
 //   drive  a place, the minutes to each door, "-" to itself    (each place in turn, from the yard, 0)
 //   first  two doors, the first ahead of the second    (as often as wanted)
+#![tactic(auto)]
+
 mod cut;
 mod draft;
 mod kind;

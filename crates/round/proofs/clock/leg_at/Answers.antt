@@ -9,7 +9,7 @@ returns-in-Some c =
     let rows = c.args.drives.now in
     let row : c.in-Some.row.now ≡ get_or rows c.args.i [] =
     get_or_read rows c.args.i c.in-Some.row.now (ltb-true _ _ (sym c.in-Some.ensures.lookup.0)) c.in-Some.ensures.lookup.1 [] in
-    c.minutes-at.ensures ∙ ap (λ (l : List ℕ). get_or l c.args.j 0) row
+    c.minutes_at.ensures ∙ ap (λ (l : List ℕ). get_or l c.args.j 0) row
 
 pub returns-in-None : goal.returns-in-None
 returns-in-None c =

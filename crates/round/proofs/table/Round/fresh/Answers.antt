@@ -9,41 +9,19 @@ some-work zero a b = absurd (omega arith)
 some-work (suc zero) a b = omega arith
 some-work (suc (suc j)) a b = absurd (omega arith)
 
-pub invariant-of-result : goal.invariant-of-result
-invariant-of-result c = (
-  omega arith,
-  (
-    omega arith,
-    (
-      omega arith,
-      (
-        omega arith,
-        (
-          each-fresh (λ (d : Door). d.opens ≤ 9999) (omega arith) (omega arith),
-          (
-            each-fresh (λ (d : Door). d.closes ≤ 9999) (omega arith) (omega arith),
-            (
-              each-fresh (λ (d : Door). d.due ≤ 9999) (omega arith) (omega arith),
-              (
-                some-work,
-                (
-                  each-fresh (λ (d : Door). d.work ≤ 999) (omega arith) (omega arith),
-                  (
-                    each-fresh (λ (d : Door). negsuc 98 ≤ℤ d.change) (record { le = tt }) (record { le = tt }),
-                    (
-                      each-fresh (λ (d : Door). d.change ≤ℤ pos 99) (record { le = tt }) (record { le = tt }),
-                      (
-                        λ i j. omega (arith, no-leg 17 17 i j),
-                        (λ j. no-leg 17 17 j j, tt),
-                      ),
-                    ),
-                  ),
-                ),
-              ),
-            ),
-          ),
-        ),
-      ),
-    ),
-  ),
-)
+pub invariant_of-result : goal.invariant_of-result
+invariant_of-result c = record {
+  one = omega arith;
+  most = omega arith;
+  within = omega arith;
+  small = omega arith;
+  opens = each-fresh (λ (d : Door). d.opens ≤ 9999) (omega arith) (omega arith);
+  closes = each-fresh (λ (d : Door). d.closes ≤ 9999) (omega arith) (omega arith);
+  due = each-fresh (λ (d : Door). d.due ≤ 9999) (omega arith) (omega arith);
+  some = some-work;
+  work = each-fresh (λ (d : Door). d.work ≤ 999) (omega arith) (omega arith);
+  low = each-fresh (λ (d : Door). negsuc 98 ≤ℤ d.change) (record { le = tt }) (record { le = tt });
+  high = each-fresh (λ (d : Door). d.change ≤ℤ pos 99) (record { le = tt }) (record { le = tt });
+  legs = λ i j. omega (arith, no-leg 17 17 i j);
+  own = λ j. no-leg 17 17 j j;
+}
