@@ -12,7 +12,7 @@ returns c =
     let T = lateSense c.args.tally.now.n c.args.tally.now.doors in
     let d = c.open-diagram.result in
     let e = c.open-diagram.ensures in
-    c.layer-of.ensures
+    c.layer_of.ensures
     ∙ ap (λ k. min k 4294967295) (
     c.refine.ensures.answer
     ∙ ap (λ m. (refined m.round.now R T m.width d.nodes.now).0) e.room

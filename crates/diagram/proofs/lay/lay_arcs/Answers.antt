@@ -13,8 +13,8 @@ loop-k-preserved g c =
     let xs = c.args.nodes.now in
     let f = arcsOpened (everyDoor n) n w in
     let d = element xs k (omega arith) in
-    let arcs : c.arcs-at-arcs.result ≡ f k = c.arcs-at-arcs.ensures ∙ ap (λ (a : Arcs). arcsOpened a n w k) c.every-door-all.ensures in
-    c.put-arcs.ensures d
+    let arcs : c.arcs_at-arcs.result ≡ f k = c.arcs_at-arcs.ensures ∙ ap (λ (a : Arcs). arcsOpened a n w k) c.every_door-all.ensures in
+    c.put_arcs.ensures d
     ∙ ap₂ (λ (ys : List (Node g.row.S.Denot g.row.V.Denot)) (a : Arcs). set ys k (withArcs (get_or ys k d) a)) c.loop-k.invariant arcs
     ∙ arced-more f k xs d (omega arith)
     ∙ ap (λ (m : ℕ). arced f m xs) (sym (add-one k))

@@ -10,13 +10,13 @@ use Rattle.filter.proofs.FilterWords.{cut-words, cut-shaped, cut-timely, fewer-w
 use Rattle.filter.proofs.TrimNet.{timely-all, timely-from}
 use Rattle.filter.proofs.cut.cut.Goals as goal
 
-pub returns-then-not-may-cut : goal.returns-then-not-may-cut
-returns-then-not-may-cut g c =
+pub returns-then-not-may_cut : goal.returns-then-not-may_cut
+returns-then-not-may_cut g c =
     let r = c.args.round.now in
     let W = c.args.width in
     let xs = c.args.nodes.now in
     let q : Bool = fits r.n W (length xs) && timely (take (r.n * W) xs) in
-    let off : q ≡ false = sym c.if-not-may-cut.ensures in
+    let off : q ≡ false = sym c.if-not-may_cut.ensures in
     record {
       steps = sym (cond-false q _ _ off);
       counted = sym (cond-false q _ _ off);
@@ -28,7 +28,7 @@ trim-requires g c =
     let r = c.args.round.now in
     let W = c.args.width in
     let xs = c.args.nodes.now in
-    let p = and_parts (fits r.n W (length xs)) (timely (take (r.n * W) xs)) (sym c.if-not-may-cut.ensures) in
+    let p = and_parts (fits r.n W (length xs)) (timely (take (r.n * W) xs)) (sym c.if-not-may_cut.ensures) in
     let f = room-facts r.n W (length xs) p.0 in
     (f.high, omega (arith, f.enough), timely-all (take (r.n * W) xs) p.1)
 
@@ -37,7 +37,7 @@ redo-requires g c =
     let r = c.args.round.now in
     let W = c.args.width in
     let xs = c.args.nodes.now in
-    let p = and_parts (fits r.n W (length xs)) (timely (take (r.n * W) xs)) (sym c.if-not-may-cut.ensures) in
+    let p = and_parts (fits r.n W (length xs)) (timely (take (r.n * W) xs)) (sym c.if-not-may_cut.ensures) in
     let long : length c.trim.new.nodes ≡ length xs = c.trim.auto.nodes in
     ap (fits r.n W) long ∙ p.0
 
@@ -52,16 +52,16 @@ returns g c =
     let xs = c.args.nodes.now in
     let ys = c.redo.new.nodes in
     let q : Bool = fits r.n W (length xs) && timely (take (r.n * W) xs) in
-    let on : q ≡ true = sym c.if-not-may-cut.ensures in
+    let on : q ≡ true = sym c.if-not-may_cut.ensures in
     let yes : fits r.n W (length xs) ≡ true = (and_parts (fits r.n W (length xs)) (timely (take (r.n * W) xs)) on).0 in
     let long₁ : length c.trim.new.nodes ≡ length xs = c.trim.auto.nodes in
     let long₂ : length ys ≡ length c.trim.new.nodes = c.redo.auto.nodes in
     let long : length ys ≡ length xs = long₂ ∙ long₁ in
     let yes' : fits r.n W (length ys) ≡ true = ap (fits r.n W) long ∙ yes in
     let is : ys ≡ cutSteps r R T W v xs = c.redo.ensures ∙ ap (redone r R T W) (c.trim.ensures R) in
-    let count : c.saturating-sub.result ≡ arcCount r.n W xs - arcCount r.n W ys =
-    c.saturating-sub.ensures
-    ∙ ap₂ (λ (a b : ℕ). a - b) (c.count-arcs-before.ensures ∙ cond-true (fits r.n W (length xs)) _ _ yes) (c.count-arcs-left.ensures ∙ cond-true (fits r.n W (length ys)) _ _ yes') in
+    let count : c.saturating_sub.result ≡ arcCount r.n W xs - arcCount r.n W ys =
+    c.saturating_sub.ensures
+    ∙ ap₂ (λ (a b : ℕ). a - b) (c.count_arcs-before.ensures ∙ cond-true (fits r.n W (length xs)) _ _ yes) (c.count_arcs-left.ensures ∙ cond-true (fits r.n W (length ys)) _ _ yes') in
     record {
       steps = is ∙ sym (cond-true q _ _ on);
       counted = count ∙ sym (cond-true q _ _ on);

@@ -17,24 +17,24 @@ returns-then-left-eq0 g t c =
       few = omega arith;
     }
 
-pub kept-in-here-requires : goal.kept-in-here-requires
-kept-in-here-requires g t c =
+pub kept_in-here-requires : goal.kept_in-here-requires
+kept_in-here-requires g t c =
     let there = next-there c.args.w c.args.left (length c.args.nodes.now) c.if-left-eq0.false c.requires.1 in
     let ne = c.if-left-eq0.false in
     let whole = c.requires.0 in
-    (omega arith, omega (arith, there, c.next-count-m.ensures), c.requires.2)
+    (omega arith, omega (arith, there, c.next_count-m.ensures), c.requires.2)
 
-pub offset-bounds-nodes-w : goal.offset-bounds-nodes-w
-offset-bounds-nodes-w g t c = let h : c.args.w < length c.args.nodes.now = one-fits c.args.left c.args.w _ c.if-left-eq0.false c.requires.1 in search rules
+pub offset_bounds-nodes-w : goal.offset_bounds-nodes-w
+offset_bounds-nodes-w g t c = let h : c.args.w < length c.args.nodes.now = one-fits c.args.left c.args.w _ c.if-left-eq0.false c.requires.1 in search rules
 
-pub slice-bounds-rest-count : goal.slice-bounds-rest-count
-slice-bounds-rest-count g t c = let h : c.args.w < length c.args.nodes.now = one-fits c.args.left c.args.w _ c.if-left-eq0.false c.requires.1 in search rules
+pub slice_bounds-rest-count : goal.slice_bounds-rest-count
+slice_bounds-rest-count g t c = let h : c.args.w < length c.args.nodes.now = one-fits c.args.left c.args.w _ c.if-left-eq0.false c.requires.1 in search rules
 
-pub slice-bounds-rest-start : goal.slice-bounds-rest-start
-slice-bounds-rest-start g t c = let h : c.args.w < length c.args.nodes.now = one-fits c.args.left c.args.w _ c.if-left-eq0.false c.requires.1 in search rules
+pub slice_bounds-rest-start : goal.slice_bounds-rest-start
+slice_bounds-rest-start g t c = let h : c.args.w < length c.args.nodes.now = one-fits c.args.left c.args.w _ c.if-left-eq0.false c.requires.1 in search rules
 
-pub kept-from-later-requires : goal.kept-from-later-requires
-kept-from-later-requires g t c κs within =
+pub kept_from-later-requires : goal.kept_from-later-requires
+kept_from-later-requires g t c κs within =
     let xs = c.args.nodes.now in
     let w = c.args.w in
     let ne = c.if-left-eq0.false in
@@ -55,11 +55,11 @@ returns g t c =
           let r = c.args.round.now in
           let R = g.R.Rule.sense c.args.rule.now in
           let h : w < length xs = one-fits left w (length xs) ne c.requires.1 in
-          let here : c.kept-in-here.result ≡ arcsWithin (map (thinnedNode r R tally i (part w (after w (left - 1)) xs)) (take w xs)) =
-          c.kept-in-here.ensures.many tally ∙ ap (λ (m : ℕ). arcsWithin (map (thinnedNode r R tally i (part w m xs)) (take w xs))) c.next-count-m.ensures in
-          let later : c.kept-from-later.result ≡ arcsWithin (take ((left - 1) * w) (thinnedFrom r R tally w (suc i) (left - 1) (drop w xs))) =
-          c.kept-from-later.ensures.many tally
+          let here : c.kept_in-here.result ≡ arcsWithin (map (thinnedNode r R tally i (part w (after w (left - 1)) xs)) (take w xs)) =
+          c.kept_in-here.ensures.many tally ∙ ap (λ (m : ℕ). arcsWithin (map (thinnedNode r R tally i (part w m xs)) (take w xs))) c.next_count-m.ensures in
+          let later : c.kept_from-later.result ≡ arcsWithin (take ((left - 1) * w) (thinnedFrom r R tally w (suc i) (left - 1) (drop w xs))) =
+          c.kept_from-later.ensures.many tally
           ∙ ap₂ (λ (k : ℕ) (us : List (Node g.row.R-State.Denot g.row.V.Denot)). arcsWithin (take ((left - 1) * w) (thinnedFrom r R tally w k (left - 1) us))) (add-one i) (take_rest xs w) in
           ap₂ (λ (a b : ℕ). a + b) here later ∙ sym (kept_more r R tally w i left xs ne (omega arith));
-      few = omega (arith, both, c.kept-in-here.ensures.few, c.kept-from-later.ensures.few);
+      few = omega (arith, both, c.kept_in-here.ensures.few, c.kept_from-later.ensures.few);
     }

@@ -1,4 +1,4 @@
 use Rattle.filter.proofs.quiet.+kept_from.Given as goal
 
-abbrev pub decreases-kept-from : goal.decreases-kept-from
-decreases-kept-from g l = l.left
+abbrev pub decreases-kept_from : goal.decreases-kept_from
+decreases-kept_from g l = l.left

@@ -12,14 +12,14 @@ loop-a-preserved g c =
     let xs = c.args.nodes.now in
     let w = c.args.w in
     let a = c.loop-a.a in
-    let x = c.thin-at-node.result in (
+    let x = c.thin_at-node.result in (
       λ t.
           let f : Node g.row.R-State.Denot g.row.V.Denot → Node g.row.R-State.Denot g.row.V.Denot =
           thinnedNode c.args.round.now (g.R.Rule.sense c.args.rule.now) t c.args.i (part w c.args.m xs) in
           let more = sum_by_more (λ y. arcsOf (f y)) xs a x (omega arith) in
-          let here : arcsOf x ≡ arcsOf (f (get_or xs a x)) = ap arcsOf (c.thin-at-node.ensures t x) in
-          omega (arith, more, here, c.count-of-sum.ensures.many, c.loop-a.invariant.0 t),
-      omega (arith, c.count-of-sum.ensures.few),
+          let here : arcsOf x ≡ arcsOf (f (get_or xs a x)) = ap arcsOf (c.thin_at-node.ensures t x) in
+          omega (arith, more, here, c.count_of-sum.ensures.many, c.loop-a.invariant.0 t),
+      omega (arith, c.count_of-sum.ensures.few),
     )
 
 pub returns : goal.returns

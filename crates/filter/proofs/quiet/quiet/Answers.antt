@@ -7,9 +7,9 @@ use Rattle.filter.specs.Steps.{arcCount, quietSteps}
 use Rattle.filter.proofs.QuietWords.{quiet-words}
 use Rattle.filter.proofs.quiet.quiet.Goals as goal
 
-pub kept-from-left-requires : goal.kept-from-left-requires
-kept-from-left-requires g c =
-    let f = room-facts c.args.round.now.n c.args.width (length c.args.nodes.now) (sym c.if-not-has-room.ensures) in
+pub kept_from-left-requires : goal.kept_from-left-requires
+kept_from-left-requires g c =
+    let f = room-facts c.args.round.now.n c.args.width (length c.args.nodes.now) (sym c.if-not-has_room.ensures) in
     (omega arith, omega (arith, f.enough), f.high)
 
 pub returns : goal.returns
@@ -19,10 +19,10 @@ returns g c =
     let R = g.R.Rule.sense c.args.rule.now in
     let W = c.args.width in
     let xs = c.args.nodes.now in
-    let b = eqb c.kept-from-left.result c.count-arcs.result in
-    let yes : fits r.n W (length xs) ≡ true = sym c.if-not-has-room.ensures in
+    let b = eqb c.kept_from-left.result c.count_arcs.result in
+    let yes : fits r.n W (length xs) ≡ true = sym c.if-not-has_room.ensures in
     let is : (t : TallySense g.row.V.Denot) → b ≡ quietSteps r R t W xs =
-    λ t. ap₂ eqb (c.kept-from-left.ensures.many t) (c.count-arcs.ensures ∙ cond-true (fits r.n W (length xs)) _ _ yes) in
+    λ t. ap₂ eqb (c.kept_from-left.ensures.many t) (c.count_arcs.ensures ∙ cond-true (fits r.n W (length xs)) _ _ yes) in
     record {
       steps = λ t. is t ∙ sym (cond-true (fits r.n W (length xs)) _ _ yes);
       words = λ t fit s. is t ∙ quiet-words r R t W xs fit s;

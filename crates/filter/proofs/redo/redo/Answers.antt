@@ -16,7 +16,7 @@ returns g c =
     let xs = c.args.nodes.now in
     let ys = c.tidy.new.nodes in
     let is : ys ≡ tidied W (blankNode r R T) r.n firstMark xs =
-    c.tidy.ensures.records ∙ cond-true (fits r.n W (length xs)) _ _ c.requires ∙ ap (λ (z : Node g.row.R-State.Denot g.row.T-Value.Denot). tidied W z r.n firstMark xs) (c.blank-node-blank.ensures r) in
+    c.tidy.ensures.records ∙ cond-true (fits r.n W (length xs)) _ _ c.requires ∙ ap (λ (z : Node g.row.R-State.Denot g.row.T-Value.Denot). tidied W z r.n firstMark xs) (c.blank_node-blank.ensures r) in
     let long : length ys ≡ length xs = c.tidy.auto.nodes in
     let room : fits r.n W (length ys) ≡ true = ap (fits r.n W) long ∙ c.requires in
     c.relabel.ensures.passes ∙ cond-true (fits r.n W (length ys)) _ _ room ∙ ap (relabelled r R T W) is

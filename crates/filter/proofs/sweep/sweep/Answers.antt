@@ -9,9 +9,9 @@ use Rattle.filter.specs.Steps.{arcCount, redone, sweepSteps}
 use Rattle.filter.proofs.FilterWords.{sweep-words, swept-shaped, swept-timely, fewer-words}
 use Rattle.filter.proofs.sweep.sweep.Goals as goal
 
-pub thin-from-requires : goal.thin-from-requires
-thin-from-requires g c =
-    let f = room-facts c.args.round.now.n c.args.width (length c.args.nodes.now) (sym c.if-not-has-room.ensures) in
+pub thin_from-requires : goal.thin_from-requires
+thin_from-requires g c =
+    let f = room-facts c.args.round.now.n c.args.width (length c.args.nodes.now) (sym c.if-not-has_room.ensures) in
     (omega arith, omega (arith, f.enough))
 
 pub returns : goal.returns
@@ -23,15 +23,15 @@ returns g c =
     let W = c.args.width in
     let xs = c.args.nodes.now in
     let ys = c.redo.new.nodes in
-    let yes : fits r.n W (length xs) ≡ true = sym c.if-not-has-room.ensures in
-    let long₁ : length c.thin-from.new.nodes ≡ length xs = c.thin-from.auto.nodes in
-    let long₂ : length ys ≡ length c.thin-from.new.nodes = c.redo.auto.nodes in
+    let yes : fits r.n W (length xs) ≡ true = sym c.if-not-has_room.ensures in
+    let long₁ : length c.thin_from.new.nodes ≡ length xs = c.thin_from.auto.nodes in
+    let long₂ : length ys ≡ length c.thin_from.new.nodes = c.redo.auto.nodes in
     let long : length ys ≡ length xs = long₂ ∙ long₁ in
     let yes' : fits r.n W (length ys) ≡ true = ap (fits r.n W) long ∙ yes in
-    let is : ys ≡ sweepSteps r R T W xs = c.redo.ensures ∙ ap (redone r R T W) (c.thin-from.ensures T) in
-    let count : c.saturating-sub.result ≡ arcCount r.n W xs - arcCount r.n W ys =
-    c.saturating-sub.ensures
-    ∙ ap₂ (λ (a b : ℕ). a - b) (c.count-arcs-before.ensures ∙ cond-true (fits r.n W (length xs)) _ _ yes) (c.count-arcs-left.ensures ∙ cond-true (fits r.n W (length ys)) _ _ yes') in
+    let is : ys ≡ sweepSteps r R T W xs = c.redo.ensures ∙ ap (redone r R T W) (c.thin_from.ensures T) in
+    let count : c.saturating_sub.result ≡ arcCount r.n W xs - arcCount r.n W ys =
+    c.saturating_sub.ensures
+    ∙ ap₂ (λ (a b : ℕ). a - b) (c.count_arcs-before.ensures ∙ cond-true (fits r.n W (length xs)) _ _ yes) (c.count_arcs-left.ensures ∙ cond-true (fits r.n W (length ys)) _ _ yes') in
     record {
       steps = is ∙ sym (cond-true (fits r.n W (length xs)) _ _ yes);
       counted = count ∙ sym (cond-true (fits r.n W (length xs)) _ _ yes);

@@ -1,4 +1,4 @@
 use Rattle.filter.proofs.thin.+thin_from.Given as goal
 
-abbrev pub decreases-thin-from : goal.decreases-thin-from
-decreases-thin-from g l = l.left
+abbrev pub decreases-thin_from : goal.decreases-thin_from
+decreases-thin_from g l = l.left

@@ -10,5 +10,5 @@ returns g c t d =
     let p = c.args.p in
     let u = c.index-nodes-p.result in
     let f = thinnedNode c.args.round.now (g.R.Rule.sense c.args.rule.now) t c.args.i in
-    c.thin-node.ensures t
+    c.thin_node.ensures t
     ∙ ap₂ (λ vs v. f vs v) (part_of c.args.next c.args.count xs) (get_or_read xs p u (omega arith) c.index-nodes-p.is d)

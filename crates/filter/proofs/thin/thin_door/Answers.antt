@@ -23,4 +23,4 @@ returns g c t =
     let vs = c.args.vs.now in
     let k = c.args.k in
     let to = get_or u.arcs.to k 0 in
-    c.unless.ensures ∙ thin-here r R t c.args.i vs u (k + 1) to c.bars-at-gone.result (omega arith) (omega arith) (c.bars-at-gone.ensures t u)
+    c.unless.ensures ∙ thin-here r R t c.args.i vs u (k + 1) to c.bars_at-gone.result (omega arith) (omega arith) (c.bars_at-gone.ensures t u)

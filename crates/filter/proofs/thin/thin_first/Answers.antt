@@ -11,4 +11,4 @@ returns g c t =
     let w = c.args.w in
     let f = thinnedNode c.args.round.now (g.R.Rule.sense c.args.rule.now) t c.args.i (part w c.args.m xs) in
     let long : length (map f (take w xs)) ≡ w = length-map (take w xs) f ∙ length-take-le w xs (omega arith) in
-    c.thin-layer.ensures t ∙ ap (λ (k : ℕ). map f (take w xs) ++ drop k xs) (zero-add (length (map f (take w xs))) ∙ long)
+    c.thin_layer.ensures t ∙ ap (λ (k : ℕ). map f (take w xs) ++ drop k xs) (zero-add (length (map f (take w xs))) ∙ long)

@@ -10,7 +10,7 @@ loop-k-preserved g c t =
     let u = c.args.u in
     let k = c.loop-k.k in
     let f : ℕ → ℕ = byDoor (thinnedTo c.args.round.now (g.R.Rule.sense c.args.rule.now) t c.args.i c.args.vs.now u) u in
-    ap (set c.loop-k.to k) (c.thin-door.ensures t) ∙ ap (λ ts. set ts k (f k)) (c.loop-k.invariant t) ∙ over-more f (replicate {A = ℕ} 16 0) k c.loop-k-test.true
+    ap (set c.loop-k.to k) (c.thin_door.ensures t) ∙ ap (λ ts. set ts k (f k)) (c.loop-k.invariant t) ∙ over-more f (replicate {A = ℕ} 16 0) k c.loop-k-test.true
 
 pub returns : goal.returns
 unfolding thinnedNode

@@ -9,4 +9,4 @@ returns g c q =
     let end = c.args.round.now.n * c.args.width in
     let f = trimmedNode c.args.round.now q (g.T.Tally.sense c.args.tally.now) c.args.ceiling in
     let whole : end - 0 ≡ end = omega arith in
-    ap (λ us. us ++ drop (end - 0) xs) (c.trim-each.ensures q) ∙ ap (λ k. map f (take k xs) ++ drop k xs) whole
+    ap (λ us. us ++ drop (end - 0) xs) (c.trim_each.ensures q) ∙ ap (λ k. map f (take k xs) ++ drop k xs) whole

@@ -13,4 +13,4 @@ pub returns : goal.returns
 returns g c q =
     let u = c.args.u.now in
     let k = c.args.k in
-    c.unless.ensures ∙ trim-here c.args.round.now q (g.T.Tally.sense c.args.tally.now) c.args.ceiling u (k + 1) (get_or u.arcs.to k 0) c.too-dear-gone.result c.if-t-eq0.false (c.too-dear-gone.ensures q)
+    c.unless.ensures ∙ trim-here c.args.round.now q (g.T.Tally.sense c.args.tally.now) c.args.ceiling u (k + 1) (get_or u.arcs.to k 0) c.too_dear-gone.result c.if-t-eq0.false (c.too_dear-gone.ensures q)

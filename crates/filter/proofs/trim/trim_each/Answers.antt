@@ -7,8 +7,8 @@ use Rattle.labels.specs.Passes.{Early}
 use Rattle.filter.specs.Trimmed.{trimmedNode}
 use Rattle.filter.proofs.trim.trim_each.Goals as goal
 
-pub trim-node-requires : goal.trim-node-requires
-trim-node-requires g c =
+pub trim_node-requires : goal.trim_node-requires
+trim_node-requires g c =
     let E = c.args.us.now in
     let ys = c.loop-p.us in
     let p = c.loop-p.p in
@@ -28,11 +28,11 @@ loop-p-preserved g c =
     let E = c.args.us.now in
     let ys = c.loop-p.us in
     let p = c.loop-p.p in
-    let y = c.trim-node.result in
+    let y = c.trim_node.result in
     let past : p < p + 1 = omega arith in (
       λ q.
           let f = trimmedNode c.args.round.now q (g.T.Tally.sense c.args.tally.now) c.args.ceiling in
-          ap (set ys p) (c.trim-node.ensures q) ∙ map_over_more f E ys p c.index-us-p.result (omega arith) (c.loop-p.invariant.0 q) c.index-us-p.is,
+          ap (set ys p) (c.trim_node.ensures q) ∙ map_over_more f E ys p c.index-us-p.result (omega arith) (c.loop-p.invariant.0 q) c.index-us-p.is,
       drop-set-lt (p + 1) ys p y past
           ∙ sym (drop-drop 1 p ys)
           ∙ ap (drop 1) c.loop-p.invariant.1

@@ -10,7 +10,7 @@ loop-k-preserved g c q =
     let u = c.args.u.now in
     let k = c.loop-k.k in
     let f : ℕ → ℕ = byDoor (trimmedTo c.args.round.now q (g.T.Tally.sense c.args.tally.now) c.args.ceiling u) u in
-    ap (set c.loop-k.to k) (c.trim-door.ensures q) ∙ ap (λ ts. set ts k (f k)) (c.loop-k.invariant q) ∙ over-more f (replicate {A = ℕ} 16 0) k c.loop-k-test.true
+    ap (set c.loop-k.to k) (c.trim_door.ensures q) ∙ ap (λ ts. set ts k (f k)) (c.loop-k.invariant q) ∙ over-more f (replicate {A = ℕ} 16 0) k c.loop-k-test.true
 
 pub returns : goal.returns
 unfolding trimmedNode

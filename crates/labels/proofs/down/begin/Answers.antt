@@ -18,5 +18,5 @@ returns g c r =
     let R = g.R.Rule.sense c.args.rule.now in
     let T = g.T.Tally.sense c.args.tally.now in
     let d = c.index-us-0.result in
-    ap₂ (λ (vs : List (Node g.row.R-State.Denot g.row.T-Value.Denot)) (l : Down g.row.R-State.Denot g.row.T-Value.Denot). set vs 0 (withDown (get_or vs 0 d) l)) (c.clear.ensures r) (c.at-first-down.ensures r)
+    ap₂ (λ (vs : List (Node g.row.R-State.Denot g.row.T-Value.Denot)) (l : Down g.row.R-State.Denot g.row.T-Value.Denot). set vs 0 (withDown (get_or vs 0 d) l)) (c.clear.ensures r) (c.at_first-down.ensures r)
     ∙ set_first r R T c.args.us.now d c.requires

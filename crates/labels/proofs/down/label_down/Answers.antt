@@ -5,11 +5,11 @@ use Rattle.labels.specs.Passes.{part, Early, begun, layerDone, layersDone, passD
 use Rattle.labels.proofs.Earlies.{next-ends, layers-ready}
 use Rattle.labels.proofs.down.label_down.Goals as goal
 
-pub begin-at-requires : goal.begin-at-requires
-begin-at-requires g c = (omega arith, omega (arith, mul-le-mul_right c.args.width c.args.round.now.one, one-mul c.args.width))
+pub begin_at-requires : goal.begin_at-requires
+begin_at-requires g c = (omega arith, omega (arith, mul-le-mul_right c.args.width c.args.round.now.one, one-mul c.args.width))
 
-pub relabel-layer-requires : goal.relabel-layer-requires
-relabel-layer-requires g c =
+pub relabel_layer-requires : goal.relabel_layer-requires
+relabel_layer-requires g c =
     let r = c.args.round.now in
     let R = g.R.Rule.sense c.args.rule.now in
     let T = g.T.Tally.sense c.args.tally.now in
@@ -18,12 +18,12 @@ relabel-layer-requires g c =
     let i = c.loop-i.i in (
       omega (arith, add-mul i 1 w, one-mul w),
       omega (arith, next-ends r R T w xs c.requires.2 i (omega arith)),
-      subst (λ ys. All (Early (latest 15)) (part (i * w) w ys)) (sym (c.loop-i.invariant ∙ ap (layersDone r R T w i) (c.begin-at.ensures r)))
+      subst (λ ys. All (Early (latest 15)) (part (i * w) w ys)) (sym (c.loop-i.invariant ∙ ap (layersDone r R T w i) (c.begin_at.ensures r)))
           (layers-ready r R T w xs c.requires.2 i (omega arith)),
     )
 
-pub relabel-layer-requires-2 : goal.relabel-layer-requires-2
-relabel-layer-requires-2 g c =
+pub relabel_layer-requires-2 : goal.relabel_layer-requires-2
+relabel_layer-requires-2 g c =
     let r = c.args.round.now in
     let R = g.R.Rule.sense c.args.rule.now in
     let T = g.T.Tally.sense c.args.tally.now in
@@ -34,7 +34,7 @@ relabel-layer-requires-2 g c =
     let last : n - 1 + 1 ≡ n = omega (arith, c.args.round.now.one) in (
       omega (arith, add-mul (n - 1) 1 w, one-mul w, ap (λ k. k * w) last),
       omega arith,
-      subst (λ ys. All (Early (latest 15)) (part ((n - 1) * w) w ys)) (sym (c.loop-i.invariant ∙ ap (λ k. layersDone r R T w k c.begin-at.new.nodes) all ∙ ap (layersDone r R T w (n - 1)) (c.begin-at.ensures r)))
+      subst (λ ys. All (Early (latest 15)) (part ((n - 1) * w) w ys)) (sym (c.loop-i.invariant ∙ ap (λ k. layersDone r R T w k c.begin_at.new.nodes) all ∙ ap (layersDone r R T w (n - 1)) (c.begin_at.ensures r)))
           (layers-ready r R T w xs c.requires.2 (n - 1) (omega (arith, c.args.round.now.one))),
     )
 
@@ -45,9 +45,9 @@ loop-i-preserved g c =
     let T = g.T.Tally.sense c.args.tally.now in
     let w = c.args.width in
     let i = c.loop-i.i in
-    c.relabel-layer.ensures
+    c.relabel_layer.ensures
     ∙ ap (layerDone r R T w (i * w) w ((i + 1) * w)) c.loop-i.invariant
-    ∙ ap (λ k. layersDone r R T w k c.begin-at.new.nodes) (sym (add-one i))
+    ∙ ap (λ k. layersDone r R T w k c.begin_at.new.nodes) (sym (add-one i))
 
 pub returns : goal.returns
 unfolding passDown
@@ -58,5 +58,5 @@ returns g c =
     let w = c.args.width in
     let n = r.n in
     let all : c.loop-i.i ≡ n - 1 = omega arith in
-    c.relabel-layer-2.ensures
-    ∙ ap (layerDone r R T w ((n - 1) * w) 1 (n * w)) (c.loop-i.invariant ∙ ap (λ k. layersDone r R T w k c.begin-at.new.nodes) all ∙ ap (layersDone r R T w (n - 1)) (c.begin-at.ensures r))
+    c.relabel_layer-2.ensures
+    ∙ ap (layerDone r R T w ((n - 1) * w) 1 (n * w)) (c.loop-i.invariant ∙ ap (λ k. layersDone r R T w k c.begin_at.new.nodes) all ∙ ap (layersDone r R T w (n - 1)) (c.begin_at.ensures r))

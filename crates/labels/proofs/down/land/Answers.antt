@@ -16,5 +16,5 @@ returns g c r =
     let z = blankNode r R T in
     ap (set vs b)
     (ap (λ l. withDown (get_or vs b c.index-vs-b-2.result) l)
-    (c.take-in-down.ensures r ∙ ap (λ (v : Node g.row.R-State.Denot g.row.T-Value.Denot). taken r R T v.label.down x) (get_or_read vs b c.index-vs-b.result c.requires c.index-vs-b.is z))
+    (c.take_in-down.ensures r ∙ ap (λ (v : Node g.row.R-State.Denot g.row.T-Value.Denot). taken r R T v.label.down x) (get_or_read vs b c.index-vs-b.result c.requires c.index-vs-b.is z))
     ∙ ap (λ (v : Node g.row.R-State.Denot g.row.T-Value.Denot). withDown v (taken r R T (get_or vs b z).label.down x)) (get_or_default vs b c.index-vs-b-2.result z c.requires))

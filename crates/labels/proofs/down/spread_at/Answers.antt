@@ -4,12 +4,12 @@ use Rattle.layers.specs.declared.node.Node.{Node}
 use Rattle.labels.specs.Passes.{part, over, spread}
 use Rattle.labels.proofs.down.spread_at.Goals as goal
 
-pub node-at-u-requires : goal.node-at-u-requires
-node-at-u-requires g c = omega arith
+pub node_at-u-requires : goal.node_at-u-requires
+node_at-u-requires g c = omega arith
 
-pub spread-into-requires : goal.spread-into-requires
-spread-into-requires g c =
-    (c.requires.1, omega arith, subst (λ (u : Node g.row.R-State.Denot g.row.T-Value.Denot). u.label.down.finish ≤ latest 15) (sym (c.node-at-u.ensures c.node-at-u.result)) (c.requires.2 c.node-at-u.result))
+pub spread_into-requires : goal.spread_into-requires
+spread_into-requires g c =
+    (c.requires.1, omega arith, subst (λ (u : Node g.row.R-State.Denot g.row.T-Value.Denot). u.label.down.finish ≤ latest 15) (sym (c.node_at-u.ensures c.node_at-u.result)) (c.requires.2 c.node_at-u.result))
 
 pub returns : goal.returns
 returns g c d =
@@ -17,4 +17,4 @@ returns g c d =
     let R = g.R.Rule.sense c.args.rule.now in
     let T = g.T.Tally.sense c.args.tally.now in
     let xs = c.args.nodes.now in
-    c.spread-into.ensures ∙ ap (λ (u : Node g.row.R-State.Denot g.row.T-Value.Denot). over c.args.at (spread r R T (part c.args.at c.args.count xs) u) xs) (c.node-at-u.ensures d)
+    c.spread_into.ensures ∙ ap (λ (u : Node g.row.R-State.Denot g.row.T-Value.Denot). over c.args.at (spread r R T (part c.args.at c.args.count xs) u) xs) (c.node_at-u.ensures d)

@@ -7,7 +7,7 @@ use Rattle.labels.proofs.leg.leg_from.Goals as goal
 pub loop-i-preserved : goal.loop-i-preserved
 loop-i-preserved c =
     let f = legStep c.args.round.now c.args.lasts c.args.j in
-    c.look-from-best.ensures ∙ ap (λ o. f o c.loop-i.i) c.loop-i.invariant ∙ sym (folded-counting f None c.loop-i.i)
+    c.look_from-best.ensures ∙ ap (λ o. f o c.loop-i.i) c.loop-i.invariant ∙ sym (folded-counting f None c.loop-i.i)
 
 pub returns-in-None : goal.returns-in-None
 unfolding leg

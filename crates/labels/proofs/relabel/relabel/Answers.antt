@@ -18,7 +18,7 @@ returns g c =
     let R = g.R.Rule.sense c.args.rule.now in
     let T = g.T.Tally.sense c.args.tally.now in
     let long = length xs in
-    let is : c.label-up.new.nodes ≡ relabelled r R T w xs = c.label-up.ensures ∙ ap (passUp n w) c.label-down.ensures in
+    let is : c.label_up.new.nodes ≡ relabelled r R T w xs = c.label_up.ensures ∙ ap (passUp n w) c.label_down.ensures in
     record {
       passes = is ∙ sym (cond-true (fits n w long) _ _ (room n w long (omega arith) (omega arith) (omega arith)));
       labelled = λ Ls a b h p e. is ∙ relabelled-read r R T w Ls xs p h e;

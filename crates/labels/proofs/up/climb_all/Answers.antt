@@ -7,7 +7,7 @@ use Rattle.labels.proofs.up.climb_all.Goals as goal
 pub loop-k-preserved : goal.loop-k-preserved
 loop-k-preserved g c =
     let F = upBy c.args.vs.now c.args.u.now in
-    c.climb-by-got.ensures ∙ ap (λ o. fold takenUp o (F c.loop-k.k)) c.loop-k.invariant ∙ sym (folded-counting-more takenUp F None c.loop-k.k)
+    c.climb_by-got.ensures ∙ ap (λ o. fold takenUp o (F c.loop-k.k)) c.loop-k.invariant ∙ sym (folded-counting-more takenUp F None c.loop-k.k)
 
 pub returns-in-None : goal.returns-in-None
 unfolding upsOf

@@ -25,5 +25,5 @@ returns g c =
     let vs = c.args.vs.now in
     let j = c.args.k + 1 in
     let e = ne_eqb t 0 c.if-t-eq0.false in
-    let one = climb-one vs (t - 1) j c.climb-from-x.result (omega arith) c.climb-from-x.ensures in
-    rw e (c.take-up.ensures ∙ ap (fold takenUp c.args.got) (sym one))
+    let one = climb-one vs (t - 1) j c.climb_from-x.result (omega arith) c.climb_from-x.ensures in
+    rw e (c.take_up.ensures ∙ ap (fold takenUp c.args.got) (sym one))

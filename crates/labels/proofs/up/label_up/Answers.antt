@@ -2,15 +2,15 @@ use Rattle.std.proofs.Common.{◌≡◌, ℕ, suc, ◌+◌, ◌-◌, ◌*◌, �
 use Rattle.labels.specs.Passes.{layerUp, layersUp, passUp}
 use Rattle.labels.proofs.up.label_up.Goals as goal
 
-pub rise-layer-requires : goal.rise-layer-requires
-rise-layer-requires g c =
+pub rise_layer-requires : goal.rise_layer-requires
+rise_layer-requires g c =
     let n = c.args.n in
     let w = c.args.width in
     let last : n - 1 + 1 ≡ n = omega arith in
     (omega (arith, add-mul (n - 1) 1 w, one-mul w, ap (λ k. k * w) last), omega arith)
 
-pub rise-layer-requires-in-loop-i : goal.rise-layer-requires-in-loop-i
-rise-layer-requires-in-loop-i g c =
+pub rise_layer-requires-in-loop-i : goal.rise_layer-requires-in-loop-i
+rise_layer-requires-in-loop-i g c =
     let i = c.loop-i.i - 1 in
     let w = c.args.width in
     let h : i + 1 + 1 ≤ c.args.n = omega arith in
@@ -21,11 +21,11 @@ loop-i-preserved g c =
     let i = c.loop-i.i - 1 in
     let w = c.args.width in
     let e : suc i ≡ c.loop-i.i = omega arith in
-    (omega arith, ap (layersUp w i) c.rise-layer-in-loop-i.ensures ∙ ap (λ k. layersUp w k c.loop-i.nodes) e ∙ c.loop-i.invariant.1)
+    (omega arith, ap (layersUp w i) c.rise_layer-in-loop-i.ensures ∙ ap (λ k. layersUp w k c.loop-i.nodes) e ∙ c.loop-i.invariant.1)
 
 pub returns : goal.returns
 unfolding passUp
 returns g c =
     let w = c.args.width in
     let e : 0 ≡ c.loop-i.i = omega arith in
-    ap (λ k. layersUp w k c.loop-i.nodes) e ∙ c.loop-i.invariant.1 ∙ ap (layersUp w (c.args.n - 1)) (c.rise-layer.ensures ∙ ap (layerUp ((c.args.n - 1) * w) w (c.args.n * w) 1) c.clear-end.ensures)
+    ap (λ k. layersUp w k c.loop-i.nodes) e ∙ c.loop-i.invariant.1 ∙ ap (layersUp w (c.args.n - 1)) (c.rise_layer.ensures ∙ ap (layerUp ((c.args.n - 1) * w) w (c.args.n * w) 1) c.clear_end.ensures)

@@ -21,14 +21,14 @@ loop-a-preserved g c =
     let us = part at w E in
     let f = risen (part next n E) in
     let ws = map f (take a us) ++ drop a us in
-    let x = c.risen-at-node.result in
+    let x = c.risen_at-node.result in
     let z = get_or us a x in
     let long : length us ≡ w = length_part at w E (omega arith) in
     let long' : length ws ≡ length us = length-mapped f us a (omega arith) in
     let vs : part next n ys ≡ part next n E = ap (part next n) c.loop-a.invariant ∙ part-after-over at ws E next n (omega arith) (omega arith) in
     let here : get_or ys (at + a) z ≡ z =
     ap (λ zs. get_or zs (at + a) z) c.loop-a.invariant ∙ getD-in-over at a ws E z (omega arith) (omega arith) ∙ getD-mapped f us a z (omega arith) ∙ get_or_default us a z x (omega arith) in
-    let new : x ≡ f z = c.risen-at-node.ensures z ∙ ap₂ (λ v u. risen v u) vs here in
+    let new : x ≡ f z = c.risen_at-node.ensures z ∙ ap₂ (λ v u. risen v u) vs here in
     let read : z ≡ get_or ws a z = sym (getD-mapped f us a z (omega arith) ∙ get_or_default us a z x (omega arith)) in
     c.put.ensures
     ∙ ap₂ (λ zs y. set zs (at + a) y) c.loop-a.invariant new

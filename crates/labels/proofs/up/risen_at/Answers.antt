@@ -10,6 +10,6 @@ returns g c d =
     let xs = c.args.nodes.now in
     let p = c.args.p in
     let u = c.index-nodes-p.result in
-    c.with-up.ensures
-    ∙ ap (withUp u) c.climb-all-up.ensures
+    c.with_up.ensures
+    ∙ ap (withUp u) c.climb_all-up.ensures
     ∙ ap₂ (λ vs v. risen vs v) (part_of c.args.next c.args.count xs) (get_or_read xs p u (omega arith) c.index-nodes-p.is d)

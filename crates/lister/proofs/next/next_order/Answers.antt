@@ -9,6 +9,6 @@ pub returns : goal.returns
 returns c =
     let xs = c.args.doors.now in
     let ws = c.swap.new.self in
-    let a = c.last-rise-rise.result in
+    let a = c.last_rise-rise.result in
     let ys = c.reverse.new.self in
     IsPermutation-trans xs ws (put_mid a (length ws - a) ws ys) c.swap.ensures.permutation (shuffled-mid a (length ws - a) ws ys c.reverse.ensures.permutation)

@@ -19,12 +19,12 @@ returns g c =
     let self = g.met.R.Rule.reflexive c.args.rule.now in
     let W = c.args.width in
     let xs = c.args.nodes.now in
-    let ys = c.sweep-out.new.nodes in
-    let yes : fits r.n W (length xs) ≡ true = sym c.if-not-has-room.ensures in
+    let ys = c.sweep_out.new.nodes in
+    let yes : fits r.n W (length xs) ≡ true = sym c.if-not-has_room.ensures in
     let p = someLayers r R T W (r.n - 1) 1 xs in
-    let left : c.refine-layers-answer.new.nodes ≡ p.1 = c.refine-layers-answer.ensures.records in
-    let is : ys ≡ (refineSteps r R T W xs).1 = c.sweep-out.ensures ∙ ap (λ (zs : List (Node g.row.R-State.Denot g.row.T-Value.Denot)). sweepsOut r R T W (suc (arcCount r.n W zs)) zs) left in
-    let said : answer_of c.refine-layers-answer.result ≡ (refineSteps r R T W xs).0 = c.refine-layers-answer.ensures.answer in
+    let left : c.refine_layers-answer.new.nodes ≡ p.1 = c.refine_layers-answer.ensures.records in
+    let is : ys ≡ (refineSteps r R T W xs).1 = c.sweep_out.ensures ∙ ap (λ (zs : List (Node g.row.R-State.Denot g.row.T-Value.Denot)). sweepsOut r R T W (suc (arcCount r.n W zs)) zs) left in
+    let said : answer_of c.refine_layers-answer.result ≡ (refineSteps r R T W xs).0 = c.refine_layers-answer.ensures.answer in
     record {
       steps = is ∙ sym (cond-true (fits r.n W (length xs)) _ _ yes);
       answer = said ∙ sym (cond-true (fits r.n W (length xs)) _ _ yes);

@@ -17,11 +17,11 @@ returns g c =
     let i = c.args.i in
     let xs = c.args.nodes.now in
     let ys = c.sweep.new.nodes in
-    let zs = c.part-layer-full.new.nodes in
+    let zs = c.part_layer-full.new.nodes in
     let is : ys ≡ sweepSteps r R T W xs = c.sweep.ensures.steps ∙ cond-true (fits r.n W (length xs)) _ _ c.requires in
-    let parts : ◌≡◌ {A = Bool × List (Node g.row.R-State.Denot g.row.T-Value.Denot)} (c.part-layer-full.result, zs) (layerSteps r R T W i (sweepSteps r R T W xs)) = c.part-layer-full.ensures.steps ∙ ap (layerSteps r R T W i) is in
+    let parts : ◌≡◌ {A = Bool × List (Node g.row.R-State.Denot g.row.T-Value.Denot)} (c.part_layer-full.result, zs) (layerSteps r R T W i (sweepSteps r R T W xs)) = c.part_layer-full.ensures.steps ∙ ap (layerSteps r R T W i) is in
     let long₁ : length ys ≡ length xs = c.sweep.auto.nodes in
-    let long₂ : length zs ≡ length ys = c.part-layer-full.auto.nodes in
+    let long₂ : length zs ≡ length ys = c.part_layer-full.auto.nodes in
     let room : fits r.n W (length zs) ≡ true = ap (fits r.n W) (long₂ ∙ long₁) ∙ c.requires in
     record {
       full = ap (λ (p : Bool × List (Node g.row.R-State.Denot g.row.T-Value.Denot)). p.0) parts;

@@ -5,13 +5,13 @@ use Rattle.refine.specs.Steps.{someLayers}
 use Rattle.refine.proofs.Turns.{layers-full, layers-next, layers-none}
 use Rattle.refine.proofs.refine.refine_layers.Goals as goal
 
-pub returns-then-refine-layer : goal.returns-then-refine-layer
-returns-then-refine-layer g c =
+pub returns-then-refine_layer : goal.returns-then-refine_layer
+returns-then-refine_layer g c =
     let r = c.args.round.now in
     let R = g.R.Rule.sense c.args.rule.now in
     let T = g.T.Tally.sense c.args.tally.now in
-    let e = c.refine-layer.ensures in
-    let all = layers-full r R T c.args.width r.n c.loop-i.i c.loop-i.nodes c.refine-layer.new.nodes c.refine-layer.result (omega arith) e.full e.records c.if-refine-layer.true ∙ c.loop-i.invariant.1 in
+    let e = c.refine_layer.ensures in
+    let all = layers-full r R T c.args.width r.n c.loop-i.i c.loop-i.nodes c.refine_layer.new.nodes c.refine_layer.result (omega arith) e.full e.records c.if-refine_layer.true ∙ c.loop-i.invariant.1 in
     record {
       answer = ap (λ (p : ℕ × List (Node g.row.R-State.Denot g.row.T-Value.Denot)). p.0) all;
       records = ap (λ (p : ℕ × List (Node g.row.R-State.Denot g.row.T-Value.Denot)). p.1) all;
@@ -22,10 +22,10 @@ loop-i-preserved g c =
     let r = c.args.round.now in
     let R = g.R.Rule.sense c.args.rule.now in
     let T = g.T.Tally.sense c.args.tally.now in
-    let e = c.refine-layer.ensures in
-    let long : length c.refine-layer.new.nodes ≡ length c.loop-i.nodes = c.refine-layer.auto.nodes in (
+    let e = c.refine_layer.ensures in
+    let long : length c.refine_layer.new.nodes ≡ length c.loop-i.nodes = c.refine_layer.auto.nodes in (
       ap (fits r.n c.args.width) long ∙ c.loop-i.invariant.0,
-      layers-next r R T c.args.width r.n c.loop-i.i c.loop-i.nodes c.refine-layer.new.nodes c.refine-layer.result (omega arith) e.full e.records c.if-refine-layer.false ∙ c.loop-i.invariant.1,
+      layers-next r R T c.args.width r.n c.loop-i.i c.loop-i.nodes c.refine_layer.new.nodes c.refine_layer.result (omega arith) e.full e.records c.if-refine_layer.false ∙ c.loop-i.invariant.1,
     )
 
 pub returns : goal.returns

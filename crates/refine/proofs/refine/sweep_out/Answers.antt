@@ -19,8 +19,8 @@ returns-then-sweep-eq0 g c =
     let fit : fits r.n W (length xs) ≡ true = c.loop-turn.invariant.0 in
     let is : ys ≡ sweepSteps r R T W xs = c.sweep.ensures.steps ∙ cond-true (fits r.n W (length xs)) _ _ fit in
     let count : c.sweep.result ≡ arcCount r.n W xs - arcCount r.n W ys = c.sweep.ensures.counted ∙ cond-true (fits r.n W (length xs)) _ _ fit in
-    let most = c.count-arcs-most.result in
-    let all : most ≡ arcCount r.n W c.args.nodes.now = c.count-arcs-most.ensures ∙ cond-true (fits r.n W (length c.args.nodes.now)) _ _ c.requires in
+    let most = c.count_arcs-most.result in
+    let all : most ≡ arcCount r.n W c.args.nodes.now = c.count_arcs-most.ensures ∙ cond-true (fits r.n W (length c.args.nodes.now)) _ _ c.requires in
     sweeps-done r R T W (suc most - c.loop-turn.turn) (most - c.loop-turn.turn) xs ys c.sweep.result (omega arith) is count c.if-sweep-eq0.true
     ∙ c.loop-turn.invariant.1 ∙ ap (λ (m : ℕ). sweepsOut r R T W (suc m) c.args.nodes.now) all
 
@@ -36,7 +36,7 @@ loop-turn-preserved g c =
     let is : ys ≡ sweepSteps r R T W xs = c.sweep.ensures.steps ∙ cond-true (fits r.n W (length xs)) _ _ fit in
     let count : c.sweep.result ≡ arcCount r.n W xs - arcCount r.n W ys = c.sweep.ensures.counted ∙ cond-true (fits r.n W (length xs)) _ _ fit in
     let long : length ys ≡ length xs = c.sweep.auto.nodes in
-    let most = c.count-arcs-most.result in (
+    let most = c.count_arcs-most.result in (
       ap (fits r.n W) long ∙ fit,
       sweeps-next r R T W (suc most - c.loop-turn.turn) (suc most - (c.loop-turn.turn + 1)) xs ys c.sweep.result (omega arith) is count c.if-sweep-eq0.false ∙ c.loop-turn.invariant.1,
     )
@@ -53,8 +53,8 @@ returns-else-sweep-eq0 g c =
     let fit : fits r.n W (length xs) ≡ true = c.loop-turn.invariant.0 in
     let is : ys ≡ sweepSteps r R T W xs = c.sweep.ensures.steps ∙ cond-true (fits r.n W (length xs)) _ _ fit in
     let count : c.sweep.result ≡ arcCount r.n W xs - arcCount r.n W ys = c.sweep.ensures.counted ∙ cond-true (fits r.n W (length xs)) _ _ fit in
-    let most = c.count-arcs-most.result in
-    let all : most ≡ arcCount r.n W c.args.nodes.now = c.count-arcs-most.ensures ∙ cond-true (fits r.n W (length c.args.nodes.now)) _ _ c.requires in
+    let most = c.count_arcs-most.result in
+    let all : most ≡ arcCount r.n W c.args.nodes.now = c.count_arcs-most.ensures ∙ cond-true (fits r.n W (length c.args.nodes.now)) _ _ c.requires in
     sym (sweeps-none r R T W (suc most - (c.loop-turn.turn + 1)) ys (omega arith))
     ∙ sweeps-next r R T W (suc most - c.loop-turn.turn) (suc most - (c.loop-turn.turn + 1)) xs ys c.sweep.result (omega arith) is count c.if-sweep-eq0.false
     ∙ c.loop-turn.invariant.1 ∙ ap (λ (m : ℕ). sweepsOut r R T W (suc m) c.args.nodes.now) all

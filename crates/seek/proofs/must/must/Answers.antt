@@ -12,8 +12,8 @@ room n w long e =
     let c = and_parts _ _ b in
     (leb-true n 16 c.0, leb-true w 128 (and_parts _ _ a).0, leb-true (n * w + 1) long c.1)
 
-pub first-row-row-requires : goal.first-row-row-requires
-first-row-row-requires g c = room c.args.n c.args.width (length c.args.nodes.now) (sym c.if-not-fits.ensures)
+pub first_row-row-requires : goal.first_row-row-requires
+first_row-row-requires g c = room c.args.n c.args.width (length c.args.nodes.now) (sym c.if-not-fits.ensures)
 
 pub returns : goal.returns
 unfolding must seenFrom
@@ -22,4 +22,4 @@ returns g c =
     let w = c.args.width in
     let xs = c.args.nodes.now in
     let yes : fits n w (length xs) ≡ true = sym c.if-not-fits.ensures in
-    ap (λ (s : Seen). not s.both) (c.first-row-row.ensures 1) ∙ sym (cond-true (fits n w (length xs)) _ _ yes)
+    ap (λ (s : Seen). not s.both) (c.first_row-row.ensures 1) ∙ sym (cond-true (fits n w (length xs)) _ _ yes)

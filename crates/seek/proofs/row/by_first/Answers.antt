@@ -11,5 +11,5 @@ unfolding byFirst
 loop-k-preserved g c =
     let below = c.args.below.now in
     c.either-got.ensures
-    ∙ ap₂ either c.loop-k.invariant c.by-door-more.ensures
+    ∙ ap₂ either c.loop-k.invariant c.by_door-more.ensures
     ∙ ap (byFirst c.args.i c.args.j below c.args.u.now) (sym (add-one c.loop-k.k))

@@ -12,10 +12,10 @@ loop-k-init g c =
     let n = c.args.n in
     let w = c.args.width in
     let xs = c.args.nodes.now in
-    (omega arith, subst (λ (row : List Seen). Reached i j n w xs row n) (sym c.end-row-row.ensures) (reached-end i j n w xs))
+    (omega arith, subst (λ (row : List Seen). Reached i j n w xs row n) (sym c.end_row-row.ensures) (reached-end i j n w xs))
 
-pub row-at-row-requires : goal.row-at-row-requires
-row-at-row-requires g c =
+pub row_at-row-requires : goal.row_at-row-requires
+row_at-row-requires g c =
     let k = c.loop-k.k - 1 in
     let w = c.args.width in
     let h : suc k ≤ c.args.n = omega (arith, c.loop-k.invariant.0) in
@@ -31,7 +31,7 @@ loop-k-preserved g c =
     let k = c.loop-k.k - 1 in
     let e : c.loop-k.k ≡ suc k = omega arith in
     let before : Reached i j n w xs c.loop-k.row (suc k) = subst (λ (m : ℕ). Reached i j n w xs c.loop-k.row m) e c.loop-k.invariant.1 in
-    (omega (arith, c.loop-k.invariant.0), reached-more i j n w xs k c.loop-k.row c.row-at-row.result (omega (arith, c.loop-k.invariant.0)) c.row-at-row.ensures before)
+    (omega (arith, c.loop-k.invariant.0), reached-more i j n w xs k c.loop-k.row c.row_at-row.result (omega (arith, c.loop-k.invariant.0)) c.row_at-row.ensures before)
 
 pub returns : goal.returns
 returns g c =

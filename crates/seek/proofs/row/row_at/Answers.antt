@@ -11,4 +11,4 @@ returns g c =
     let xs = c.args.nodes.now in
     let f : Node g.row.S.Denot g.row.V.Denot → Seen = λ u. byFirst c.args.i c.args.j c.args.below.now u c.args.n in
     let long : at + w - at ≡ w = omega arith in
-    λ t. c.row-of.ensures t ∙ ap (λ (m : ℕ). ofTarget f (take m (drop at xs)) t) long
+    λ t. c.row_of.ensures t ∙ ap (λ (m : ℕ). ofTarget f (take m (drop at xs)) t) long

@@ -20,13 +20,13 @@ loop-a-preserved g c =
     let inv = c.loop-a.invariant in
     let u = c.index-us-a.result in
     let is : u ≡ get_or us a u = c.index-us-a.is in
-    let live : c.goes-on-live.result ≡ allUsed (take (a + 1) us) =
-    c.goes-on-live.ensures
+    let live : c.goes_on-live.result ≡ allUsed (take (a + 1) us) =
+    c.goes_on-live.ensures
     ∙ ap₂ (λ (b : Bool) (x : Node g.row.S.Denot g.row.V.Denot). b && used x) inv.1 is
     ∙ sym (all_more us a u (omega arith))
     ∙ ap (λ (m : ℕ). allUsed (take m us)) (sym (add-one a)) in
-    let v : c.seen-if.result ≡ seenIf (allUsed (take (a + 1) us)) (f (get_or us a u)) = c.seen-if.ensures ∙ ap₂ (λ (b : Bool) (x : Node g.row.S.Denot g.row.V.Denot). seenIf b (f x)) live is in
-    (length-set row (a + 1) c.seen-if.result ∙ inv.0, live, row_more f us a u row c.seen-if.result (omega arith) (omega (arith, inv.0)) v inv.2)
+    let v : c.seen_if.result ≡ seenIf (allUsed (take (a + 1) us)) (f (get_or us a u)) = c.seen_if.ensures ∙ ap₂ (λ (b : Bool) (x : Node g.row.S.Denot g.row.V.Denot). seenIf b (f x)) live is in
+    (length-set row (a + 1) c.seen_if.result ∙ inv.0, live, row_more f us a u row c.seen_if.result (omega arith) (omega (arith, inv.0)) v inv.2)
 
 pub returns : goal.returns
 returns g c =

@@ -4,4 +4,4 @@ use Rattle.split.proofs.agree.agrees.Goals as goal
 
 pub returns : goal.returns
 unfolding agree brought arrive
-returns g c t = c.alls-agree.ensures
+returns g c t = c.alls_agree.ensures

@@ -16,7 +16,7 @@ loop-a-preserved g c s =
     let x = c.index-us-a.result in
     let F = fromNode r R s c.args.t in
     let got = fold (met r R s) (None, true) (arrivals r R s c.args.t (take a us)) in
-    c.meet-node-all.ensures s
+    c.meet_node-all.ensures s
     ∙ ap (λ p. fold (met r R s) p (F x)) (c.loop-a.invariant s)
     ∙ ap (λ y. fold (met r R s) got (F y)) c.index-us-a.is
     ∙ sym (folded-take-more (met r R s) F (None, true) us a x c.loop-a-test.true)

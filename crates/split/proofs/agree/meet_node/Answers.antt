@@ -20,7 +20,7 @@ loop-k-preserved g c s =
     let R = g.R.Rule.sense c.args.rule.now in
     let k = c.loop-k.k in
     let F = byDoor r R s c.args.t c.args.u.now in
-    c.meet-door-all.ensures s
+    c.meet_door-all.ensures s
     ∙ ap (λ p. fold (met r R s) p (F k)) (c.loop-k.invariant s)
     ∙ sym (folded-counting-more (met r R s) F (seen r R s c.args.got) k)
 

@@ -8,28 +8,28 @@ use Rattle.split.proofs.AgreedWords.{agreed-said}
 use Rattle.split.proofs.Doing.{layer-small, layer-within}
 use Rattle.split.proofs.agreeing.agreed.Goals as goal
 
-pub returns-then-not-has-room : goal.returns-then-not-has-room
+pub returns-then-not-has_room : goal.returns-then-not-has_room
 unfolding agreedSteps
-returns-then-not-has-room g c =
+returns-then-not-has_room g c =
     let r = c.args.round.now in
     let R = g.R.Rule.sense c.args.rule.now in
     let xs = c.args.nodes.now in
-    let no : (s : TallySense g.row.V.Denot) → false ≡ agreedSteps r R s c.args.width xs = λ s. sym (cond-false (fits r.n c.args.width (length xs)) _ _ (sym c.if-not-has-room.ensures)) in
+    let no : (s : TallySense g.row.V.Denot) → false ≡ agreedSteps r R s c.args.width xs = λ s. sym (cond-false (fits r.n c.args.width (length xs)) _ _ (sym c.if-not-has_room.ensures)) in
     record { steps = no; words = λ s. agreed-said r R s c.args.width xs false (no s) }
 
 pub loop-k-init : goal.loop-k-init
 unfolding agreedLayers
 loop-k-init g c s = refl
 
-pub overflow-mul-k : goal.overflow-mul-k
-overflow-mul-k g c =
-    let room = room-facts c.args.round.now.n c.args.width (length c.args.nodes.now) (sym c.if-not-has-room.ensures) in
+pub overflow_mul-k : goal.overflow_mul-k
+overflow_mul-k g c =
+    let room = room-facts c.args.round.now.n c.args.width (length c.args.nodes.now) (sym c.if-not-has_room.ensures) in
     let small = layer-small c.args.round.now.n c.args.width c.loop-k.k c.args.round.now.most room.high (omega (arith, c.loop-k-test.true)) in
     omega arith
 
-pub layer-agreed-here-requires : goal.layer-agreed-here-requires
-layer-agreed-here-requires g c =
-    let room = room-facts c.args.round.now.n c.args.width (length c.args.nodes.now) (sym c.if-not-has-room.ensures) in
+pub layer_agreed-here-requires : goal.layer_agreed-here-requires
+layer_agreed-here-requires g c =
+    let room = room-facts c.args.round.now.n c.args.width (length c.args.nodes.now) (sym c.if-not-has_room.ensures) in
     (layer-within c.args.round.now.n c.args.width (length c.args.nodes.now) c.loop-k.k room.enough (omega (arith, c.loop-k-test.true)), room.high)
 
 pub loop-k-preserved : goal.loop-k-preserved
@@ -38,7 +38,7 @@ loop-k-preserved g c s =
     let r = c.args.round.now in
     let R = g.R.Rule.sense c.args.rule.now in
     c.also-all.ensures
-    ∙ ap₂ ◌&&◌ (c.layer-agreed-here.ensures s) (c.loop-k.invariant s)
+    ∙ ap₂ ◌&&◌ (c.layer_agreed-here.ensures s) (c.loop-k.invariant s)
     ∙ ap (λ (k : ℕ). agreedLayers r R s c.args.width k c.args.nodes.now) (sym (add-one c.loop-k.k))
 
 pub returns : goal.returns
@@ -50,5 +50,5 @@ returns g c =
     let xs = c.args.nodes.now in
     let all : c.loop-k.k ≡ r.n - 1 = omega arith in
     let yes : (s : TallySense g.row.V.Denot) → c.loop-k.all ≡ agreedSteps r R s w xs =
-    λ s. c.loop-k.invariant s ∙ ap (λ (k : ℕ). agreedLayers r R s w k xs) all ∙ sym (cond-true (fits r.n w (length xs)) _ _ (sym c.if-not-has-room.ensures)) in
+    λ s. c.loop-k.invariant s ∙ ap (λ (k : ℕ). agreedLayers r R s w k xs) all ∙ sym (cond-true (fits r.n w (length xs)) _ _ (sym c.if-not-has_room.ensures)) in
     record { steps = yes; words = λ s. agreed-said r R s w xs c.loop-k.all (yes s) }

@@ -9,11 +9,11 @@ pub loop-b-init : goal.loop-b-init
 unfolding agreedTo
 loop-b-init g c s = refl
 
-pub overflow-cast-b : goal.overflow-cast-b
-overflow-cast-b g c = let most = count_most (c.args.at + c.args.w) c.args.w c.args.nodes.now in omega (arith, c.count-in-count.ensures, c.loop-b-test.true, c.requires.1)
+pub overflow_cast-b : goal.overflow_cast-b
+overflow_cast-b g c = let most = count_most (c.args.at + c.args.w) c.args.w c.args.nodes.now in omega (arith, c.count_in-count.ensures, c.loop-b-test.true, c.requires.1)
 
-pub overflow-add-b : goal.overflow-add-b
-overflow-add-b g c = let most = count_most (c.args.at + c.args.w) c.args.w c.args.nodes.now in omega (arith, c.count-in-count.ensures, c.loop-b-test.true, c.requires.1)
+pub overflow_add-b : goal.overflow_add-b
+overflow_add-b g c = let most = count_most (c.args.at + c.args.w) c.args.w c.args.nodes.now in omega (arith, c.count_in-count.ensures, c.loop-b-test.true, c.requires.1)
 
 pub loop-b-preserved : goal.loop-b-preserved
 unfolding agreedTo
@@ -23,12 +23,12 @@ loop-b-preserved g c s =
     let us = part c.args.at c.args.w c.args.nodes.now in
     let b = c.loop-b.b in
     c.also-all.ensures
-    ∙ ap₂ ◌&&◌ (sym (said r R s c.args.at c.args.w b c.args.nodes.now (c.look-in-got.ensures.agreed s) refl)) (c.loop-b.invariant s)
+    ∙ ap₂ ◌&&◌ (sym (said r R s c.args.at c.args.w b c.args.nodes.now (c.look_in-got.ensures.agreed s) refl)) (c.loop-b.invariant s)
     ∙ ap (λ (k : ℕ). agreedTo r R s k us) (sym (add-one b))
 
 pub returns : goal.returns
 returns g c s =
     let r = c.args.round.now in
     let R = g.R.Rule.sense c.args.rule.now in
-    let all : c.loop-b.b ≡ countAt (c.args.at + c.args.w) c.args.w c.args.nodes.now = omega (arith, c.count-in-count.ensures) in
+    let all : c.loop-b.b ≡ countAt (c.args.at + c.args.w) c.args.w c.args.nodes.now = omega (arith, c.count_in-count.ensures) in
     c.loop-b.invariant s ∙ ap (λ (k : ℕ). agreedTo r R s k (part c.args.at c.args.w c.args.nodes.now)) all

@@ -8,5 +8,5 @@ pub returns : goal.returns
 returns g c =
     let xs = c.args.nodes.now in
     let at = c.args.at in
-    rest_put at xs c.join-second.new.nodes
-    ∙ ap (λ ys. take at xs ++ ys) (c.join-second.ensures ∙ ap (λ ys. joinedSecond c.args.w (c.args.lo - 1) (c.args.hi - 1) ys c.args.blank.now) (take_rest xs at))
+    rest_put at xs c.join_second.new.nodes
+    ∙ ap (λ ys. take at xs ++ ys) (c.join_second.ensures ∙ ap (λ ys. joinedSecond c.args.w (c.args.lo - 1) (c.args.hi - 1) ys c.args.blank.now) (take_rest xs at))

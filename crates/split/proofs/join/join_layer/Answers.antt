@@ -4,8 +4,8 @@ use Rattle.std.proofs.lemmas.List.{get_or_read}
 use Rattle.split.specs.Joined.{joinedNode, joinedLayer}
 use Rattle.split.proofs.join.join_layer.Goals as goal
 
-pub offset-bounds-us-lo-2 : goal.offset-bounds-us-lo-2
-offset-bounds-us-lo-2 g c = let h : c.args.lo - 1 < length c.args.us.now = omega arith in search rules
+pub offset_bounds-us-lo-2 : goal.offset_bounds-us-lo-2
+offset_bounds-us-lo-2 g c = let h : c.args.lo - 1 < length c.args.us.now = omega arith in search rules
 
 pub returns : goal.returns
 unfolding joinedLayer
@@ -18,5 +18,5 @@ returns g c =
     let y = c.index-us-hi.result in
     let x-is : x ≡ get_or us lo z = get_or_read us lo x (omega arith) c.index-us-lo.is z in
     let y-is : y ≡ get_or us hi z = get_or_read us hi y (omega arith) c.index-us-hi.is z in
-    c.take-out.ensures
+    c.take_out.ensures
     ∙ ap (λ v. dropAt hi (set us lo v) ++ z ∷ []) (c.both.ensures ∙ ap (λ v. joinedNode v y) x-is ∙ ap (joinedNode (get_or us lo z)) y-is)

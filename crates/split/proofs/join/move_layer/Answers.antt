@@ -8,7 +8,7 @@ pub loop-a-preserved : goal.loop-a-preserved
 loop-a-preserved g c =
     let us = c.args.us.now in
     let f = movedNode (c.args.lo - 1) (c.args.hi - 1) in
-    ap (set c.loop-a.us c.loop-a.a) c.move-node.ensures
+    ap (set c.loop-a.us c.loop-a.a) c.move_node.ensures
     ∙ map_over_more f us c.loop-a.us c.loop-a.a c.index-us-a.result (omega arith) c.loop-a.invariant c.index-us-a.is
 
 pub returns : goal.returns

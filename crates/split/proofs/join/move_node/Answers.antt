@@ -9,7 +9,7 @@ pub loop-k-preserved : goal.loop-k-preserved
 loop-k-preserved g c =
     let k = c.loop-k.k in
     let f : ℕ → ℕ = byDoor (movedTo (c.args.lo - 1) (c.args.hi - 1)) c.args.x.now in
-    ap (set c.loop-k.to k) (c.moved-to.ensures (k + 1)) ∙ ap (λ ts. set ts k (f k)) c.loop-k.invariant ∙ over-more f (replicate {A = ℕ} 16 0) k c.loop-k-test.true
+    ap (set c.loop-k.to k) (c.moved_to.ensures (k + 1)) ∙ ap (λ ts. set ts k (f k)) c.loop-k.invariant ∙ over-more f (replicate {A = ℕ} 16 0) k c.loop-k-test.true
 
 pub returns : goal.returns
 unfolding movedNode

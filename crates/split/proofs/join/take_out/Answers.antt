@@ -16,8 +16,8 @@ loop-a-preserved g c =
     ap (λ ys. set ys a x) c.loop-a.invariant
     ∙ shifted-more xs at a x le lt (c.index-us-a.is ∙ ap (λ ys. get_or ys (a + 1) x) c.loop-a.invariant ∙ shifted_next xs at a x le lt)
 
-pub offset-bounds-us-last : goal.offset-bounds-us-last
-offset-bounds-us-last g c = let h : length c.args.us.now - 1 < length c.args.us.now = omega arith in search rules
+pub offset_bounds-us-last : goal.offset_bounds-us-last
+offset_bounds-us-last g c = let h : length c.args.us.now - 1 < length c.args.us.now = omega arith in search rules
 
 pub returns : goal.returns
 returns g c =

@@ -7,54 +7,54 @@ use Rattle.split.proofs.Codes.{place-clear, node-clear, placed-fits, placed-smal
 use Rattle.split.proofs.Stands.{count_most}
 use Rattle.split.proofs.joining.check_join.Goals as goal
 
-pub returns-in-err-check-place : goal.returns-in-err-check-place
-returns-in-err-check-place g c z =
-    let p = err_from_is_err_and c.from-residual.result c.from-residual.ensures.1 in
-    rw (p.1, p.2) (join-place c.args.n z c.args.width c.args.layer c.args.a c.args.b c.args.nodes.now _ c.in-err-check-place.ensures)
+pub returns-in_err-check_place : goal.returns-in_err-check_place
+returns-in_err-check_place g c z =
+    let p = err_from_is_err_and c.from_residual.result c.from_residual.ensures.1 in
+    rw (p.1, p.2) (join-place c.args.n z c.args.width c.args.layer c.args.a c.args.b c.args.nodes.now _ c.in_err-check_place.ensures)
 
-pub overflow-mul-at : goal.overflow-mul-at
-overflow-mul-at g c =
-    let small = placed-small c.args.n c.args.width (length c.args.nodes.now) c.args.layer c.requires (place-clear _ _ _ _ c.in-ok-check-place.ensures) in
+pub overflow_mul-at : goal.overflow_mul-at
+overflow_mul-at g c =
+    let small = placed-small c.args.n c.args.width (length c.args.nodes.now) c.args.layer c.requires (place-clear _ _ _ _ c.in_ok-check_place.ensures) in
     omega arith
 
-pub overflow-add-at : goal.overflow-add-at
-overflow-add-at g c =
-    let small = placed-small c.args.n c.args.width (length c.args.nodes.now) c.args.layer c.requires (place-clear _ _ _ _ c.in-ok-check-place.ensures) in
+pub overflow_add-at : goal.overflow_add-at
+overflow_add-at g c =
+    let small = placed-small c.args.n c.args.width (length c.args.nodes.now) c.args.layer c.requires (place-clear _ _ _ _ c.in_ok-check_place.ensures) in
     omega arith
 
-pub count-in-count-requires : goal.count-in-count-requires
-count-in-count-requires g c =
-    let fits = placed-fits c.args.n c.args.width (length c.args.nodes.now) c.args.layer (place-clear _ _ _ _ c.in-ok-check-place.ensures) in
+pub count_in-count-requires : goal.count_in-count-requires
+count_in-count-requires g c =
+    let fits = placed-fits c.args.n c.args.width (length c.args.nodes.now) c.args.layer (place-clear _ _ _ _ c.in_ok-check_place.ensures) in
     omega arith
 
-pub returns-in-err-check-node : goal.returns-in-err-check-node
-returns-in-err-check-node g c z =
-    let p = err_from_is_err_and c.from-residual-in-err-check-node.result c.from-residual-in-err-check-node.ensures.1 in
+pub returns-in_err-check_node : goal.returns-in_err-check_node
+returns-in_err-check_node g c z =
+    let p = err_from_is_err_and c.from_residual-in_err-check_node.result c.from_residual-in_err-check_node.ensures.1 in
     rw (p.1, p.2) (join_one c.args.n z c.args.width c.args.layer c.args.a c.args.b c.args.nodes.now _
-    c.in-ok-check-place.ensures (ap (λ m. nodeCode m c.args.a) (sym c.count-in-count.ensures) ∙ c.in-err-check-node.ensures))
+    c.in_ok-check_place.ensures (ap (λ m. nodeCode m c.args.a) (sym c.count_in-count.ensures) ∙ c.in_err-check_node.ensures))
 
-pub returns-in-err-check-node-2 : goal.returns-in-err-check-node-2
-returns-in-err-check-node-2 g c z =
-    let p = err_from_is_err_and c.from-residual-in-err-check-node-2.result c.from-residual-in-err-check-node-2.ensures.1 in
+pub returns-in_err-check_node-2 : goal.returns-in_err-check_node-2
+returns-in_err-check_node-2 g c z =
+    let p = err_from_is_err_and c.from_residual-in_err-check_node-2.result c.from_residual-in_err-check_node-2.ensures.1 in
     rw (p.1, p.2) (join-other c.args.n z c.args.width c.args.layer c.args.a c.args.b c.args.nodes.now _
-    c.in-ok-check-place.ensures (ap (λ m. nodeCode m c.args.a) (sym c.count-in-count.ensures) ∙ c.in-ok-check-node.ensures)
-    (ap (λ m. nodeCode m c.args.b) (sym c.count-in-count.ensures) ∙ c.in-err-check-node-2.ensures))
+    c.in_ok-check_place.ensures (ap (λ m. nodeCode m c.args.a) (sym c.count_in-count.ensures) ∙ c.in_ok-check_node.ensures)
+    (ap (λ m. nodeCode m c.args.b) (sym c.count_in-count.ensures) ∙ c.in_err-check_node-2.ensures))
 
-pub check-pair-requires : goal.check-pair-requires
-check-pair-requires g c =
+pub check_pair-requires : goal.check_pair-requires
+check_pair-requires g c =
     let w = c.args.width in
     let at = (c.args.layer - 1) * w + w in
-    let m = c.count-in-count.result in
-    let a = node-clear m c.args.a c.in-ok-check-node.ensures in
-    let b = node-clear m c.args.b c.in-ok-check-node-2.ensures in
-    let fits = placed-fits c.args.n w (length c.args.nodes.now) c.args.layer (place-clear _ _ _ _ c.in-ok-check-place.ensures) in
+    let m = c.count_in-count.result in
+    let a = node-clear m c.args.a c.in_ok-check_node.ensures in
+    let b = node-clear m c.args.b c.in_ok-check_node-2.ensures in
+    let fits = placed-fits c.args.n w (length c.args.nodes.now) c.args.layer (place-clear _ _ _ _ c.in_ok-check_place.ensures) in
     let top : max c.args.a c.args.b ≤ m = max-le a.1 b.1 in
-    (a.0, b.0, omega (arith, c.count-in-count.ensures, count_most at w c.args.nodes.now))
+    (a.0, b.0, omega (arith, c.count_in-count.ensures, count_most at w c.args.nodes.now))
 
 pub returns : goal.returns
 returns g c z =
-    let a : nodeCode _ c.args.a ≡ 0 = ap (λ m. nodeCode m c.args.a) (sym c.count-in-count.ensures) ∙ c.in-ok-check-node.ensures in
-    let b : nodeCode _ c.args.b ≡ 0 = ap (λ m. nodeCode m c.args.b) (sym c.count-in-count.ensures) ∙ c.in-ok-check-node-2.ensures in
-    MatchResult-weaker c.check-pair.result (c.check-pair.ensures z)
-    (λ x k. join-pair c.args.n z c.args.width c.args.layer c.args.a c.args.b c.args.nodes.now 0 c.in-ok-check-place.ensures a b k)
-    (λ e k. join-pair c.args.n z c.args.width c.args.layer c.args.a c.args.b c.args.nodes.now _ c.in-ok-check-place.ensures a b k)
+    let a : nodeCode _ c.args.a ≡ 0 = ap (λ m. nodeCode m c.args.a) (sym c.count_in-count.ensures) ∙ c.in_ok-check_node.ensures in
+    let b : nodeCode _ c.args.b ≡ 0 = ap (λ m. nodeCode m c.args.b) (sym c.count_in-count.ensures) ∙ c.in_ok-check_node-2.ensures in
+    MatchResult-weaker c.check_pair.result (c.check_pair.ensures z)
+    (λ x k. join-pair c.args.n z c.args.width c.args.layer c.args.a c.args.b c.args.nodes.now 0 c.in_ok-check_place.ensures a b k)
+    (λ e k. join-pair c.args.n z c.args.width c.args.layer c.args.a c.args.b c.args.nodes.now _ c.in_ok-check_place.ensures a b k)

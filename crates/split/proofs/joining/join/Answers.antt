@@ -11,46 +11,46 @@ use Rattle.split.proofs.JoinWords.{join-said}
 use Rattle.split.proofs.Stands.{count_most}
 use Rattle.split.proofs.joining.join.Goals as goal
 
-pub returns-in-err-check-join : goal.returns-in-err-check-join
-returns-in-err-check-join g c =
+pub returns-in_err-check_join : goal.returns-in_err-check_join
+returns-in_err-check_join g c =
     let r = c.args.round.now in
     let R = g.R.Rule.sense c.args.rule.now in
     let T = g.T.Tally.sense c.args.tally.now in
-    let p = err_from_is_err_and c.from-residual.result c.from-residual.ensures.1 in
-    let no = c.in-err-check-join.ensures (blankNode r R T) in
+    let p = err_from_is_err_and c.from_residual.result c.from_residual.ensures.1 in
+    let no = c.in_err-check_join.ensures (blankNode r R T) in
     let left = join-refused r R T c.args.width c.args.layer c.args.nodes.now c.args.a c.args.b _ no in
     rw (p.1, p.2) (record {
       answer = no;
       steps = left;
-      words = join-said {A = Unit {0}} r R T c.args.width c.args.layer c.args.a c.args.b c.args.nodes.now c.args.nodes.now (Err c.in-err-check-join.field-0.0) no left;
+      words = join-said {A = Unit {0}} r R T c.args.width c.args.layer c.args.a c.args.b c.args.nodes.now c.args.nodes.now (Err c.in_err-check_join.field-0.0) no left;
     })
 
-pub overflow-sub-at : goal.overflow-sub-at
-overflow-sub-at g c =
-    let may : MayJoin c.args.round.now.n c.blank-node-blank.result c.args.width c.args.layer c.args.a c.args.b c.args.nodes.now = join-clear c.args.round.now.n c.blank-node-blank.result c.args.width c.args.layer c.args.a c.args.b c.args.nodes.now (c.in-ok-check-join.ensures c.blank-node-blank.result) in
+pub overflow_sub-at : goal.overflow_sub-at
+overflow_sub-at g c =
+    let may : MayJoin c.args.round.now.n c.blank_node-blank.result c.args.width c.args.layer c.args.a c.args.b c.args.nodes.now = join-clear c.args.round.now.n c.blank_node-blank.result c.args.width c.args.layer c.args.a c.args.b c.args.nodes.now (c.in_ok-check_join.ensures c.blank_node-blank.result) in
     may.placed.low
 
-pub overflow-mul-at : goal.overflow-mul-at
-overflow-mul-at g c =
-    let may : MayJoin c.args.round.now.n c.blank-node-blank.result c.args.width c.args.layer c.args.a c.args.b c.args.nodes.now = join-clear c.args.round.now.n c.blank-node-blank.result c.args.width c.args.layer c.args.a c.args.b c.args.nodes.now (c.in-ok-check-join.ensures c.blank-node-blank.result) in
+pub overflow_mul-at : goal.overflow_mul-at
+overflow_mul-at g c =
+    let may : MayJoin c.args.round.now.n c.blank_node-blank.result c.args.width c.args.layer c.args.a c.args.b c.args.nodes.now = join-clear c.args.round.now.n c.blank_node-blank.result c.args.width c.args.layer c.args.a c.args.b c.args.nodes.now (c.in_ok-check_join.ensures c.blank_node-blank.result) in
     let small = placed-small c.args.round.now.n c.args.width (length c.args.nodes.now) c.args.layer c.args.round.now.most may.placed in
     omega arith
 
-pub overflow-cast-min : goal.overflow-cast-min
-overflow-cast-min g c =
-    let may : MayJoin c.args.round.now.n c.blank-node-blank.result c.args.width c.args.layer c.args.a c.args.b c.args.nodes.now = join-clear c.args.round.now.n c.blank-node-blank.result c.args.width c.args.layer c.args.a c.args.b c.args.nodes.now (c.in-ok-check-join.ensures c.blank-node-blank.result) in
+pub overflow_cast-min : goal.overflow_cast-min
+overflow_cast-min g c =
+    let may : MayJoin c.args.round.now.n c.blank_node-blank.result c.args.width c.args.layer c.args.a c.args.b c.args.nodes.now = join-clear c.args.round.now.n c.blank_node-blank.result c.args.width c.args.layer c.args.a c.args.b c.args.nodes.now (c.in_ok-check_join.ensures c.blank_node-blank.result) in
     let most = count_most ((c.args.layer - 1) * c.args.width + c.args.width) c.args.width c.args.nodes.now in
     omega (arith, may.apart, may.high, may.placed.few)
 
-pub overflow-cast-max : goal.overflow-cast-max
-overflow-cast-max g c =
-    let may : MayJoin c.args.round.now.n c.blank-node-blank.result c.args.width c.args.layer c.args.a c.args.b c.args.nodes.now = join-clear c.args.round.now.n c.blank-node-blank.result c.args.width c.args.layer c.args.a c.args.b c.args.nodes.now (c.in-ok-check-join.ensures c.blank-node-blank.result) in
+pub overflow_cast-max : goal.overflow_cast-max
+overflow_cast-max g c =
+    let may : MayJoin c.args.round.now.n c.blank_node-blank.result c.args.width c.args.layer c.args.a c.args.b c.args.nodes.now = join-clear c.args.round.now.n c.blank_node-blank.result c.args.width c.args.layer c.args.a c.args.b c.args.nodes.now (c.in_ok-check_join.ensures c.blank_node-blank.result) in
     let most = count_most ((c.args.layer - 1) * c.args.width + c.args.width) c.args.width c.args.nodes.now in
     omega (arith, may.high, may.placed.few)
 
 pub join-requires : goal.join-requires
 join-requires g c =
-    let may : MayJoin c.args.round.now.n c.blank-node-blank.result c.args.width c.args.layer c.args.a c.args.b c.args.nodes.now = join-clear c.args.round.now.n c.blank-node-blank.result c.args.width c.args.layer c.args.a c.args.b c.args.nodes.now (c.in-ok-check-join.ensures c.blank-node-blank.result) in
+    let may : MayJoin c.args.round.now.n c.blank_node-blank.result c.args.width c.args.layer c.args.a c.args.b c.args.nodes.now = join-clear c.args.round.now.n c.blank_node-blank.result c.args.width c.args.layer c.args.a c.args.b c.args.nodes.now (c.in_ok-check_join.ensures c.blank_node-blank.result) in
     let most = count_most ((c.args.layer - 1) * c.args.width + c.args.width) c.args.width c.args.nodes.now in
     (placed-fits c.args.round.now.n c.args.width (length c.args.nodes.now) c.args.layer may.placed, omega (arith, may.low), omega (arith, may.apart), omega (arith, may.high))
 
@@ -68,11 +68,11 @@ returns g c =
     let at = (i - 1) * w in
     let z = blankNode r R T in
     let ys = c.join.new.nodes in
-    let clear = c.in-ok-check-join.ensures z in
+    let clear = c.in_ok-check_join.ensures z in
     let long : length ys ≡ length xs = omega arith in
     let made : ys ≡ take at xs ++ joinedSecond w (min a b - 1) (max a b - 1) (drop at xs) z =
     c.join.ensures
-    ∙ ap₂ (λ (lo hi : ℕ). take at xs ++ joinedSecond w (lo - 1) (hi - 1) (drop at xs) c.blank-node-blank.result) c.min.ensures c.max.ensures
-    ∙ ap (λ z. take at xs ++ joinedSecond w (min a b - 1) (max a b - 1) (drop at xs) z) (c.blank-node-blank.ensures r) in
+    ∙ ap₂ (λ (lo hi : ℕ). take at xs ++ joinedSecond w (lo - 1) (hi - 1) (drop at xs) c.blank_node-blank.result) c.min.ensures c.max.ensures
+    ∙ ap (λ z. take at xs ++ joinedSecond w (min a b - 1) (max a b - 1) (drop at xs) z) (c.blank_node-blank.ensures r) in
     let steps = join-done r R T w i xs a b ys c.relabel.new.nodes (join-clear r.n z w i a b xs clear).placed clear long made c.relabel.ensures.passes in
     record { answer = clear; steps = steps; words = join-said {A = Unit {0}} r R T w i a b xs c.relabel.new.nodes (Ok tt) clear steps }

@@ -8,5 +8,5 @@ pub returns : goal.returns
 returns g c z =
     let xs = c.args.nodes.now in
     let at = c.args.at in
-    rest_put at xs c.part-second.new.nodes
-    ∙ ap (λ ys. take at xs ++ ys) (c.part-second.ensures z ∙ ap (λ ys. partedSecond (g.K.Test.keeps c.args.test.now) c.args.w (c.args.a - 1) c.args.count ys z) (take_rest xs at))
+    rest_put at xs c.part_second.new.nodes
+    ∙ ap (λ ys. take at xs ++ ys) (c.part_second.ensures z ∙ ap (λ ys. partedSecond (g.K.Test.keeps c.args.test.now) c.args.w (c.args.a - 1) c.args.count ys z) (take_rest xs at))

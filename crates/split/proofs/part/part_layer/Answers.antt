@@ -8,7 +8,7 @@ pub loop-i-preserved : goal.loop-i-preserved
 loop-i-preserved g c =
     let us = c.args.us.now in
     let f = partedNode (g.K.Test.keeps c.args.test.now) (c.args.a - 1) (c.args.new - 1) in
-    ap (set c.loop-i.us c.loop-i.i) c.part-node.ensures
+    ap (set c.loop-i.us c.loop-i.i) c.part_node.ensures
     ∙ map_over_more f us c.loop-i.us c.loop-i.i c.index-us-i.result (omega arith) c.loop-i.invariant c.index-us-i.is
 
 pub returns : goal.returns

@@ -10,7 +10,7 @@ loop-k-preserved g c =
     let x = c.args.x.now in
     let k = c.loop-k.k in
     let f : ℕ → ℕ = byDoor (partedTo (g.K.Test.keeps c.args.test.now) (c.args.a - 1) (c.args.new - 1) x) x in
-    ap (set c.loop-k.to k) c.part-door.ensures ∙ ap (λ ts. set ts k (f k)) c.loop-k.invariant ∙ over-more f (replicate {A = ℕ} 16 0) k c.loop-k-test.true
+    ap (set c.loop-k.to k) c.part_door.ensures ∙ ap (λ ts. set ts k (f k)) c.loop-k.invariant ∙ over-more f (replicate {A = ℕ} 16 0) k c.loop-k-test.true
 
 pub returns : goal.returns
 unfolding partedNode

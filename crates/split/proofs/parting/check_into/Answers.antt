@@ -9,11 +9,11 @@ pub returns : goal.returns
 returns g c s =
     let r = c.args.round.now in
     let R = g.R.Rule.sense c.args.rule.now in
-    let got = c.look-in-got.result in
-    let first = c.look-in-got.ensures.first s in
-    let agreed = c.look-in-got.ensures.agreed s in
+    let got = c.look_in-got.result in
+    let first = c.look_in-got.ensures.first s in
+    let agreed = c.look_in-got.ensures.agreed s in
     let full = leb c.args.w c.args.count in
-    MatchResult-weaker c.check-group.result c.check-group.ensures
+    MatchResult-weaker c.check_group.result c.check_group.ensures
     (λ x k. record {
       first = ap (broughtFirst r R s) (sym k.first) ∙ first;
       differ = sym agreed ∙ k.differ;

@@ -7,42 +7,42 @@ use Rattle.split.proofs.Codes.{place-clear, node-clear, placed-fits, placed-smal
 use Rattle.split.proofs.Stands.{count_most}
 use Rattle.split.proofs.parting.check_part.Goals as goal
 
-pub returns-in-err-check-place : goal.returns-in-err-check-place
-returns-in-err-check-place g c s =
-    let p = err_from_is_err_and c.from-residual.result c.from-residual.ensures.1 in
-    rw (p.1, p.2) (part-place c.args.round.now (g.R.Rule.sense c.args.rule.now) s c.args.width c.args.layer c.args.node c.args.nodes.now _ c.in-err-check-place.ensures)
+pub returns-in_err-check_place : goal.returns-in_err-check_place
+returns-in_err-check_place g c s =
+    let p = err_from_is_err_and c.from_residual.result c.from_residual.ensures.1 in
+    rw (p.1, p.2) (part-place c.args.round.now (g.R.Rule.sense c.args.rule.now) s c.args.width c.args.layer c.args.node c.args.nodes.now _ c.in_err-check_place.ensures)
 
-pub overflow-mul-at : goal.overflow-mul-at
-overflow-mul-at g c =
-    let small = placed-small c.args.round.now.n c.args.width _ c.args.layer c.args.round.now.most (place-clear _ _ _ _ c.in-ok-check-place.ensures) in
+pub overflow_mul-at : goal.overflow_mul-at
+overflow_mul-at g c =
+    let small = placed-small c.args.round.now.n c.args.width _ c.args.layer c.args.round.now.most (place-clear _ _ _ _ c.in_ok-check_place.ensures) in
     omega arith
 
-pub overflow-add-at : goal.overflow-add-at
-overflow-add-at g c =
-    let small = placed-small c.args.round.now.n c.args.width _ c.args.layer c.args.round.now.most (place-clear _ _ _ _ c.in-ok-check-place.ensures) in
+pub overflow_add-at : goal.overflow_add-at
+overflow_add-at g c =
+    let small = placed-small c.args.round.now.n c.args.width _ c.args.layer c.args.round.now.most (place-clear _ _ _ _ c.in_ok-check_place.ensures) in
     omega arith
 
-pub count-in-count-requires : goal.count-in-count-requires
-count-in-count-requires g c =
-    let fits = placed-fits c.args.round.now.n c.args.width _ c.args.layer (place-clear _ _ _ _ c.in-ok-check-place.ensures) in
+pub count_in-count-requires : goal.count_in-count-requires
+count_in-count-requires g c =
+    let fits = placed-fits c.args.round.now.n c.args.width _ c.args.layer (place-clear _ _ _ _ c.in_ok-check_place.ensures) in
     omega arith
 
-pub returns-in-err-check-node : goal.returns-in-err-check-node
-returns-in-err-check-node g c s =
-    let p = err_from_is_err_and c.from-residual-in-err-check-node.result c.from-residual-in-err-check-node.ensures.1 in
+pub returns-in_err-check_node : goal.returns-in_err-check_node
+returns-in_err-check_node g c s =
+    let p = err_from_is_err_and c.from_residual-in_err-check_node.result c.from_residual-in_err-check_node.ensures.1 in
     rw (p.1, p.2) (part-node c.args.round.now (g.R.Rule.sense c.args.rule.now) s c.args.width c.args.layer c.args.node c.args.nodes.now _
-    c.in-ok-check-place.ensures (ap (λ m. nodeCode m c.args.node) (sym c.count-in-count.ensures) ∙ c.in-err-check-node.ensures))
+    c.in_ok-check_place.ensures (ap (λ m. nodeCode m c.args.node) (sym c.count_in-count.ensures) ∙ c.in_err-check_node.ensures))
 
-pub overflow-cast-node : goal.overflow-cast-node
-overflow-cast-node g c =
+pub overflow_cast-node : goal.overflow_cast-node
+overflow_cast-node g c =
     let most = count_most ((c.args.layer - 1) * c.args.width + c.args.width) c.args.width c.args.nodes.now in
-    let few : c.args.width ≤ 128 = (place-clear c.args.round.now.n c.args.width (length c.args.nodes.now) c.args.layer c.in-ok-check-place.ensures).few in
-    let high : c.args.node ≤ c.count-in-count.result = (node-clear c.count-in-count.result c.args.node c.in-ok-check-node.ensures).1 in
-    omega (arith, c.count-in-count.ensures)
+    let few : c.args.width ≤ 128 = (place-clear c.args.round.now.n c.args.width (length c.args.nodes.now) c.args.layer c.in_ok-check_place.ensures).few in
+    let high : c.args.node ≤ c.count_in-count.result = (node-clear c.count_in-count.result c.args.node c.in_ok-check_node.ensures).1 in
+    omega (arith, c.count_in-count.ensures)
 
-pub check-into-requires : goal.check-into-requires
-check-into-requires g c =
-    let fits = placed-fits c.args.round.now.n c.args.width _ c.args.layer (place-clear _ _ _ _ c.in-ok-check-place.ensures) in
+pub check_into-requires : goal.check_into-requires
+check_into-requires g c =
+    let fits = placed-fits c.args.round.now.n c.args.width _ c.args.layer (place-clear _ _ _ _ c.in_ok-check_place.ensures) in
     omega arith
 
 pub returns : goal.returns
@@ -55,11 +55,11 @@ returns g c s =
     let xs = c.args.nodes.now in
     let at = (i - 1) * w in
     let m = countAt (at + w) w xs in
-    let count : c.count-in-count.result ≡ m = c.count-in-count.ensures in
-    let none = c.in-ok-check-place.ensures in
-    let node : nodeCode m a ≡ 0 = ap (λ m. nodeCode m a) (sym count) ∙ c.in-ok-check-node.ensures in
+    let count : c.count_in-count.result ≡ m = c.count_in-count.ensures in
+    let none = c.in_ok-check_place.ensures in
+    let node : nodeCode m a ≡ 0 = ap (λ m. nodeCode m a) (sym count) ∙ c.in_ok-check_node.ensures in
     let within = node-clear m a node in
-    MatchResult-weaker c.check-into.result (c.check-into.ensures s)
+    MatchResult-weaker c.check_into.result (c.check_into.ensures s)
     (λ x k. record {
       clear = part-group r R s w i a xs 0 none node (ap₂ groupCode k.differ (lt-leb w m (omega (arith, k.room))));
       placed = place-clear _ _ _ _ none;

@@ -6,43 +6,43 @@ use Rattle.split.proofs.Doing.{part-refused, part-done}
 use Rattle.split.proofs.PartWords.{part-said}
 use Rattle.split.proofs.parting.part.Goals as goal
 
-pub returns-in-err-first : goal.returns-in-err-first
-returns-in-err-first g c =
+pub returns-in_err-first : goal.returns-in_err-first
+returns-in_err-first g c =
     let r = c.args.round.now in
     let R = g.R.Rule.sense c.args.rule.now in
     let T = g.T.Tally.sense c.args.tally.now in
-    let p = err_from_is_err_and c.from-residual.result c.from-residual.ensures.1 in
-    let no = c.in-err-first.ensures T in
+    let p = err_from_is_err_and c.from_residual.result c.from_residual.ensures.1 in
+    let no = c.in_err-first.ensures T in
     let left = part-refused r R T c.args.width c.args.layer c.args.nodes.now c.args.node _ no in
     rw (p.1, p.2) (record {
       answer = no;
       steps = left;
-      words = part-said {A = Unit {0}} r R (g.met.R.Rule.reflexive c.args.rule.now) T c.args.width c.args.layer c.args.node c.args.nodes.now c.args.nodes.now (Err c.in-err-first.field-0.0) no left;
+      words = part-said {A = Unit {0}} r R (g.met.R.Rule.reflexive c.args.rule.now) T c.args.width c.args.layer c.args.node c.args.nodes.now c.args.nodes.now (Err c.in_err-first.field-0.0) no left;
     })
 
-pub overflow-sub-at : goal.overflow-sub-at
-overflow-sub-at g c = (c.in-ok-first.ensures (g.T.Tally.sense c.args.tally.now)).placed.low
+pub overflow_sub-at : goal.overflow_sub-at
+overflow_sub-at g c = (c.in_ok-first.ensures (g.T.Tally.sense c.args.tally.now)).placed.low
 
-pub overflow-mul-at : goal.overflow-mul-at
-overflow-mul-at g c =
-    let small = placed-small c.args.round.now.n c.args.width (length c.args.nodes.now) c.args.layer c.args.round.now.most (c.in-ok-first.ensures (g.T.Tally.sense c.args.tally.now)).placed in
+pub overflow_mul-at : goal.overflow_mul-at
+overflow_mul-at g c =
+    let small = placed-small c.args.round.now.n c.args.width (length c.args.nodes.now) c.args.layer c.args.round.now.most (c.in_ok-first.ensures (g.T.Tally.sense c.args.tally.now)).placed in
     omega arith
 
-pub overflow-add-at : goal.overflow-add-at
-overflow-add-at g c =
-    let small = placed-small c.args.round.now.n c.args.width (length c.args.nodes.now) c.args.layer c.args.round.now.most (c.in-ok-first.ensures (g.T.Tally.sense c.args.tally.now)).placed in
+pub overflow_add-at : goal.overflow_add-at
+overflow_add-at g c =
+    let small = placed-small c.args.round.now.n c.args.width (length c.args.nodes.now) c.args.layer c.args.round.now.most (c.in_ok-first.ensures (g.T.Tally.sense c.args.tally.now)).placed in
     omega arith
 
-pub count-in-count-requires : goal.count-in-count-requires
-count-in-count-requires g c =
-    let fits = placed-fits c.args.round.now.n c.args.width (length c.args.nodes.now) c.args.layer (c.in-ok-first.ensures (g.T.Tally.sense c.args.tally.now)).placed in
+pub count_in-count-requires : goal.count_in-count-requires
+count_in-count-requires g c =
+    let fits = placed-fits c.args.round.now.n c.args.width (length c.args.nodes.now) c.args.layer (c.in_ok-first.ensures (g.T.Tally.sense c.args.tally.now)).placed in
     omega arith
 
-pub part-node-requires : goal.part-node-requires
-part-node-requires g c =
-    let may = c.in-ok-first.ensures (g.T.Tally.sense c.args.tally.now) in
+pub part_node-requires : goal.part_node-requires
+part_node-requires g c =
+    let may = c.in_ok-first.ensures (g.T.Tally.sense c.args.tally.now) in
     let m = countAt ((c.args.layer - 1) * c.args.width + c.args.width) c.args.width c.args.nodes.now in
-    let count : c.count-in-count.result ≡ m = c.count-in-count.ensures in
+    let count : c.count_in-count.result ≡ m = c.count_in-count.ensures in
     let high : c.args.node ≤ m = may.high in
     let room : m < c.args.width = may.into.room in (
       placed-fits c.args.round.now.n c.args.width (length c.args.nodes.now) c.args.layer may.placed,
@@ -62,11 +62,11 @@ returns g c =
     let i = c.args.layer in
     let a = c.args.node in
     let xs = c.args.nodes.now in
-    let ys = c.part-node.new.nodes in
-    let may = c.in-ok-first.ensures T in
+    let ys = c.part_node.new.nodes in
+    let may = c.in_ok-first.ensures T in
     let long : length ys ≡ length xs = omega arith in
     let made : ys ≡ partedOne r R T ((i - 1) * w) w (a - 1) (countAt ((i - 1) * w + w) w xs) xs =
-    c.part-node.ensures ∙ ap (λ m. partedOne r R T ((i - 1) * w) w (a - 1) m xs) c.count-in-count.ensures in
+    c.part_node.ensures ∙ ap (λ m. partedOne r R T ((i - 1) * w) w (a - 1) m xs) c.count_in-count.ensures in
     let steps = part-done r R T w i xs a ys c.relabel.new.nodes may.placed may.clear long made c.relabel.ensures.passes in
     record {
       answer = may.clear;

@@ -10,8 +10,8 @@ loop-a-init g c =
     let R = g.R.Rule.sense c.args.rule.now in
     let T = g.T.Tally.sense c.args.tally.now in
     let all : c.args.w - 0 ≡ c.args.w = omega arith in (
-      omega (arith, c.count-in-count.ensures, count_most (c.args.at + c.args.w) c.args.w c.args.nodes.now),
-      ap₂ (λ (k m : ℕ). partsFrom r R T c.args.at c.args.w k 0 m c.args.nodes.now) all c.count-in-count.ensures,
+      omega (arith, c.count_in-count.ensures, count_most (c.args.at + c.args.w) c.args.w c.args.nodes.now),
+      ap₂ (λ (k m : ℕ). partsFrom r R T c.args.at c.args.w k 0 m c.args.nodes.now) all c.count_in-count.ensures,
     )
 
 pub returns-then-count-a : goal.returns-then-count-a
@@ -28,7 +28,7 @@ returns-in-None g c =
     let a = c.loop-a.a in
     let left : suc (w - (a + 1)) ≡ w - a = omega (arith, c.loop-a-test.true) in
     let n = c.in-None.ensures in
-    parts-full r R T c.args.at w a c.loop-a.count c.loop-a.nodes (w - (a + 1)) c.part-next.new.nodes c.if-count-a.false (n.answer, n.records)
+    parts-full r R T c.args.at w a c.loop-a.count c.loop-a.nodes (w - (a + 1)) c.part_next.new.nodes c.if-count-a.false (n.answer, n.records)
     ∙ ap (λ (k : ℕ). partsFrom r R T c.args.at w k a c.loop-a.count c.loop-a.nodes) left
     ∙ c.loop-a.invariant.1
 
@@ -41,7 +41,7 @@ loop-a-preserved g c =
     let a = c.loop-a.a in
     let m = c.loop-a.count in
     let l = c.in-Some.m in
-    let ys = c.part-next.new.nodes in
+    let ys = c.part_next.new.nodes in
     let left : suc (w - (a + 1)) ≡ w - a = omega (arith, c.loop-a-test.true) in
     let n = c.in-Some.ensures in (
       next-most r R T c.args.at w a m c.loop-a.nodes l ys c.loop-a.invariant.0 (n.answer, n.records),

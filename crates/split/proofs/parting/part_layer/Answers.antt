@@ -5,25 +5,25 @@ use Rattle.split.proofs.Codes.{ok-clear, err-left, clear-done, place-clear, plac
 use Rattle.split.proofs.LayerWords.{layer-said}
 use Rattle.split.proofs.parting.part_layer.Goals as goal
 
-pub returns-then-is-err : goal.returns-then-is-err
+pub returns-then-is_err : goal.returns-then-is_err
 unfolding layerSteps
-returns-then-is-err g c =
+returns-then-is_err g c =
     let r = c.args.round.now in
     let R = g.R.Rule.sense c.args.rule.now in
     let T = g.T.Tally.sense c.args.tally.now in
     let xs = c.args.nodes.now in
     let left : (false, xs) ≡ layerSteps r R T c.args.width c.args.layer xs =
-    sym (err-left c.check-place.result (placeCode r.n c.args.width (length xs) c.args.layer) _ (false, xs) c.check-place.ensures (sym c.is-err.ensures.value ∙ c.if-is-err.true)) in
+    sym (err-left c.check_place.result (placeCode r.n c.args.width (length xs) c.args.layer) _ (false, xs) c.check_place.ensures (sym c.is_err.ensures.value ∙ c.if-is_err.true)) in
     record { steps = left; words = layer-said r R (g.met.R.Rule.reflexive c.args.rule.now) T c.args.width c.args.layer xs xs false left }
 
-pub overflow-mul-layer : goal.overflow-mul-layer
-overflow-mul-layer g c =
-    let small = placed-small c.args.round.now.n c.args.width (length c.args.nodes.now) c.args.layer c.args.round.now.most (place-clear _ _ _ _ (ok-clear c.check-place.result _ c.check-place.ensures (sym c.is-err.ensures.value ∙ c.if-is-err.false))) in
+pub overflow_mul-layer : goal.overflow_mul-layer
+overflow_mul-layer g c =
+    let small = placed-small c.args.round.now.n c.args.width (length c.args.nodes.now) c.args.layer c.args.round.now.most (place-clear _ _ _ _ (ok-clear c.check_place.result _ c.check_place.ensures (sym c.is_err.ensures.value ∙ c.if-is_err.false))) in
     omega arith
 
-pub part-from-requires : goal.part-from-requires
-part-from-requires g c =
-    let p : Placed c.args.round.now.n c.args.width (length c.args.nodes.now) c.args.layer = place-clear _ _ _ _ (ok-clear c.check-place.result _ c.check-place.ensures (sym c.is-err.ensures.value ∙ c.if-is-err.false)) in
+pub part_from-requires : goal.part_from-requires
+part_from-requires g c =
+    let p : Placed c.args.round.now.n c.args.width (length c.args.nodes.now) c.args.layer = place-clear _ _ _ _ (ok-clear c.check_place.result _ c.check_place.ensures (sym c.is_err.ensures.value ∙ c.if-is_err.false)) in
     (placed-fits _ _ _ _ p, p.few)
 
 pub returns : goal.returns
@@ -33,6 +33,6 @@ returns g c =
     let R = g.R.Rule.sense c.args.rule.now in
     let T = g.T.Tally.sense c.args.tally.now in
     let xs = c.args.nodes.now in
-    let made : (c.part-from.result, c.part-from.new.nodes) ≡ layerSteps r R T c.args.width c.args.layer xs =
-    c.part-from.ensures ∙ sym (clear-done (placeCode r.n c.args.width (length xs) c.args.layer) _ _ (ok-clear c.check-place.result _ c.check-place.ensures (sym c.is-err.ensures.value ∙ c.if-is-err.false))) in
-    record { steps = made; words = layer-said r R (g.met.R.Rule.reflexive c.args.rule.now) T c.args.width c.args.layer xs c.part-from.new.nodes c.part-from.result made }
+    let made : (c.part_from.result, c.part_from.new.nodes) ≡ layerSteps r R T c.args.width c.args.layer xs =
+    c.part_from.ensures ∙ sym (clear-done (placeCode r.n c.args.width (length xs) c.args.layer) _ _ (ok-clear c.check_place.result _ c.check_place.ensures (sym c.is_err.ensures.value ∙ c.if-is_err.false))) in
+    record { steps = made; words = layer-said r R (g.met.R.Rule.reflexive c.args.rule.now) T c.args.width c.args.layer xs c.part_from.new.nodes c.part_from.result made }

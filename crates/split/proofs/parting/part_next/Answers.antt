@@ -13,7 +13,7 @@ returns-then-agreed g c =
     let r = c.args.round.now in
     let R = g.R.Rule.sense c.args.rule.now in
     let T = g.T.Tally.sense c.args.tally.now in
-    let n = next-alike r R T c.args.at c.args.w c.args.a c.args.count c.args.nodes.now (said r R T c.args.at c.args.w c.args.a c.args.nodes.now (c.look-in-first.ensures.agreed T) c.if-agreed.true) in
+    let n = next-alike r R T c.args.at c.args.w c.args.a c.args.count c.args.nodes.now (said r R T c.args.at c.args.w c.args.a c.args.nodes.now (c.look_in-first.ensures.agreed T) c.if-agreed.true) in
     record { answer = n.0; records = n.1 }
 
 pub returns-then-count-w : goal.returns-then-count-w
@@ -21,15 +21,15 @@ returns-then-count-w g c =
     let r = c.args.round.now in
     let R = g.R.Rule.sense c.args.rule.now in
     let T = g.T.Tally.sense c.args.tally.now in
-    let n = next-full r R T c.args.at c.args.w c.args.a c.args.count c.args.nodes.now (said r R T c.args.at c.args.w c.args.a c.args.nodes.now (c.look-in-first.ensures.agreed T) c.if-agreed.false) c.if-count-w.true in
+    let n = next-full r R T c.args.at c.args.w c.args.a c.args.count c.args.nodes.now (said r R T c.args.at c.args.w c.args.a c.args.nodes.now (c.look_in-first.ensures.agreed T) c.if-agreed.false) c.if-count-w.true in
     record { answer = n.0; records = n.1 }
 
-pub part-node-requires : goal.part-node-requires
-part-node-requires g c =
+pub part_node-requires : goal.part_node-requires
+part_node-requires g c =
     let r = c.args.round.now in
     let R = g.R.Rule.sense c.args.rule.now in
     let T = g.T.Tally.sense c.args.tally.now in
-    (c.requires.0, c.requires.1, omega arith, omega (arith, c.requires.2), c.if-count-w.false, ap (broughtFirst r R T) (sym c.in-Some.is) ∙ c.look-in-first.ensures.first T)
+    (c.requires.0, c.requires.1, omega arith, omega (arith, c.requires.2), c.if-count-w.false, ap (broughtFirst r R T) (sym c.in-Some.is) ∙ c.look_in-first.ensures.first T)
 
 pub returns-in-None : goal.returns-in-None
 returns-in-None g c =
@@ -37,8 +37,8 @@ returns-in-None g c =
     let R = g.R.Rule.sense c.args.rule.now in
     let T = g.T.Tally.sense c.args.tally.now in
     let ys = arrivals r R T (c.args.a + 1) (part c.args.at c.args.w c.args.nodes.now) in
-    let all : agreeing r R T ys ≡ true = none-agree r R T ys (ap (broughtFirst r R T) (sym c.in-None.is) ∙ c.look-in-first.ensures.first T) in
-    absurd (both_ways (agreeing r R T ys) (sym (c.look-in-first.ensures.agreed T) ∙ c.if-agreed.false) all)
+    let all : agreeing r R T ys ≡ true = none-agree r R T ys (ap (broughtFirst r R T) (sym c.in-None.is) ∙ c.look_in-first.ensures.first T) in
+    absurd (both_ways (agreeing r R T ys) (sym (c.look_in-first.ensures.agreed T) ∙ c.if-agreed.false) all)
 
 pub returns-in-Some : goal.returns-in-Some
 returns-in-Some g c =
@@ -46,5 +46,5 @@ returns-in-Some g c =
     let R = g.R.Rule.sense c.args.rule.now in
     let T = g.T.Tally.sense c.args.tally.now in
     let back : c.args.a + 1 - 1 ≡ c.args.a = omega arith in
-    let n = next-parted r R T c.args.at c.args.w c.args.a c.args.count c.args.nodes.now (said r R T c.args.at c.args.w c.args.a c.args.nodes.now (c.look-in-first.ensures.agreed T) c.if-agreed.false) c.if-count-w.false in
-    record { answer = n.0; records = c.part-node.ensures ∙ ap (λ (a : ℕ). partedOne r R T c.args.at c.args.w a c.args.count c.args.nodes.now) back ∙ n.1 }
+    let n = next-parted r R T c.args.at c.args.w c.args.a c.args.count c.args.nodes.now (said r R T c.args.at c.args.w c.args.a c.args.nodes.now (c.look_in-first.ensures.agreed T) c.if-agreed.false) c.if-count-w.false in
+    record { answer = n.0; records = c.part_node.ensures ∙ ap (λ (a : ℕ). partedOne r R T c.args.at c.args.w a c.args.count c.args.nodes.now) back ∙ n.1 }

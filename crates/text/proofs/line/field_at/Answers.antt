@@ -5,7 +5,7 @@ use Rattle.text.proofs.line.field_at.Goals as goal
 
 pub returns : goal.returns
 returns c =
-    let e = c.token-of.ensures in
+    let e = c.token_of.ensures in
     let b = c.piece.result in
     let l = c.args.line.number in
     let f = c.args.field in

@@ -5,8 +5,8 @@ use Rattle.text.proofs.Numbers.{digit-place, value-step}
 use Rattle.text.proofs.number.amount.Goals as goal
 use Rattle.text.proofs.number.amount.Goals.{then-v-gt-LIMIT, else-v-gt-LIMIT}
 
-pub overflow-sub-b : goal.overflow-sub-b
-overflow-sub-b c = (digit-place c.args.digits.now c.loop-b.b-index c.requires (omega arith)).0
+pub overflow_sub-b : goal.overflow_sub-b
+overflow_sub-b c = (digit-place c.args.digits.now c.loop-b.b-index c.requires (omega arith)).0
 
 pub loop-b-preserved : goal.loop-b-preserved
 loop-b-preserved c =

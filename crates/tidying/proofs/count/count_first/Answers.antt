@@ -11,7 +11,7 @@ loop-p-preserved g c =
     let x = c.index-nodes-p.result in
     let more = sum_by_more arcsOf xs p x (omega arith) in
     let here : arcsOf (get_or xs p x) ≡ arcsOf x = ap arcsOf (sym c.index-nodes-p.is) in
-    (omega (arith, more, here, c.count-of-n.ensures.many), omega (arith, c.count-of-n.ensures.few))
+    (omega (arith, more, here, c.count_of-n.ensures.many), omega (arith, c.count_of-n.ensures.few))
 
 pub returns : goal.returns
 returns g c =

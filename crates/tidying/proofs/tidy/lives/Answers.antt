@@ -4,4 +4,4 @@ use Rattle.tidying.proofs.tidy.lives.Goals as goal
 
 pub returns : goal.returns
 unfolding lively
-returns g c = ap (λ n. not (eqb n 0)) c.count-of.ensures.many
+returns g c = ap (λ n. not (eqb n 0)) c.count_of.ensures.many

@@ -16,7 +16,7 @@ loop-a-preserved g c =
     let x = c.index-us-a.result in
     let here : x ≡ get_or us a z =
     get_or_read c.loop-a.us a x (omega arith) c.index-us-a.is z ∙ ap (λ ys. get_or ys a z) c.loop-a.invariant ∙ get_d_over f us a z in
-    ap (set c.loop-a.us a) (c.renew-if.ensures ∙ ap (renewed z (get_or from (a + 1) false) new) here)
+    ap (set c.loop-a.us a) (c.renew_if.ensures ∙ ap (renewed z (get_or from (a + 1) false) new) here)
     ∙ ap (λ ys. set ys a (f a)) c.loop-a.invariant
     ∙ over-more f us a (omega arith)
 

@@ -4,8 +4,8 @@ use Rattle.split.specs.Steps.{joinSteps}
 use Rattle.split.proofs.JoinWords.{join-words, join-shaped, join-timely}
 use Rattle.diagram.proofs.diagram.Diagram.join.Goals as goal
 
-pub invariant-of-self : goal.invariant-of-self
-invariant-of-self g c =
+pub invariant_of-self : goal.invariant_of-self
+invariant_of-self g c =
     let d = c.args.self.now in
     let r = d.room.round.now in
     let R = g.R.Rule.sense c.args.rule.now in
@@ -15,8 +15,8 @@ invariant-of-self g c =
     let a = c.args.a in
     let b = c.args.b in
     let xs = d.nodes.now in
-    let ys = c.join-in.new.nodes.now in
-    let e = c.join-in.ensures in
+    let ys = c.join_in.new.nodes.now in
+    let e = c.join_in.ensures in
     let shape : Shaped r.n W xs = record { written = d.written; tidy = d.tidy; first = d.first; ended = d.ended } in
     let is : ys ≡ joinSteps r R T W i a b xs = e.records ∙ sym (join-words r R T W i a b xs d.room.wide d.room.narrow d.fits shape) in
     let s = subst (Shaped r.n W) (sym is) (join-shaped r R T W i a b xs d.room.wide d.room.narrow d.fits shape) in

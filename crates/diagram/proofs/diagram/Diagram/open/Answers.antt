@@ -23,8 +23,8 @@ both r R T W a b xs ys zs h e f =
     ∙ cond-true _ _ _ (room r R T W a b xs h)
     ∙ laid-opened r R T W a b xs h
 
-pub invariant-of-result : goal.invariant-of-result
-invariant-of-result g c =
+pub invariant_of-result : goal.invariant_of-result
+invariant_of-result g c =
     let r = c.args.room.round.now in
     let R = g.R.Rule.sense c.args.rule.now in
     let T = g.T.Tally.sense c.args.tally.now in
@@ -32,7 +32,7 @@ invariant-of-result g c =
     let a = c.args.room.wide in
     let b = c.args.room.narrow in
     let xs = c.args.nodes.now in
-    let all = both r R T W a b xs c.lay-arcs.new.nodes c.relabel.new.nodes c.requires c.lay-arcs.ensures c.relabel.ensures.passes in
+    let all = both r R T W a b xs c.lay_arcs.new.nodes c.relabel.new.nodes c.requires c.lay_arcs.ensures c.relabel.ensures.passes in
     let shape = subst (Shaped r.n W) (sym all) (opened-shaped r R T W a b xs c.requires) in
     let timely = subst (Timely r.n W) (sym all) (opened-timely r R T W a b xs c.requires) in
     (omega arith, (shape.written, (shape.tidy, (shape.first, (shape.ended, (timely, tt))))))
@@ -47,7 +47,7 @@ returns g c =
     let a = c.args.room.wide in
     let b = c.args.room.narrow in
     let xs = c.args.nodes.now in
-    let all = both r R T W a b xs c.lay-arcs.new.nodes c.relabel.new.nodes c.requires c.lay-arcs.ensures c.relabel.ensures.passes in
+    let all = both r R T W a b xs c.lay_arcs.new.nodes c.relabel.new.nodes c.requires c.lay_arcs.ensures c.relabel.ensures.passes in
     record {
       room = refl;
       records = all;

@@ -4,8 +4,8 @@ use Rattle.split.specs.Steps.{partSteps}
 use Rattle.split.proofs.PartWords.{part-words, part-shaped, part-timely}
 use Rattle.diagram.proofs.diagram.Diagram.part.Goals as goal
 
-pub invariant-of-self : goal.invariant-of-self
-invariant-of-self g c =
+pub invariant_of-self : goal.invariant_of-self
+invariant_of-self g c =
     let d = c.args.self.now in
     let r = d.room.round.now in
     let R = g.R.Rule.sense c.args.rule.now in
@@ -15,8 +15,8 @@ invariant-of-self g c =
     let i = c.args.layer in
     let a = c.args.node in
     let xs = d.nodes.now in
-    let ys = c.part-in.new.nodes.now in
-    let e = c.part-in.ensures in
+    let ys = c.part_in.new.nodes.now in
+    let e = c.part_in.ensures in
     let shape : Shaped r.n W xs = record { written = d.written; tidy = d.tidy; first = d.first; ended = d.ended } in
     let is : ys ≡ partSteps r R T W i a xs = e.records ∙ sym (part-words r R T W i a xs d.room.wide d.room.narrow d.fits shape self) in
     let s = subst (Shaped r.n W) (sym is) (part-shaped r R T W i a xs d.room.wide d.room.narrow d.fits shape self) in

@@ -1,8 +1,8 @@
 use Rattle.std.proofs.Common.{arith}
 use Rattle.diagram.proofs.diagram.Diagram.refine.Goals as goal
 
-pub invariant-of-self : goal.invariant-of-self
-invariant-of-self g c =
-    let e = c.refine-in.ensures in
+pub invariant_of-self : goal.invariant_of-self
+invariant_of-self g c =
+    let e = c.refine_in.ensures in
     let s = e.shaped in
     (omega (arith, e.long, c.args.self.now.fits), (s.written, (s.tidy, (s.first, (s.ended, (e.timely, tt))))))

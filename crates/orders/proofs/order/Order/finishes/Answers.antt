@@ -16,7 +16,7 @@ loop-j-preserved c =
     let w = c.args.self.now.doors.now in
     let i = c.loop-j.j-index in
     let van : c.goes-van.result ≡ vanAfter r (take (i + 1) w) = c.goes-van.ensures ∙ ap (λ (a : Van). goes r a (get_or w i 0)) c.loop-j.invariant.1 ∙ van-next r w i c.loop-j-test.true in
-    (omega arith, van, finishes-next r w i (vec_items c.loop-j.minutes) (vec_items c.push.new.self) c.goes-van.result.finish c.loop-j.invariant.2 c.in-ok-push.ensures.items (ap (λ (a : Van). a.finish) van))
+    (omega arith, van, finishes-next r w i (vec_items c.loop-j.minutes) (vec_items c.push.new.self) c.goes-van.result.finish c.loop-j.invariant.2 c.in_ok-push.ensures.items (ap (λ (a : Van). a.finish) van))
 
 pub returns : goal.returns
 returns c =

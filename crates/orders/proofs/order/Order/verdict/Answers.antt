@@ -11,8 +11,8 @@ returns-then-self g c =
     let w = c.args.self.now.doors.now in
     let rule = c.args.rule.now in
     record {
-      value = c.first-fault.ensures ∙ sym (cond-true _ _ _ (eq-eqb _ _ c.if-self.true));
+      value = c.first_fault.ensures ∙ sym (cond-true _ _ _ (eq-eqb _ _ c.if-self.true));
       means = λ serves.
-          subst (Judged r (g.R.Rule.keeps rule) w) (sym c.first-fault.ensures)
+          subst (Judged r (g.R.Rule.keeps rule) w) (sym c.first_fault.ensures)
           (judged r (g.R.Rule.sense rule) (g.R.Rule.keeps rule) (g.R.Rule.stands rule) (g.met.R.Rule.lawful rule r.n serves) w (is-part r.n w c.args.self.now.part) c.if-self.true);
     }

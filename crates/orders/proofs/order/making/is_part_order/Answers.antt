@@ -6,15 +6,15 @@ use Rattle.doors.proofs.Sets.{has-false}
 use Rattle.orders.proofs.Parts.{Seen, seen_more, broken, new-fails}
 use Rattle.orders.proofs.order.making.is_part_order.Goals as goal
 
-pub returns-then-not-is-new : goal.returns-then-not-is-new
-returns-then-not-is-new c =
+pub returns-then-not-is_new : goal.returns-then-not-is_new
+returns-then-not-is_new c =
     sym (broken c.args.n c.loop-j.seen c.args.list.now c.loop-j.j-index c.loop-j-test.true c.loop-j.invariant.1
-    (new-fails _ _ _ (sym c.if-not-is-new.ensures)))
+    (new-fails _ _ _ (sym c.if-not-is_new.ensures)))
 
 pub loop-j-preserved : goal.loop-j-preserved
 loop-j-preserved c =
     let j = get_or c.args.list.now c.loop-j.j-index 0 in
-    let p = and_parts _ _ (sym c.if-not-is-new.ensures) in
+    let p = and_parts _ _ (sym c.if-not-is_new.ensures) in
     let d = is-door c.args.n j p.0 in
     let added = c.with-seen.ensures.added (omega arith) in (
       omega arith,
