@@ -1,6 +1,6 @@
 // Taking out each arc by which the cost would pass a ceiling, by the labels that stand.
 ghost use Rattle.std.specs.Prelude.{◌≡◌, ◌+◌, ◌*◌, ◌<◌, ◌≤◌, map, length, take, Some, slice_index};
-ghost use Rattle.std.specs.List.{AllByRecursion as All};
+ghost use Rattle.std.specs.List.{AllByRecursion};
 ghost use Rattle.round.specs.Clock.{latest};
 ghost use Rattle.rules.specs.Rules.{RuleSense};
 ghost use Rattle.layers.specs.Labels.{arrive, dear};
@@ -91,7 +91,7 @@ fn trim_each<S: Copy, T: Tally>(
     us: &mut [Node<S, T::Value>],
     ceiling: T::Value,
 )
-    requires { All (Early (latest 15)) us.old }
+    requires { AllByRecursion (Early (latest 15)) us.old }
     ensures { (q : RuleSense S) → us.new ≡ map (trimmedNode round.now q (T.Tally.sense tally.now) ceiling) us.old }
 {
     for p in 0..us.len() {
@@ -110,7 +110,7 @@ pub(crate) fn trim<S: Copy, T: Tally>(
 )
     requires width_bound { width ≤ 128 }
     requires width_in_bounds { round.now.n * width < length nodes.old }
-    requires all { All (Early (latest 15)) (take (round.now.n * width) nodes.old) }
+    requires all { AllByRecursion (Early (latest 15)) (take (round.now.n * width) nodes.old) }
     ensures { (q : RuleSense S) → nodes.new ≡ trimmedAll round.now q (T.Tally.sense tally.now) ceiling width nodes.old }
 {
     let end = round.n * width;

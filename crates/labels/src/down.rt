@@ -1,6 +1,6 @@
 // The pass down: each arrival is added to its target, sources by number, then doors.
 ghost use Rattle.std.specs.Prelude.{◌≡◌, ℕ, ◌+◌, ◌*◌, ◌<◌, ◌≤◌, map, length, get_or, slice_index_or};
-ghost use Rattle.std.specs.List.{AllByRecursion as All};
+ghost use Rattle.std.specs.List.{AllByRecursion};
 ghost use Rattle.round.specs.Clock.{latest};
 ghost use Rattle.round.specs.declared.table.Round.{Round as ARound};
 ghost use Rattle.layers.specs.declared.node.Node.{Node as ANode};
@@ -227,7 +227,7 @@ fn relabel_layer<R: Rule, T: Tally>(
 )
     requires width_bound { from + width ≤ at }
     requires count_in_bounds { at + count ≤ length nodes.old }
-    requires all { All (Early (latest 15)) (part from width nodes.old) }
+    requires all { AllByRecursion (Early (latest 15)) (part from width nodes.old) }
     ensures { nodes.new ≡ layerDone round.now (R.Rule.sense rule.now) (T.Tally.sense tally.now) width from count at nodes.old }
 {
     clear_at(rule, tally, nodes, at, count);

@@ -1,12 +1,30 @@
-use Rattle.std.proofs.Common.{sym, refl}
+use Rattle.std.proofs.Common.{sym, refl, arith}
 use Rattle.std.proofs.lemmas.Result.{err_from_is_err_and}
-use Rattle.text.proofs.Sound.{ghosts, text-whole}
+use Rattle.text.proofs.Sound.{text-whole}
 use Rattle.text.proofs.Forms.{accepted-form}
 use Rattle.text.proofs.Backs.{refused-form}
 use Rattle.text.proofs.reading.read.Goals as goal
 
 pub invariant_of-round : goal.invariant_of-round
-invariant_of-round c = ghosts c.in_ok-draft.draft (text-whole c.args.text.now c.in_ok-draft.draft (sym c.in_ok-draft.ensures))
+invariant_of-round c =
+    let w = text-whole c.args.text.now c.in_ok-draft.draft (sym c.in_ok-draft.ensures) in
+    let doors = w.ranged.doors in
+    let rows = w.ranged.rows in
+    record {
+      one = w.head.one;
+      most = w.head.most;
+      within = w.head.within;
+      small = w.head.small;
+      opens = λ k. (doors k).opens;
+      closes = λ k. (doors k).closes;
+      due = λ k. (doors k).due;
+      some = λ k one m. w.worked k (omega arith) one;
+      work = λ k. (doors k).work;
+      low = λ k. (doors k).low;
+      high = λ k. (doors k).high;
+      legs = λ i j. (rows i).small j;
+      own = λ j. (rows j).own j refl;
+    }
 
 pub returns-in_err-draft : goal.returns-in_err-draft
 returns-in_err-draft c =

@@ -9,16 +9,16 @@ returns-in-Last c =
     let some = false-eqb _ 0 c.loop-rest-test.ensures in
     read-unended c.loop-rest.rest.now c.in-Last.field-0.now c.loop-rest.number c.loop-rest.stage c.loop-rest.draft c.in-Last.ensures.parts (λ e. some (sym c.in-Last.ensures.lengths ∙ e)) ∙ c.loop-rest.invariant.2
 
-pub returns-in_err-stage : goal.returns-in_err-stage
-returns-in_err-stage c =
-    let e = read-stop c.loop-rest.rest.now c.in-More.bytes.now c.in-More.after.now c.loop-rest.number c.loop-rest.stage c.loop-rest.draft _ c.in-More.ensures.parts (sym c.in_err-stage.ensures) ∙ c.loop-rest.invariant.2 in
+pub returns-in_err-stage-in-More : goal.returns-in_err-stage-in-More
+returns-in_err-stage-in-More c =
+    let e = read-stop c.loop-rest.rest.now c.in-More.bytes.now c.in-More.after.now c.loop-rest.number c.loop-rest.stage c.loop-rest.draft _ c.in-More.ensures.parts (sym c.in_err-stage-in-More.ensures) ∙ c.loop-rest.invariant.2 in
     search (rules, e)
 
 pub loop-rest-preserved : goal.loop-rest-preserved
 loop-rest-preserved c = (
-  sound-step c.loop-rest.stage c.loop-rest.draft c.loop-rest.number (pieces 9 c.in-More.bytes.now) _ _ (sym c.in_ok-stage.ensures) c.loop-rest.invariant.0,
+  sound-step c.loop-rest.stage c.loop-rest.draft c.loop-rest.number (pieces 9 c.in-More.bytes.now) _ _ (sym c.in_ok-stage-in-More.ensures) c.loop-rest.invariant.0,
   omega (arith, c.in-More.ensures.lengths),
-  read_more c.loop-rest.rest.now c.in-More.bytes.now c.in-More.after.now c.loop-rest.number c.loop-rest.stage c.loop-rest.draft _ _ c.in-More.ensures.parts (sym c.in_ok-stage.ensures) ∙ c.loop-rest.invariant.2,
+  read_more c.loop-rest.rest.now c.in-More.bytes.now c.in-More.after.now c.loop-rest.number c.loop-rest.stage c.loop-rest.draft _ _ c.in-More.ensures.parts (sym c.in_ok-stage-in-More.ensures) ∙ c.loop-rest.invariant.2,
 )
 
 pub returns : goal.returns
