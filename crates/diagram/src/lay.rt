@@ -22,7 +22,7 @@ fn every_door(n: usize) -> Arcs
 // The arcs of place k: the first of each layer has them, and no other.
 fn arcs_at(all: Arcs, n: usize, width: usize, k: usize) -> Arcs
     requires n_bound { n ≤ 16 }
-    requires le_width { 1 ≤ width }
+    requires one_le_width { 1 ≤ width }
     requires width_bound { width ≤ 128 }
     ensures { result ≡ arcsOpened all n width k }
 {
@@ -43,7 +43,7 @@ fn put_arcs<S: Copy, V: Copy>(nodes: &mut [Node<S, V>], k: usize, arcs: Arcs)
 // The arcs of a whole diagram; labels and later places stay.
 pub(crate) fn lay_arcs<S: Copy, V: Copy>(nodes: &mut [Node<S, V>], n: usize, width: usize)
     requires n_bound { n ≤ 16 }
-    requires le_width { 1 ≤ width }
+    requires one_le_width { 1 ≤ width }
     requires width_bound { width ≤ 128 }
     requires width_in_bounds { n * width + 1 ≤ length nodes.old }
     ensures { nodes.new ≡ arced (arcsOpened (everyDoor n) n width) (n * width + 1) nodes.old }

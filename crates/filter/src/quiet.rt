@@ -45,7 +45,7 @@ fn kept_from<R: Rule, V: Copy>(
     w: usize,
     left: usize,
 ) -> usize
-    requires left_value { i + left ≡ round.now.n }
+    requires counts_left { i + left ≡ round.now.n }
     requires w_in_bounds { left * w < length nodes.now }
     requires w_bound { w ≤ 128 }
     ensures many { (t : TallySense V) → result ≡ arcsWithin (take (left * w) (thinnedFrom round.now (R.Rule.sense rule.now) t w i left nodes.now)) }

@@ -231,7 +231,7 @@ pub(crate) fn thin_from<R: Rule, V: Copy>(
     w: usize,
     left: usize,
 )
-    requires left_value { i + left ≡ round.now.n }
+    requires counts_left { i + left ≡ round.now.n }
     requires w_in_bounds { left * w < length nodes.old }
     ensures { (t : TallySense V) → nodes.new ≡ thinnedFrom round.now (R.Rule.sense rule.now) t w i left nodes.old }
 {

@@ -110,7 +110,7 @@ pub(crate) fn trim<S: Copy, T: Tally>(
 )
     requires width_bound { width ≤ 128 }
     requires width_in_bounds { round.now.n * width < length nodes.old }
-    requires all { AllByRecursion (Early (latest 15)) (take (round.now.n * width) nodes.old) }
+    requires all_early { AllByRecursion (Early (latest 15)) (take (round.now.n * width) nodes.old) }
     ensures { (q : RuleSense S) → nodes.new ≡ trimmedAll round.now q (T.Tally.sense tally.now) ceiling width nodes.old }
 {
     let end = round.n * width;

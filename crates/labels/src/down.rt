@@ -207,7 +207,7 @@ fn spread_at<R: Rule, T: Tally>(
 )
     requires p_lt_at { p < at }
     requires count_in_bounds { at + count ≤ length nodes.old }
-    requires d_bound { (d : ANode (R.State) (T.Value)) → (get_or nodes.old p d).label.down.finish ≤ latest 15 }
+    requires finish_bound { (d : ANode (R.State) (T.Value)) → (get_or nodes.old p d).label.down.finish ≤ latest 15 }
     ensures { (d : ANode (R.State) (T.Value)) → nodes.new ≡ over at (spread round.now (R.Rule.sense rule.now) (T.Tally.sense tally.now) (part at count nodes.old) (slice_index_or nodes.old p d)) nodes.old }
 {
     let u = node_at(nodes, p);
@@ -227,7 +227,7 @@ fn relabel_layer<R: Rule, T: Tally>(
 )
     requires width_bound { from + width ≤ at }
     requires count_in_bounds { at + count ≤ length nodes.old }
-    requires all { AllByRecursion (Early (latest 15)) (part from width nodes.old) }
+    requires all_early { AllByRecursion (Early (latest 15)) (part from width nodes.old) }
     ensures { nodes.new ≡ layerDone round.now (R.Rule.sense rule.now) (T.Tally.sense tally.now) width from count at nodes.old }
 {
     clear_at(rule, tally, nodes, at, count);
@@ -281,7 +281,7 @@ pub(crate) fn label_down<R: Rule, T: Tally>(
     nodes: &mut [Node<R::State, T::Value>],
     width: usize,
 )
-    requires le_width { 1 ≤ width }
+    requires one_le_width { 1 ≤ width }
     requires width_bound { width ≤ 128 }
     requires width_in_bounds { round.now.n * width + 1 ≤ length nodes.old }
     ensures { nodes.new ≡ passDown round.now (R.Rule.sense rule.now) (T.Tally.sense tally.now) width nodes.old }

@@ -126,7 +126,7 @@ fn clear_end<S: Copy, V: Copy>(nodes: &mut [Node<S, V>], at: usize)
 
 // Works out anew all that is worked out from the end.
 pub(crate) fn label_up<S: Copy, V: Copy>(nodes: &mut [Node<S, V>], n: usize, width: usize)
-    requires le_n { 1 ≤ n }
+    requires one_le_n { 1 ≤ n }
     requires n_bound { n ≤ 16 }
     requires width_bound { width ≤ 128 }
     requires width_in_bounds { n * width + 1 ≤ length nodes.old }

@@ -250,7 +250,7 @@ pub(crate) fn part_by_first<'a, R: Rule, T: Tally>(
 )
     requires w_in_bounds { at + w + w < length nodes.old }
     requires w_bound { w ≤ 128 }
-    requires le_a { 1 ≤ a }
+    requires one_le_a { 1 ≤ a }
     requires a_le_count { a ≤ count }
     requires count_lt_w { count < w }
     ensures { (z : ANode (R.State) (T.Value)) → nodes.new ≡ take at nodes.old ++ partedSecond (keptBy round.now (R.Rule.sense rule.now) (T.Tally.sense tally.now) first) w (a - 1) count (drop at nodes.old) z }

@@ -38,7 +38,7 @@ pub(crate) fn clashes<S: Copy, V: Copy>(x: &Node<S, V>, y: &Node<S, V>) -> bool
 
 // The number that has taken the place of t: hi became lo, and what came after hi has moved down.
 fn moved_to(lo: u8, hi: u8, t: u8) -> u8
-    requires le_lo { 1 ≤ lo }
+    requires one_le_lo { 1 ≤ lo }
     requires lo_lt_hi { lo < hi }
     ensures { (j : ℕ) → result ≡ atDoor (movedTo (lo - 1) (hi - 1)) j t }
 {
@@ -49,7 +49,7 @@ fn moved_to(lo: u8, hi: u8, t: u8) -> u8
 }
 
 fn move_node<S: Copy, V: Copy>(x: &Node<S, V>, lo: u8, hi: u8) -> Node<S, V>
-    requires le_lo { 1 ≤ lo }
+    requires one_le_lo { 1 ≤ lo }
     requires lo_lt_hi { lo < hi }
     ensures { result ≡ movedNode (lo - 1) (hi - 1) x.now }
 {
@@ -65,7 +65,7 @@ fn move_node<S: Copy, V: Copy>(x: &Node<S, V>, lo: u8, hi: u8) -> Node<S, V>
 }
 
 fn move_layer<S: Copy, V: Copy>(us: &mut [Node<S, V>], lo: u8, hi: u8)
-    requires le_lo { 1 ≤ lo }
+    requires one_le_lo { 1 ≤ lo }
     requires lo_lt_hi { lo < hi }
     ensures { us.new ≡ map (movedNode (lo - 1) (hi - 1)) us.old }
 {
@@ -110,7 +110,7 @@ fn take_out<S: Copy, V: Copy>(us: &mut [Node<S, V>], at: usize, blank: &Node<S, 
 
 // Joins the nodes lo and hi of a layer; their in-arcs are the layer's before it.
 fn join_layer<S: Copy, V: Copy>(us: &mut [Node<S, V>], lo: usize, hi: usize, blank: &Node<S, V>)
-    requires le_lo { 1 ≤ lo }
+    requires one_le_lo { 1 ≤ lo }
     requires lo_lt_hi { lo < hi }
     requires hi_in_bounds { hi ≤ length us.old }
     ensures { us.new ≡ joinedLayer (lo - 1) (hi - 1) us.old blank.now }
@@ -123,7 +123,7 @@ fn join_layer<S: Copy, V: Copy>(us: &mut [Node<S, V>], lo: usize, hi: usize, bla
 
 fn move_first<S: Copy, V: Copy>(nodes: &mut [Node<S, V>], w: usize, lo: u8, hi: u8)
     requires w_in_bounds { w < length nodes.old }
-    requires le_lo { 1 ≤ lo }
+    requires one_le_lo { 1 ≤ lo }
     requires lo_lt_hi { lo < hi }
     ensures { nodes.new ≡ map (movedNode (lo - 1) (hi - 1)) (take w nodes.old) ++ drop w nodes.old }
 {
@@ -139,7 +139,7 @@ fn join_first<S: Copy, V: Copy>(
     blank: &Node<S, V>,
 )
     requires w_in_bounds { w < length nodes.old }
-    requires le_lo { 1 ≤ lo }
+    requires one_le_lo { 1 ≤ lo }
     requires lo_lt_hi { lo < hi }
     requires hi_le_w { hi ≤ w }
     ensures { nodes.new ≡ joinedLayer (lo - 1) (hi - 1) (take w nodes.old) blank.now ++ drop w nodes.old }
@@ -157,7 +157,7 @@ fn join_second<S: Copy, V: Copy>(
     blank: &Node<S, V>,
 )
     requires w_in_bounds { w + w < length nodes.old }
-    requires le_lo { 1 ≤ lo }
+    requires one_le_lo { 1 ≤ lo }
     requires lo_lt_hi { lo < hi }
     requires hi_le_w { hi ≤ w }
     ensures { nodes.new ≡ joinedSecond w (lo - 1) (hi - 1) nodes.old blank.now }
@@ -177,7 +177,7 @@ pub(crate) fn join<S: Copy, V: Copy>(
     blank: &Node<S, V>,
 )
     requires w_in_bounds { at + w + w < length nodes.old }
-    requires le_lo { 1 ≤ lo }
+    requires one_le_lo { 1 ≤ lo }
     requires lo_lt_hi { lo < hi }
     requires hi_le_w { hi ≤ w }
     ensures { nodes.new ≡ take at nodes.old ++ joinedSecond w (lo - 1) (hi - 1) (drop at nodes.old) blank.now }

@@ -24,8 +24,8 @@ fn check_pair<S: Copy, V: Copy>(
     a: usize,
     b: usize,
 ) -> Result<(), Refusal>
-    requires le_a { 1 ≤ a }
-    requires le_b { 1 ≤ b }
+    requires one_le_a { 1 ≤ a }
+    requires one_le_b { 1 ≤ b }
     requires b_in_bounds { at + max a b < length nodes.now }
     ensures { (z : ANode S V) → MatchResult result (λ _. pairCode (a == b) (clashAt z at a b nodes.now) ≡ 0) (λ e. pairCode (a == b) (clashAt z at a b nodes.now) ≡ number_of e) }
 {

@@ -23,8 +23,8 @@ pub(crate) trait Test {
 // The target of the arc by the door k + 1, once those into a that do not stay go to `new`.
 fn part_door<K: Test>(test: &K, u: &Node<K::State, K::Value>, k: usize, a: u8, new: u8) -> u8
     requires k_bound { k < 16 }
-    requires le_a { 1 ≤ a }
-    requires le { 1 ≤ new }
+    requires one_le_a { 1 ≤ a }
+    requires one_le_new { 1 ≤ new }
     ensures { result ≡ atDoor (partedTo (K.Test.keeps test.now) (a - 1) (new - 1) u.now) (k + 1) (slice_index u.now.arcs.to k) }
 {
     let t = u.arcs.to[k];
@@ -40,8 +40,8 @@ fn part_node<K: Test>(
     a: u8,
     new: u8,
 ) -> Node<K::State, K::Value>
-    requires le_a { 1 ≤ a }
-    requires le { 1 ≤ new }
+    requires one_le_a { 1 ≤ a }
+    requires one_le_new { 1 ≤ new }
     ensures { result ≡ partedNode (K.Test.keeps test.now) (a - 1) (new - 1) x.now }
 {
     let mut to = [0u8; 16];
@@ -56,8 +56,8 @@ fn part_node<K: Test>(
 }
 
 fn part_layer<K: Test>(test: &K, us: &mut [Node<K::State, K::Value>], a: u8, new: u8)
-    requires le_a { 1 ≤ a }
-    requires le { 1 ≤ new }
+    requires one_le_a { 1 ≤ a }
+    requires one_le_new { 1 ≤ new }
     ensures { us.new ≡ map (partedNode (K.Test.keeps test.now) (a - 1) (new - 1)) us.old }
 {
     for i in 0..us.len() {
@@ -68,8 +68,8 @@ fn part_layer<K: Test>(test: &K, us: &mut [Node<K::State, K::Value>], a: u8, new
 
 fn part_first<K: Test>(test: &K, nodes: &mut [Node<K::State, K::Value>], w: usize, a: u8, new: u8)
     requires w_in_bounds { w < length nodes.old }
-    requires le_a { 1 ≤ a }
-    requires le { 1 ≤ new }
+    requires one_le_a { 1 ≤ a }
+    requires one_le_new { 1 ≤ new }
     ensures { nodes.new ≡ map (partedNode (K.Test.keeps test.now) (a - 1) (new - 1)) (take w nodes.old) ++ drop w nodes.old }
 {
     let us = &mut nodes[0..w];
@@ -95,7 +95,7 @@ fn part_second<K: Test>(
 )
     requires w_in_bounds { w + w < length nodes.old }
     requires w_bound { w ≤ 128 }
-    requires le_a { 1 ≤ a }
+    requires one_le_a { 1 ≤ a }
     requires a_le_count { a ≤ count }
     requires count_lt_w { count < w }
     ensures { (z : ANode (K.State) (K.Value)) → nodes.new ≡ partedSecond (K.Test.keeps test.now) w (a - 1) count nodes.old z }
@@ -116,7 +116,7 @@ pub(crate) fn part<K: Test>(
 )
     requires w_in_bounds { at + w + w < length nodes.old }
     requires w_bound { w ≤ 128 }
-    requires le_a { 1 ≤ a }
+    requires one_le_a { 1 ≤ a }
     requires a_le_count { a ≤ count }
     requires count_lt_w { count < w }
     ensures { (z : ANode (K.State) (K.Value)) → nodes.new ≡ take at nodes.old ++ partedSecond (K.Test.keeps test.now) w (a - 1) count (drop at nodes.old) z }

@@ -88,10 +88,10 @@ fn part_node<R: Rule, T: Tally>(
 )
     requires w_in_bounds { at + w + w < length nodes.old }
     requires w_bound { w ≤ 128 }
-    requires le_a { 1 ≤ a }
+    requires one_le_a { 1 ≤ a }
     requires a_le_count { a ≤ count }
     requires count_lt_w { count < w }
-    requires first_value { Some (brought round.now (R.Rule.sense rule.now) (T.Tally.sense tally.now) first) ≡ headO round.now (R.Rule.sense rule.now) (T.Tally.sense tally.now) (arrivals round.now (R.Rule.sense rule.now) (T.Tally.sense tally.now) a (part at w nodes.old)) }
+    requires is_first { Some (brought round.now (R.Rule.sense rule.now) (T.Tally.sense tally.now) first) ≡ headO round.now (R.Rule.sense rule.now) (T.Tally.sense tally.now) (arrivals round.now (R.Rule.sense rule.now) (T.Tally.sense tally.now) a (part at w nodes.old)) }
     ensures { nodes.new ≡ partedOne round.now (R.Rule.sense rule.now) (T.Tally.sense tally.now) at w (a - 1) count nodes.old }
 {
     part_by_first(

@@ -25,7 +25,7 @@ fn sweep_in<R: Rule, T: Tally>(
     nodes: &mut &mut [Node<R::State, T::Value>],
 ) -> usize
     requires width_in_bounds { room.round.now.n * room.width + 1 ≤ length nodes.old.now }
-    requires shaped_2 { Shaped room.round.now.n room.width nodes.old.now }
+    requires is_shaped { Shaped room.round.now.n room.width nodes.old.now }
     ensures records { nodes.new.now ≡ swept room.entry.round.now (R.Rule.sense rule.now) (T.Tally.sense tally.now) room.entry.width nodes.old.now }
     ensures answer { result ≡ sweepAnswer room.entry.round.now (R.Rule.sense rule.now) (T.Tally.sense tally.now) room.entry.width nodes.old.now }
     ensures lender { nodes.new.ghost_name ≡ nodes.old.ghost_name }
@@ -44,8 +44,8 @@ fn cut_in<R: Rule, T: Tally>(
     ceiling: T::Value,
 ) -> usize
     requires width_in_bounds { room.round.now.n * room.width + 1 ≤ length nodes.old.now }
-    requires shaped_2 { Shaped room.round.now.n room.width nodes.old.now }
-    requires timely_2 { Timely room.round.now.n room.width nodes.old.now }
+    requires is_shaped { Shaped room.round.now.n room.width nodes.old.now }
+    requires is_timely { Timely room.round.now.n room.width nodes.old.now }
     ensures records { nodes.new.now ≡ cut_at room.entry.round.now (R.Rule.sense rule.now) (T.Tally.sense tally.now) room.entry.width ceiling nodes.old.now }
     ensures answer { result ≡ cutAnswer room.entry.round.now (R.Rule.sense rule.now) (T.Tally.sense tally.now) room.entry.width ceiling nodes.old.now }
     ensures lender { nodes.new.ghost_name ≡ nodes.old.ghost_name }
@@ -65,7 +65,7 @@ fn part_in<R: Rule, T: Tally>(
     node: usize,
 ) -> Result<(), Refusal>
     requires width_in_bounds { room.round.now.n * room.width + 1 ≤ length nodes.old.now }
-    requires shaped { Shaped room.round.now.n room.width nodes.old.now }
+    requires is_shaped { Shaped room.round.now.n room.width nodes.old.now }
     ensures records { nodes.new.now ≡ parted room.entry.round.now (R.Rule.sense rule.now) (T.Tally.sense tally.now) room.entry.width layer node nodes.old.now }
     ensures answer { MatchResult result (λ _. partAnswer room.entry.round.now (R.Rule.sense rule.now) (T.Tally.sense tally.now) room.entry.width layer node nodes.old.now ≡ 0) (λ e. partAnswer room.entry.round.now (R.Rule.sense rule.now) (T.Tally.sense tally.now) room.entry.width layer node nodes.old.now ≡ number_of e) }
     ensures lender { nodes.new.ghost_name ≡ nodes.old.ghost_name }
@@ -84,7 +84,7 @@ fn join_in<R: Rule, T: Tally>(
     b: usize,
 ) -> Result<(), Refusal>
     requires width_in_bounds { room.round.now.n * room.width + 1 ≤ length nodes.old.now }
-    requires shaped { Shaped room.round.now.n room.width nodes.old.now }
+    requires is_shaped { Shaped room.round.now.n room.width nodes.old.now }
     ensures records { nodes.new.now ≡ joined room.entry.round.now (R.Rule.sense rule.now) (T.Tally.sense tally.now) room.entry.width layer a b nodes.old.now }
     ensures answer { MatchResult result (λ _. joinAnswer room.entry.round.now (R.Rule.sense rule.now) (T.Tally.sense tally.now) room.entry.width layer a b nodes.old.now ≡ 0) (λ e. joinAnswer room.entry.round.now (R.Rule.sense rule.now) (T.Tally.sense tally.now) room.entry.width layer a b nodes.old.now ≡ number_of e) }
     ensures lender { nodes.new.ghost_name ≡ nodes.old.ghost_name }
@@ -100,7 +100,7 @@ fn refine_in<R: Rule, T: Tally>(
     nodes: &mut &mut [Node<R::State, T::Value>],
 ) -> Refined
     requires width_in_bounds { room.round.now.n * room.width + 1 ≤ length nodes.old.now }
-    requires shaped_2 { Shaped room.round.now.n room.width nodes.old.now }
+    requires is_shaped { Shaped room.round.now.n room.width nodes.old.now }
     ensures records { nodes.new.now ≡ (refined room.entry.round.now (R.Rule.sense rule.now) (T.Tally.sense tally.now) room.entry.width nodes.old.now).1 }
     ensures answer { answer_of result ≡ (refined room.entry.round.now (R.Rule.sense rule.now) (T.Tally.sense tally.now) room.entry.width nodes.old.now).0 }
     ensures lender { nodes.new.ghost_name ≡ nodes.old.ghost_name }

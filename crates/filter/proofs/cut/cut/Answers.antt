@@ -30,7 +30,11 @@ trim-requires g c =
     let xs = c.args.nodes.now in
     let p = and_parts (fits r.n W (length xs)) (timely (take (r.n * W) xs)) (sym c.if-not-may_cut.ensures) in
     let f = room-facts r.n W (length xs) p.0 in
-    (f.high, omega (arith, f.enough), timely-all (take (r.n * W) xs) p.1)
+    record {
+      width_bound = f.high;
+      width_in_bounds = omega (arith, f.enough);
+      all_early = timely-all (take (r.n * W) xs) p.1;
+    }
 
 pub redo-requires : goal.redo-requires
 redo-requires g c =

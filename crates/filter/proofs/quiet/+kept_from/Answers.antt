@@ -19,19 +19,23 @@ returns-then-left-eq0 g t c =
 
 pub kept_in-here-requires : goal.kept_in-here-requires
 kept_in-here-requires g t c =
-    let there = next-there c.args.w c.args.left (length c.args.nodes.now) c.if-left-eq0.false c.requires.1 in
+    let there = next-there c.args.w c.args.left (length c.args.nodes.now) c.if-left-eq0.false c.requires.w_in_bounds in
     let ne = c.if-left-eq0.false in
-    let whole = c.requires.0 in
-    (omega arith, omega (arith, there, c.next_count-m.ensures), c.requires.2)
+    let whole = c.requires.counts_left in
+    record {
+      i_lt_n = omega arith;
+      m_in_bounds = omega (arith, there, c.next_count-m.ensures);
+      w_bound = c.requires.w_bound;
+    }
 
 pub offset_bounds-nodes-w : goal.offset_bounds-nodes-w
-offset_bounds-nodes-w g t c = let h : c.args.w < length c.args.nodes.now = one-fits c.args.left c.args.w _ c.if-left-eq0.false c.requires.1 in search rules
+offset_bounds-nodes-w g t c = let h : c.args.w < length c.args.nodes.now = one-fits c.args.left c.args.w _ c.if-left-eq0.false c.requires.w_in_bounds in search rules
 
 pub slice_bounds-rest-count : goal.slice_bounds-rest-count
-slice_bounds-rest-count g t c = let h : c.args.w < length c.args.nodes.now = one-fits c.args.left c.args.w _ c.if-left-eq0.false c.requires.1 in search rules
+slice_bounds-rest-count g t c = let h : c.args.w < length c.args.nodes.now = one-fits c.args.left c.args.w _ c.if-left-eq0.false c.requires.w_in_bounds in search rules
 
 pub slice_bounds-rest-start : goal.slice_bounds-rest-start
-slice_bounds-rest-start g t c = let h : c.args.w < length c.args.nodes.now = one-fits c.args.left c.args.w _ c.if-left-eq0.false c.requires.1 in search rules
+slice_bounds-rest-start g t c = let h : c.args.w < length c.args.nodes.now = one-fits c.args.left c.args.w _ c.if-left-eq0.false c.requires.w_in_bounds in search rules
 
 pub kept_from-later-requires : goal.kept_from-later-requires
 kept_from-later-requires g t c κs within =
@@ -39,8 +43,8 @@ kept_from-later-requires g t c κs within =
     let w = c.args.w in
     let ne = c.if-left-eq0.false in
     let long : length (take (length xs - w) (drop w xs)) ≡ length xs - w = ap length (take_rest xs w) ∙ length-drop w xs in
-    let whole = c.requires.0 in
-    (omega arith, (within.0, (within.1.0, (within.1.1, (omega arith, (omega (arith, long, rest-fits c.args.left w (length xs) ne c.requires.1), c.requires.2))))))
+    let whole = c.requires.counts_left in
+    (omega arith, (within.0, (within.1.0, (within.1.1, (omega arith, (omega (arith, long, rest-fits c.args.left w (length xs) ne c.requires.w_in_bounds), c.requires.w_bound))))))
 
 pub returns : goal.returns
 returns g t c =
@@ -54,7 +58,7 @@ returns g t c =
       many = λ tally.
           let r = c.args.round.now in
           let R = g.R.Rule.sense c.args.rule.now in
-          let h : w < length xs = one-fits left w (length xs) ne c.requires.1 in
+          let h : w < length xs = one-fits left w (length xs) ne c.requires.w_in_bounds in
           let here : c.kept_in-here.result ≡ arcsWithin (map (thinnedNode r R tally i (part w (after w (left - 1)) xs)) (take w xs)) =
           c.kept_in-here.ensures.many tally ∙ ap (λ (m : ℕ). arcsWithin (map (thinnedNode r R tally i (part w m xs)) (take w xs))) c.next_count-m.ensures in
           let later : c.kept_from-later.result ≡ arcsWithin (take ((left - 1) * w) (thinnedFrom r R tally w (suc i) (left - 1) (drop w xs))) =

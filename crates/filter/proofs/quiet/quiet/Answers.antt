@@ -10,7 +10,11 @@ use Rattle.filter.proofs.quiet.quiet.Goals as goal
 pub kept_from-left-requires : goal.kept_from-left-requires
 kept_from-left-requires g c =
     let f = room-facts c.args.round.now.n c.args.width (length c.args.nodes.now) (sym c.if-not-has_room.ensures) in
-    (omega arith, omega (arith, f.enough), f.high)
+    record {
+      counts_left = omega arith;
+      w_in_bounds = omega (arith, f.enough);
+      w_bound = f.high;
+    }
 
 pub returns : goal.returns
 unfolding arcCount quietSteps

@@ -12,7 +12,10 @@ use Rattle.filter.proofs.sweep.sweep.Goals as goal
 pub thin_from-requires : goal.thin_from-requires
 thin_from-requires g c =
     let f = room-facts c.args.round.now.n c.args.width (length c.args.nodes.now) (sym c.if-not-has_room.ensures) in
-    (omega arith, omega (arith, f.enough))
+    record {
+      counts_left = omega arith;
+      w_in_bounds = omega (arith, f.enough);
+    }
 
 pub returns : goal.returns
 unfolding arcCount sweepSteps

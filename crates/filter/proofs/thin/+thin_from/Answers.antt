@@ -16,11 +16,13 @@ returns-then-left-eq0 g t c tally =
 
 pub thin_first-requires : goal.thin_first-requires
 thin_first-requires g t c =
-    let there = next-there c.args.w c.args.left (length c.args.nodes.now) c.if-left-eq0.false c.requires.1 in
+    let there = next-there c.args.w c.args.left (length c.args.nodes.now) c.if-left-eq0.false c.requires.w_in_bounds in
     let ne = c.if-left-eq0.false in
-    let whole = c.requires.0 in
-    (omega arith, omega (arith, there, c.next_count-m.ensures))
-
+    let whole = c.requires.counts_left in
+    record {
+      i_lt_n = omega arith;
+      m_in_bounds = omega (arith, there, c.next_count-m.ensures);
+    }
 -- a layer thinned keeps its length, and what follows it
 module _ {S V : Type 0} (f : Node S V → Node S V) (w : ℕ) (xs : List (Node S V)) (h : w ≤ length xs) where
   front_long : length (map f (take w xs)) ≡ w
@@ -36,13 +38,13 @@ module _ {S V : Type 0} (f : Node S V → Node S V) (w : ℕ) (xs : List (Node S
   back = drop_at (map f (take w xs)) (drop w xs) w front_long
 
 pub offset_bounds-nodes-w : goal.offset_bounds-nodes-w
-offset_bounds-nodes-w g t c = let h : c.args.w < length c.args.nodes.now = one-fits c.args.left c.args.w _ c.if-left-eq0.false c.requires.1 in search rules
+offset_bounds-nodes-w g t c = let h : c.args.w < length c.args.nodes.now = one-fits c.args.left c.args.w _ c.if-left-eq0.false c.requires.w_in_bounds in search rules
 
 pub slice_bounds-rest-count : goal.slice_bounds-rest-count
-slice_bounds-rest-count g t c = let h : c.args.w < length c.args.nodes.now = one-fits c.args.left c.args.w _ c.if-left-eq0.false c.requires.1 in search rules
+slice_bounds-rest-count g t c = let h : c.args.w < length c.args.nodes.now = one-fits c.args.left c.args.w _ c.if-left-eq0.false c.requires.w_in_bounds in search rules
 
 pub slice_bounds-rest-start : goal.slice_bounds-rest-start
-slice_bounds-rest-start g t c = let h : c.args.w < length c.args.nodes.now = one-fits c.args.left c.args.w _ c.if-left-eq0.false c.requires.1 in search rules
+slice_bounds-rest-start g t c = let h : c.args.w < length c.args.nodes.now = one-fits c.args.left c.args.w _ c.if-left-eq0.false c.requires.w_in_bounds in search rules
 
 pub thin_from-requires : goal.thin_from-requires
 thin_from-requires g t c κs within =
@@ -52,8 +54,11 @@ thin_from-requires g t c κs within =
     let ne = c.if-left-eq0.false in
     let same : length ys ≡ length xs = c.thin_first.auto.nodes in
     let long : length (take (length ys - w) (drop w ys)) ≡ length ys - w = ap length (take_rest ys w) ∙ length-drop w ys in
-    let whole = c.requires.0 in
-    (omega arith, (within.0, (within.1.0, (within.1.1, (omega arith, omega (arith, long, same, rest-fits c.args.left w (length xs) ne c.requires.1))))))
+    let whole = c.requires.counts_left in
+    record {
+      counts_left = omega arith;
+      w_in_bounds = (within.0, (within.1.0, (within.1.1, (omega arith, omega (arith, long, same, rest-fits c.args.left w (length xs) ne c.requires.w_in_bounds)))));
+    }
 
 pub returns : goal.returns
 returns g t c tally =
@@ -63,7 +68,7 @@ returns g t c tally =
     let w = c.args.w in
     let i = c.args.i in
     let ne = c.if-left-eq0.false in
-    let h : w < length xs = one-fits c.args.left w _ ne c.requires.1 in
+    let h : w < length xs = one-fits c.args.left w _ ne c.requires.w_in_bounds in
     let h' : w ≤ length xs = omega arith in
     let f = thinnedNode r R tally i (part w (after w (c.args.left - 1)) xs) in
     let ys = c.thin_first.new.nodes in

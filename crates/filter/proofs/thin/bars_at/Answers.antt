@@ -12,4 +12,4 @@ returns g c t d =
     let v = c.index-vs-b.result in
     c.bars.ensures t
     ∙ ap (λ (x : Node g.row.R-State.Denot g.row.V.Denot). barred r R t i (r.n - i) (c.args.k + 1) (Some c.args.u.now.label.down) (Some x.label.up))
-    (get_or_read c.args.vs.now c.args.b v c.requires.2 c.index-vs-b.is d)
+    (get_or_read c.args.vs.now c.args.b v c.requires.b_in_bounds c.index-vs-b.is d)

@@ -6,7 +6,10 @@ use Rattle.labels.proofs.Earlies.{next-ends, layers-ready}
 use Rattle.labels.proofs.down.label_down.Goals as goal
 
 pub begin_at-requires : goal.begin_at-requires
-begin_at-requires g c = (omega arith, omega (arith, mul-le-mul_right c.args.width c.args.round.now.one, one-mul c.args.width))
+begin_at-requires g c = record {
+      width_nonzero = omega arith;
+      width_in_bounds = omega (arith, mul-le-mul_right c.args.width c.args.round.now.one, one-mul c.args.width);
+    }
 
 pub relabel_layer-requires : goal.relabel_layer-requires
 relabel_layer-requires g c =
@@ -15,12 +18,12 @@ relabel_layer-requires g c =
     let T = g.T.Tally.sense c.args.tally.now in
     let w = c.args.width in
     let xs = c.args.nodes.now in
-    let i = c.loop-i.i in (
-      omega (arith, add-mul i 1 w, one-mul w),
-      omega (arith, next-ends r R T w xs c.requires.2 i (omega arith)),
-      subst (λ ys. All (Early (latest 15)) (part (i * w) w ys)) (sym (c.loop-i.invariant ∙ ap (layersDone r R T w i) (c.begin_at.ensures r)))
-          (layers-ready r R T w xs c.requires.2 i (omega arith)),
-    )
+    let i = c.loop-i.i in record {
+      width_bound = omega (arith, add-mul i 1 w, one-mul w);
+      count_in_bounds = omega (arith, next-ends r R T w xs c.requires.width_in_bounds i (omega arith));
+      all_early = subst (λ ys. All (Early (latest 15)) (part (i * w) w ys)) (sym (c.loop-i.invariant ∙ ap (layersDone r R T w i) (c.begin_at.ensures r)))
+          (layers-ready r R T w xs c.requires.width_in_bounds i (omega arith));
+    }
 
 pub relabel_layer-requires-2 : goal.relabel_layer-requires-2
 relabel_layer-requires-2 g c =
@@ -31,12 +34,12 @@ relabel_layer-requires-2 g c =
     let n = r.n in
     let xs = c.args.nodes.now in
     let all : c.loop-i.i ≡ n - 1 = omega (arith, c.args.round.now.one) in
-    let last : n - 1 + 1 ≡ n = omega (arith, c.args.round.now.one) in (
-      omega (arith, add-mul (n - 1) 1 w, one-mul w, ap (λ k. k * w) last),
-      omega arith,
-      subst (λ ys. All (Early (latest 15)) (part ((n - 1) * w) w ys)) (sym (c.loop-i.invariant ∙ ap (λ k. layersDone r R T w k c.begin_at.new.nodes) all ∙ ap (layersDone r R T w (n - 1)) (c.begin_at.ensures r)))
-          (layers-ready r R T w xs c.requires.2 (n - 1) (omega (arith, c.args.round.now.one))),
-    )
+    let last : n - 1 + 1 ≡ n = omega (arith, c.args.round.now.one) in record {
+      width_bound = omega (arith, add-mul (n - 1) 1 w, one-mul w, ap (λ k. k * w) last);
+      count_in_bounds = omega arith;
+      all_early = subst (λ ys. All (Early (latest 15)) (part ((n - 1) * w) w ys)) (sym (c.loop-i.invariant ∙ ap (λ k. layersDone r R T w k c.begin_at.new.nodes) all ∙ ap (layersDone r R T w (n - 1)) (c.begin_at.ensures r)))
+          (layers-ready r R T w xs c.requires.width_in_bounds (n - 1) (omega (arith, c.args.round.now.one)));
+    }
 
 pub loop-i-preserved : goal.loop-i-preserved
 loop-i-preserved g c =

@@ -19,18 +19,18 @@ spread_at-requires g c =
     let at = c.args.at in
     let from = c.args.from in
     let w = c.args.width in
-    let a = c.loop-a.a in (
-      omega arith,
-      omega arith,
-      λ d.
+    let a = c.loop-a.a in record {
+      p_lt_at = omega arith;
+      count_in_bounds = omega arith;
+      finish_bound = λ d.
           let here : get_or c.loop-a.nodes (from + a) d ≡ get_or (part from w xs) a d =
           ap (λ ys. get_or ys (from + a) d) c.loop-a.invariant
           ∙ getD-before-over at _ E (from + a) d (omega arith) (omega arith)
           ∙ ap (λ ys. get_or ys (from + a) d) (c.clear_at.ensures r)
           ∙ getD-before-over at _ xs (from + a) d (omega arith) (omega arith)
           ∙ sym (get_d_part from w xs a d (omega arith)) in
-          subst (Early (latest 15)) (sym here) (All-get_or (Early (latest 15)) (part from w xs) a d (omega (arith, length_part from w xs (omega arith))) c.requires.2),
-    )
+          subst (Early (latest 15)) (sym here) (All-get_or (Early (latest 15)) (part from w xs) a d (omega (arith, length_part from w xs (omega arith))) c.requires.all_early);
+    }
 
 pub loop-a-preserved : goal.loop-a-preserved
 loop-a-preserved g c =

@@ -9,7 +9,11 @@ node_at-u-requires g c = omega arith
 
 pub spread_into-requires : goal.spread_into-requires
 spread_into-requires g c =
-    (c.requires.1, omega arith, subst (λ (u : Node g.row.R-State.Denot g.row.T-Value.Denot). u.label.down.finish ≤ latest 15) (sym (c.node_at-u.ensures c.node_at-u.result)) (c.requires.2 c.node_at-u.result))
+    record {
+      count_in_bounds = c.requires.count_in_bounds;
+      at_in_bounds = omega arith;
+      finish_bound = subst (λ (u : Node g.row.R-State.Denot g.row.T-Value.Denot). u.label.down.finish ≤ latest 15) (sym (c.node_at-u.ensures c.node_at-u.result)) (c.requires.finish_bound c.node_at-u.result);
+    }
 
 pub returns : goal.returns
 returns g c d =

@@ -15,4 +15,4 @@ returns g c =
     let n = c.args.count in
     let u = c.args.u.now in
     ap (put_mid at (at + n - at) xs) (c.spread_node.ensures ∙ ap (λ vs. spread r R T vs u) (part_of at n xs))
-    ∙ put-over at n xs (spread r R T (part at n xs) u) (spread-long r R T (part at n xs) u ∙ length_part at n xs c.requires.0)
+    ∙ put-over at n xs (spread r R T (part at n xs) u) (spread-long r R T (part at n xs) u ∙ length_part at n xs c.requires.count_in_bounds)

@@ -7,14 +7,20 @@ rise_layer-requires g c =
     let n = c.args.n in
     let w = c.args.width in
     let last : n - 1 + 1 ≡ n = omega arith in
-    (omega (arith, add-mul (n - 1) 1 w, one-mul w, ap (λ k. k * w) last), omega arith)
+    record {
+      width_bound = omega (arith, add-mul (n - 1) 1 w, one-mul w, ap (λ k. k * w) last);
+      count_in_bounds = omega arith;
+    }
 
 pub rise_layer-requires-in-loop-i : goal.rise_layer-requires-in-loop-i
 rise_layer-requires-in-loop-i g c =
     let i = c.loop-i.i - 1 in
     let w = c.args.width in
     let h : i + 1 + 1 ≤ c.args.n = omega arith in
-    (omega (arith, add-mul i 1 w, one-mul w), omega (arith, mul-le-mul_right w h, add-mul (i + 1) 1 w, one-mul w))
+    record {
+      width_bound = omega (arith, add-mul i 1 w, one-mul w);
+      count_in_bounds = omega (arith, mul-le-mul_right w h, add-mul (i + 1) 1 w, one-mul w);
+    }
 
 pub loop-i-preserved : goal.loop-i-preserved
 loop-i-preserved g c =

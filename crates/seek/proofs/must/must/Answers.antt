@@ -13,7 +13,9 @@ room n w long e =
     (leb-true n 16 c.0, leb-true w 128 (and_parts _ _ a).0, leb-true (n * w + 1) long c.1)
 
 pub first_row-row-requires : goal.first_row-row-requires
-first_row-row-requires g c = room c.args.n c.args.width (length c.args.nodes.now) (sym c.if-not-fits.ensures)
+first_row-row-requires g c =
+    let r = room c.args.n c.args.width (length c.args.nodes.now) (sym c.if-not-fits.ensures) in
+    record { n_bound = r.0; width_bound = r.1; width_in_bounds = r.2 }
 
 pub returns : goal.returns
 unfolding must seenFrom

@@ -19,7 +19,11 @@ row_at-row-requires g c =
     let k = c.loop-k.k - 1 in
     let w = c.args.width in
     let h : suc k ≤ c.args.n = omega (arith, c.loop-k.invariant.0) in
-    (c.requires.0, c.requires.1, omega (arith, c.requires.2, mul-le-mul_right w h, suc-mul k w))
+    record {
+      n_bound = c.requires.n_bound;
+      width_bound = c.requires.width_bound;
+      width_in_bounds = omega (arith, c.requires.width_in_bounds, mul-le-mul_right w h, suc-mul k w);
+    }
 
 pub loop-k-preserved : goal.loop-k-preserved
 loop-k-preserved g c =

@@ -30,7 +30,10 @@ overflow_mul-k g c =
 pub layer_agreed-here-requires : goal.layer_agreed-here-requires
 layer_agreed-here-requires g c =
     let room = room-facts c.args.round.now.n c.args.width (length c.args.nodes.now) (sym c.if-not-has_room.ensures) in
-    (layer-within c.args.round.now.n c.args.width (length c.args.nodes.now) c.loop-k.k room.enough (omega (arith, c.loop-k-test.true)), room.high)
+    record {
+      w_in_bounds = layer-within c.args.round.now.n c.args.width (length c.args.nodes.now) c.loop-k.k room.enough (omega (arith, c.loop-k-test.true));
+      w_bound = room.high;
+    }
 
 pub loop-k-preserved : goal.loop-k-preserved
 unfolding agreedLayers

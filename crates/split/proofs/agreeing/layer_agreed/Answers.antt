@@ -10,10 +10,10 @@ unfolding agreedTo
 loop-b-init g c s = refl
 
 pub overflow_cast-b : goal.overflow_cast-b
-overflow_cast-b g c = let most = count_most (c.args.at + c.args.w) c.args.w c.args.nodes.now in omega (arith, c.count_in-count.ensures, c.loop-b-test.true, c.requires.1)
+overflow_cast-b g c = let most = count_most (c.args.at + c.args.w) c.args.w c.args.nodes.now in omega (arith, c.count_in-count.ensures, c.loop-b-test.true, c.requires.w_bound)
 
 pub overflow_add-b : goal.overflow_add-b
-overflow_add-b g c = let most = count_most (c.args.at + c.args.w) c.args.w c.args.nodes.now in omega (arith, c.count_in-count.ensures, c.loop-b-test.true, c.requires.1)
+overflow_add-b g c = let most = count_most (c.args.at + c.args.w) c.args.w c.args.nodes.now in omega (arith, c.count_in-count.ensures, c.loop-b-test.true, c.requires.w_bound)
 
 pub loop-b-preserved : goal.loop-b-preserved
 unfolding agreedTo

@@ -3,10 +3,10 @@ use Rattle.split.proofs.Joins.{moved_same, moved-above, moved-below}
 use Rattle.split.proofs.join.moved_to.Goals as goal
 
 pub returns-then-t-hi : goal.returns-then-t-hi
-returns-then-t-hi c j = moved_same c.args.lo c.args.hi j c.requires.0 c.requires.1 c.args.t c.if-t-hi.true
+returns-then-t-hi c j = moved_same c.args.lo c.args.hi j c.requires.one_le_lo c.requires.lo_lt_hi c.args.t c.if-t-hi.true
 
 pub returns-then-hi-t : goal.returns-then-hi-t
-returns-then-hi-t c j = moved-above c.args.lo c.args.hi j c.requires.0 c.requires.1 c.args.t (omega arith)
+returns-then-hi-t c j = moved-above c.args.lo c.args.hi j c.requires.one_le_lo c.requires.lo_lt_hi c.args.t (omega arith)
 
 pub returns-else-hi-t : goal.returns-else-hi-t
-returns-else-hi-t c j = moved-below c.args.lo c.args.hi j c.requires.0 c.requires.1 c.args.t (omega arith)
+returns-else-hi-t c j = moved-below c.args.lo c.args.hi j c.requires.one_le_lo c.requires.lo_lt_hi c.args.t (omega arith)

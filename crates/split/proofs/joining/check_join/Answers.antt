@@ -49,7 +49,11 @@ check_pair-requires g c =
     let b = node-clear m c.args.b c.in_ok-check_node-2.ensures in
     let fits = placed-fits c.args.n w (length c.args.nodes.now) c.args.layer (place-clear _ _ _ _ c.in_ok-check_place.ensures) in
     let top : max c.args.a c.args.b ≤ m = max-le a.1 b.1 in
-    (a.0, b.0, omega (arith, c.count_in-count.ensures, count_most at w c.args.nodes.now))
+    record {
+      one_le_a = a.0;
+      one_le_b = b.0;
+      b_in_bounds = omega (arith, c.count_in-count.ensures, count_most at w c.args.nodes.now);
+    }
 
 pub returns : goal.returns
 returns g c z =

@@ -52,7 +52,12 @@ pub join-requires : goal.join-requires
 join-requires g c =
     let may : MayJoin c.args.round.now.n c.blank_node-blank.result c.args.width c.args.layer c.args.a c.args.b c.args.nodes.now = join-clear c.args.round.now.n c.blank_node-blank.result c.args.width c.args.layer c.args.a c.args.b c.args.nodes.now (c.in_ok-check_join.ensures c.blank_node-blank.result) in
     let most = count_most ((c.args.layer - 1) * c.args.width + c.args.width) c.args.width c.args.nodes.now in
-    (placed-fits c.args.round.now.n c.args.width (length c.args.nodes.now) c.args.layer may.placed, omega (arith, may.low), omega (arith, may.apart), omega (arith, may.high))
+    record {
+      w_in_bounds = placed-fits c.args.round.now.n c.args.width (length c.args.nodes.now) c.args.layer may.placed;
+      one_le_lo = omega (arith, may.low);
+      lo_lt_hi = omega (arith, may.apart);
+      hi_le_w = omega (arith, may.high);
+    }
 
 pub returns : goal.returns
 unfolding joinedOne

@@ -44,14 +44,14 @@ part_node-requires g c =
     let m = countAt ((c.args.layer - 1) * c.args.width + c.args.width) c.args.width c.args.nodes.now in
     let count : c.count_in-count.result ≡ m = c.count_in-count.ensures in
     let high : c.args.node ≤ m = may.high in
-    let room : m < c.args.width = may.into.room in (
-      placed-fits c.args.round.now.n c.args.width (length c.args.nodes.now) c.args.layer may.placed,
-      may.placed.few,
-      may.low,
-      omega arith,
-      omega arith,
-      may.into.first,
-    )
+    let room : m < c.args.width = may.into.room in record {
+      w_in_bounds = placed-fits c.args.round.now.n c.args.width (length c.args.nodes.now) c.args.layer may.placed;
+      w_bound = may.placed.few;
+      one_le_a = may.low;
+      a_le_count = omega arith;
+      count_lt_w = omega arith;
+      is_first = may.into.first;
+    }
 
 pub returns : goal.returns
 returns g c =

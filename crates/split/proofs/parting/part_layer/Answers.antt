@@ -24,7 +24,10 @@ overflow_mul-layer g c =
 pub part_from-requires : goal.part_from-requires
 part_from-requires g c =
     let p : Placed c.args.round.now.n c.args.width (length c.args.nodes.now) c.args.layer = place-clear _ _ _ _ (ok-clear c.check_place.result _ c.check_place.ensures (sym c.is_err.ensures.value ∙ c.if-is_err.false)) in
-    (placed-fits _ _ _ _ p, p.few)
+    record {
+      w_in_bounds = placed-fits _ _ _ _ p;
+      w_bound = p.few;
+    }
 
 pub returns : goal.returns
 unfolding layerSteps

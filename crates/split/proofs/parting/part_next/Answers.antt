@@ -29,7 +29,14 @@ part_node-requires g c =
     let r = c.args.round.now in
     let R = g.R.Rule.sense c.args.rule.now in
     let T = g.T.Tally.sense c.args.tally.now in
-    (c.requires.0, c.requires.1, omega arith, omega (arith, c.requires.2), c.if-count-w.false, ap (broughtFirst r R T) (sym c.in-Some.is) ∙ c.look_in-first.ensures.first T)
+    record {
+      w_in_bounds = c.requires.w_in_bounds;
+      w_bound = c.requires.w_bound;
+      one_le_a = omega arith;
+      a_le_count = omega (arith, c.requires.a_lt_count);
+      count_lt_w = c.if-count-w.false;
+      is_first = ap (broughtFirst r R T) (sym c.in-Some.is) ∙ c.look_in-first.ensures.first T;
+    }
 
 pub returns-in-None : goal.returns-in-None
 returns-in-None g c =

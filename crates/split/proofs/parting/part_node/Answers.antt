@@ -15,7 +15,7 @@ returns g c =
     let at = c.args.at in
     let w = c.args.w in
     let z = blankNode r R T in
-    let back : c.args.a ≡ suc (c.args.a - 1) = omega (arith, c.requires.2) in
+    let back : c.args.a ≡ suc (c.args.a - 1) = omega (arith, c.requires.one_le_a) in
     c.part_by_first.ensures z
     ∙ ap (λ o. take at xs ++ partedSecond (keptFirst r R T o) w (c.args.a - 1) c.args.count (drop at xs) z)
-    (c.requires.5 ∙ ap (λ (t : ℕ). headO r R T (arrivals r R T t (part at w xs))) back)
+    (c.requires.is_first ∙ ap (λ (t : ℕ). headO r R T (arrivals r R T t (part at w xs))) back)

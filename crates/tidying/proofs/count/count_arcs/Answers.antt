@@ -12,4 +12,7 @@ pub count_first-requires : goal.count_first-requires
 count_first-requires g c =
     let f = room-facts c.args.round.now.n c.args.width (length c.args.nodes.now) (sym c.if-not-has_room.ensures) in
     let h = few-records c.args.round.now.n c.args.width c.args.round.now.most f.high in
-    (omega (arith, f.enough), omega (arith, h))
+    record {
+      end_in_bounds = omega (arith, f.enough);
+      end_bound = omega (arith, h);
+    }

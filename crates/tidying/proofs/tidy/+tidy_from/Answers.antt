@@ -17,26 +17,35 @@ returns-then-left-eq0 g t c =
     }
 
 pub mark_second-next-requires : goal.mark_second-next-requires
-mark_second-next-requires g t c = let h : c.args.w < length c.args.nodes.now = one-fits c.args.left c.args.w _ c.if-left-eq0.false c.requires.1 in (c.requires.0, omega arith)
+mark_second-next-requires g t c = let h : c.args.w < length c.args.nodes.now = one-fits c.args.left c.args.w _ c.if-left-eq0.false c.requires.w_in_bounds in record {
+      w_bound = c.requires.w_bound;
+      w_in_bounds = omega arith;
+    }
 
 pub offset_bounds-nodes-w : goal.offset_bounds-nodes-w
-offset_bounds-nodes-w g t c = let h : c.args.w < length c.args.nodes.now = one-fits c.args.left c.args.w _ c.if-left-eq0.false c.requires.1 in search rules
+offset_bounds-nodes-w g t c = let h : c.args.w < length c.args.nodes.now = one-fits c.args.left c.args.w _ c.if-left-eq0.false c.requires.w_in_bounds in search rules
 
 pub slice_bounds-rest-count : goal.slice_bounds-rest-count
-slice_bounds-rest-count g t c = let h : c.args.w < length c.args.nodes.now = one-fits c.args.left c.args.w _ c.if-left-eq0.false c.requires.1 in search rules
+slice_bounds-rest-count g t c = let h : c.args.w < length c.args.nodes.now = one-fits c.args.left c.args.w _ c.if-left-eq0.false c.requires.w_in_bounds in search rules
 
 pub slice_bounds-rest-start : goal.slice_bounds-rest-start
-slice_bounds-rest-start g t c = let h : c.args.w < length c.args.nodes.now = one-fits c.args.left c.args.w _ c.if-left-eq0.false c.requires.1 in search rules
+slice_bounds-rest-start g t c = let h : c.args.w < length c.args.nodes.now = one-fits c.args.left c.args.w _ c.if-left-eq0.false c.requires.w_in_bounds in search rules
 
 pub tidy_from-new-requires : goal.tidy_from-new-requires
 tidy_from-new-requires g t c κs within =
     let xs = c.args.nodes.now in
     let w = c.args.w in
     let long : length (take (length xs - w) (drop w xs)) ≡ length xs - w = ap length (take_rest xs w) ∙ length-drop w xs in
-    (omega arith, (within.0, (within.1, (c.requires.0, omega (arith, long, rest-fits c.args.left w (length xs) c.if-left-eq0.false c.requires.1)))))
+    record {
+      w_bound = omega arith;
+      w_in_bounds = (within.0, (within.1, (c.requires.w_bound, omega (arith, long, rest-fits c.args.left w (length xs) c.if-left-eq0.false c.requires.w_in_bounds))));
+    }
 
 pub tidy_first-requires : goal.tidy_first-requires
-tidy_first-requires g t c = let h : c.args.w < length c.args.nodes.now = one-fits c.args.left c.args.w _ c.if-left-eq0.false c.requires.1 in (c.requires.0, front_fits c.args.w _ c.args.nodes.now c.tidy_from-new.new.nodes (omega arith))
+tidy_first-requires g t c = let h : c.args.w < length c.args.nodes.now = one-fits c.args.left c.args.w _ c.if-left-eq0.false c.requires.w_in_bounds in record {
+      w_bound = c.requires.w_bound;
+      w_in_bounds = front_fits c.args.w _ c.args.nodes.now c.tidy_from-new.new.nodes (omega arith);
+    }
 
 pub returns : goal.returns
 returns g t c =
@@ -46,7 +55,7 @@ returns g t c =
     let from = c.args.from.now in
     let ys = c.tidy_from-new.new.nodes in
     let n = c.args.left - 1 in
-    let h : w < length xs = one-fits c.args.left w _ c.if-left-eq0.false c.requires.1 in
+    let h : w < length xs = one-fits c.args.left w _ c.if-left-eq0.false c.requires.w_in_bounds in
     let h' : w ≤ length xs = omega arith in
     let front : take w (put_mid w (length xs - w) xs ys) ≡ take w xs = take-put_mid_below w (length xs - w) xs ys w (omega arith) h' in
     let back : drop w (put_mid w (length xs - w) xs ys) ≡ ys = rest-written w xs ys h' in
