@@ -55,10 +55,7 @@ thin_from-requires g t c κs within =
     let same : length ys ≡ length xs = c.thin_first.auto.nodes in
     let long : length (take (length ys - w) (drop w ys)) ≡ length ys - w = ap length (take_rest ys w) ∙ length-drop w ys in
     let whole = c.requires.counts_left in
-    record {
-      counts_left = omega arith;
-      w_in_bounds = (within.0, (within.1.0, (within.1.1, (omega arith, omega (arith, long, same, rest-fits c.args.left w (length xs) ne c.requires.w_in_bounds)))));
-    }
+    (omega arith, (within.0, (within.1.0, (within.1.1, (omega arith, omega (arith, long, same, rest-fits c.args.left w (length xs) ne c.requires.w_in_bounds))))))
 
 pub returns : goal.returns
 returns g t c tally =

@@ -36,10 +36,7 @@ tidy_from-new-requires g t c κs within =
     let xs = c.args.nodes.now in
     let w = c.args.w in
     let long : length (take (length xs - w) (drop w xs)) ≡ length xs - w = ap length (take_rest xs w) ∙ length-drop w xs in
-    record {
-      w_bound = omega arith;
-      w_in_bounds = (within.0, (within.1, (c.requires.w_bound, omega (arith, long, rest-fits c.args.left w (length xs) c.if-left-eq0.false c.requires.w_in_bounds))));
-    }
+    (omega arith, (within.0, (within.1, (c.requires.w_bound, omega (arith, long, rest-fits c.args.left w (length xs) c.if-left-eq0.false c.requires.w_in_bounds)))))
 
 pub tidy_first-requires : goal.tidy_first-requires
 tidy_first-requires g t c = let h : c.args.w < length c.args.nodes.now = one-fits c.args.left c.args.w _ c.if-left-eq0.false c.requires.w_in_bounds in record {
