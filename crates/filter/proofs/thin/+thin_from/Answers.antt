@@ -23,6 +23,7 @@ thin_first-requires g t c =
       i_lt_n = omega arith;
       m_in_bounds = omega (arith, there, c.next_count-m.ensures);
     }
+
 -- a layer thinned keeps its length, and what follows it
 module _ {S V : Type 0} (f : Node S V → Node S V) (w : ℕ) (xs : List (Node S V)) (h : w ≤ length xs) where
   front_long : length (map f (take w xs)) ≡ w

@@ -7,9 +7,9 @@ use Rattle.labels.proofs.down.label_down.Goals as goal
 
 pub begin_at-requires : goal.begin_at-requires
 begin_at-requires g c = record {
-      width_nonzero = omega arith;
-      width_in_bounds = omega (arith, mul-le-mul_right c.args.width c.args.round.now.one, one-mul c.args.width);
-    }
+  width_nonzero = omega arith;
+  width_in_bounds = omega (arith, mul-le-mul_right c.args.width c.args.round.now.one, one-mul c.args.width);
+}
 
 pub relabel_layer-requires : goal.relabel_layer-requires
 relabel_layer-requires g c =

@@ -18,9 +18,9 @@ returns-then-left-eq0 g t c =
 
 pub mark_second-next-requires : goal.mark_second-next-requires
 mark_second-next-requires g t c = let h : c.args.w < length c.args.nodes.now = one-fits c.args.left c.args.w _ c.if-left-eq0.false c.requires.w_in_bounds in record {
-      w_bound = c.requires.w_bound;
-      w_in_bounds = omega arith;
-    }
+  w_bound = c.requires.w_bound;
+  w_in_bounds = omega arith;
+}
 
 pub offset_bounds-nodes-w : goal.offset_bounds-nodes-w
 offset_bounds-nodes-w g t c = let h : c.args.w < length c.args.nodes.now = one-fits c.args.left c.args.w _ c.if-left-eq0.false c.requires.w_in_bounds in search rules
@@ -40,9 +40,9 @@ tidy_from-new-requires g t c κs within =
 
 pub tidy_first-requires : goal.tidy_first-requires
 tidy_first-requires g t c = let h : c.args.w < length c.args.nodes.now = one-fits c.args.left c.args.w _ c.if-left-eq0.false c.requires.w_in_bounds in record {
-      w_bound = c.requires.w_bound;
-      w_in_bounds = front_fits c.args.w _ c.args.nodes.now c.tidy_from-new.new.nodes (omega arith);
-    }
+  w_bound = c.requires.w_bound;
+  w_in_bounds = front_fits c.args.w _ c.args.nodes.now c.tidy_from-new.new.nodes (omega arith);
+}
 
 pub returns : goal.returns
 returns g t c =

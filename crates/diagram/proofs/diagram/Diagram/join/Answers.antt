@@ -21,4 +21,11 @@ invariant_of-self g c =
     let is : ys ≡ joinSteps r R T W i a b xs = e.records ∙ sym (join-words r R T W i a b xs d.room.wide d.room.narrow d.fits shape) in
     let s = subst (Shaped r.n W) (sym is) (join-shaped r R T W i a b xs d.room.wide d.room.narrow d.fits shape) in
     let t = subst (Timely r.n W) (sym is) (join-timely r R T W i a b xs d.room.wide d.room.narrow d.fits shape d.timely) in
-    (omega (arith, e.long, d.fits), (s.written, (s.tidy, (s.first, (s.ended, (t, tt))))))
+    record {
+      fits = omega (arith, e.long, d.fits);
+      written = s.written;
+      tidy = s.tidy;
+      first = s.first;
+      ended = s.ended;
+      timely = t;
+    }

@@ -35,7 +35,14 @@ invariant_of-result g c =
     let all = both r R T W a b xs c.lay_arcs.new.nodes c.relabel.new.nodes c.requires c.lay_arcs.ensures c.relabel.ensures.passes in
     let shape = subst (Shaped r.n W) (sym all) (opened-shaped r R T W a b xs c.requires) in
     let timely = subst (Timely r.n W) (sym all) (opened-timely r R T W a b xs c.requires) in
-    (omega arith, (shape.written, (shape.tidy, (shape.first, (shape.ended, (timely, tt))))))
+    record {
+      fits = omega arith;
+      written = shape.written;
+      tidy = shape.tidy;
+      first = shape.first;
+      ended = shape.ended;
+      timely = timely;
+    }
 
 pub returns : goal.returns
 returns g c =

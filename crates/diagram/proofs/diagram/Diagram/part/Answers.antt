@@ -21,4 +21,11 @@ invariant_of-self g c =
     let is : ys ≡ partSteps r R T W i a xs = e.records ∙ sym (part-words r R T W i a xs d.room.wide d.room.narrow d.fits shape self) in
     let s = subst (Shaped r.n W) (sym is) (part-shaped r R T W i a xs d.room.wide d.room.narrow d.fits shape self) in
     let t = subst (Timely r.n W) (sym is) (part-timely r R T W i a xs d.room.wide d.room.narrow d.fits shape self d.timely) in
-    (omega (arith, e.long, d.fits), (s.written, (s.tidy, (s.first, (s.ended, (t, tt))))))
+    record {
+      fits = omega (arith, e.long, d.fits);
+      written = s.written;
+      tidy = s.tidy;
+      first = s.first;
+      ended = s.ended;
+      timely = t;
+    }

@@ -5,4 +5,11 @@ pub invariant_of-self : goal.invariant_of-self
 invariant_of-self g c =
     let e = c.sweep_in.ensures in
     let s = e.shaped in
-    (omega (arith, e.long, c.args.self.now.fits), (s.written, (s.tidy, (s.first, (s.ended, (e.timely, tt))))))
+    record {
+      fits = omega (arith, e.long, c.args.self.now.fits);
+      written = s.written;
+      tidy = s.tidy;
+      first = s.first;
+      ended = s.ended;
+      timely = e.timely;
+    }
