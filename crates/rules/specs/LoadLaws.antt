@@ -11,6 +11,7 @@ use Rattle.doors.specs.Orders as orders
 use Rattle.doors.proofs.Orders.{door-is, not-door, part-ind, each_none, each-front, each_last, each_more}
 use Rattle.doors.proofs.Sets.{part_length}
 use Rattle.round.specs.declared.door.Door.{Door}
+use Rattle.round.specs.declared.table.Round.{Round}
 use Rattle.round.specs.Tables.{at}
 use Rattle.rules.specs.declared.load.Interval.{Interval}
 use Rattle.rules.specs.Loads.{load_of, Within, interval, Between, held, moves, spans, overflows, eqZ, loadSense}
@@ -37,7 +38,19 @@ eqZ-is a b e = grind (arith, ints)
 eqZ-self : (a : ℤ) → eqZ a a ≡ true
 eqZ-self a = grind (arith, ints)
 
-module _ (n load limit : ℕ) (doors : List Door) (most : n ≤ 16) (within : load ≤ limit) (small : limit ≤ 999) (low : (j : ℕ) → negsuc 98 ≤ℤ (at doors j).change) (high : (j : ℕ) → (at doors j).change ≤ℤ pos 99) where
+module _ (r : Round) where
+  abbrev n : ℕ
+  n = r.n
+
+  abbrev load : ℕ
+  load = r.load
+
+  abbrev limit : ℕ
+  limit = r.limit
+
+  abbrev doors : List Door
+  doors = r.doors
+
   load-last : (w : List ℕ) (j : ℕ) → load_of load doors (w ++ j ∷ []) ≡ load_of load doors w +ℤ (at doors j).change
   load-last w j = fold_push (λ l j. l +ℤ (at doors j).change) (pos load) w j
 
@@ -45,7 +58,7 @@ module _ (n load limit : ℕ) (doors : List Door) (most : n ≤ 16) (within : lo
   bounds : (w : List ℕ) → PartOrder n w → (pos 0 ≤ℤ (load_of load doors w +ℤ pos (99 * length w))) × (load_of load doors w ≤ℤ pos (999 + 99 * length w))
   bounds =
       part-ind n (λ w. (pos 0 ≤ℤ (load_of load doors w +ℤ pos (99 * length w))) × (load_of load doors w ≤ℤ pos (999 + 99 * length w)))
-      (λ w j x h. let l = load-last w j in let a = low j in let b = high j in let e = length-append w (j ∷ []) in (omega (arith, ints), omega (arith, ints)))
+      (λ w j x h. let l = load-last w j in let a = r.low j in let b = r.high j in let e = length-append w (j ∷ []) in (omega (arith, ints), omega (arith, ints)))
       (omega (arith, ints), omega (arith, ints))
 
   -- so it never comes to ±9,999
@@ -53,8 +66,8 @@ module _ (n load limit : ℕ) (doors : List Door) (most : n ≤ 16) (within : lo
   inside w j x =
       let b = bounds w x.part in
       let l = part_length n w x.part in
-      let a = low j in
-      let c = high j in
+      let a = r.low j in
+      let c = r.high j in
       (omega (arith, ints), omega (arith, ints))
 
   moves-door : (s : Interval) (j : ℕ) → orders.Door n j → moves n doors s j ≡ interval (held (s.low +ℤ (at doors j).change)) (held (s.high +ℤ (at doors j).change))

@@ -1,14 +1,10 @@
 // Pairs of doors, of which the first has to come ahead of the second.
-ghost use Rattle.std.specs.Prelude.{◌≤◌};
-
-use doors::DoorSet;
+use round::table::Round;
 
 pub mod rule;
 
-// `ahead[j]` is the set of the doors that have to come ahead of door j.
+// The pairs of a round: its table has for each door the set of the doors that have to come ahead of it.
 #[derive(Clone, Copy)]
-pub struct Pairs {
-    pub n: usize,
-    pub ahead: [DoorSet; 17],
-    ghost most: { n ≤ 16 },
+pub struct Pairs<'a> {
+    pub round: &'a Round,
 }

@@ -1,14 +1,10 @@
 // The doors that are late, and the minutes by which they are.
-ghost use Rattle.std.specs.Prelude.{◌≤◌};
-
-use round::door::Door;
+use round::table::Round;
 
 pub mod tally;
 
-// Of the doors only their due minutes count.
+// Of the round's doors only their due minutes count.
 #[derive(Clone, Copy)]
-pub struct LateDoors {
-    pub n: usize,
-    pub doors: [Door; 17],
-    ghost most: { n ≤ 16 },
+pub struct LateDoors<'a> {
+    pub round: &'a Round,
 }

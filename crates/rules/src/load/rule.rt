@@ -32,42 +32,33 @@ fn below_zero(a: i32, by: i32) -> bool
     a.saturating_add(by) < 0
 }
 
-impl Load {
-    // The load of a round.
-    pub fn of(round: &Round) -> Load
-        ensures n { result.n ≡ round.now.n }
-        ensures load { result.load ≡ round.now.load }
-        ensures limit { result.limit ≡ round.now.limit }
-        ensures doors { result.doors ≡ round.now.doors }
+impl<'a> Load<'a> {
+    pub fn of(round: &'a Round) -> Load<'a>
+        ensures { result.round ≡ round.entry }
     {
-        Load {
-            n: round.n,
-            load: round.load,
-            limit: round.limit,
-            doors: round.doors,
-        }
+        Load { round }
     }
 }
 
-impl Rule for Load {
+impl<'a> Rule for Load<'a> {
     type State = Interval;
 
-    ghost serves = { λ r n. r.n ≡ n };
+    ghost serves = { λ r n. r.round.now.n ≡ n };
 
-    ghost sense = { λ r. loadSense r.n r.load r.limit r.doors };
+    ghost sense = { λ r. loadSense r.round.now.n r.round.now.load r.round.now.limit r.round.now.doors };
 
-    ghost keeps = { λ r w. Within r.load r.limit r.doors w };
+    ghost keeps = { λ r w. Within r.round.now.load r.round.now.limit r.round.now.doors w };
 
-    ghost stands = { λ r s w. Between r.load r.doors s w };
+    ghost stands = { λ r s w. Between r.round.now.load r.round.now.doors s w };
 
     ghost lawful = { λ r n e.
-        subst (λ (m : ℕ). RuleLaws m (loadSense r.n r.load r.limit r.doors) (Within r.load r.limit r.doors) (Between r.load r.doors)) e
-        (load-lawful r.n r.load r.limit r.doors r.most r.within r.small r.low r.high) };
+        subst (λ (m : ℕ). RuleLaws m (loadSense r.round.now.n r.round.now.load r.round.now.limit r.round.now.doors) (Within r.round.now.load r.round.now.limit r.round.now.doors) (Between r.round.now.load r.round.now.doors)) e
+        (load-lawful r.round.now) };
 
-    ghost reflexive = { λ r s. (load-lawful r.n r.load r.limit r.doors r.most r.within r.small r.low r.high).same_self s };
+    ghost reflexive = { λ r s. (load-lawful r.round.now).same_self s };
 
     fn start(&self) -> Interval {
-        let load = i32::from(self.load);
+        let load = i32::from(self.round.load);
         Interval {
             low: load,
             high: load,
@@ -75,8 +66,8 @@ impl Rule for Load {
     }
 
     fn step(&self, s: Interval, j: usize) -> Interval {
-        if 1 <= j && j <= self.n {
-            let by = i32::from(self.doors[j].change);
+        if 1 <= j && j <= self.round.n {
+            let by = i32::from(self.round.doors[j].change);
             Interval {
                 low: held_sum(s.low, by),
                 high: held_sum(s.high, by),
@@ -94,9 +85,9 @@ impl Rule for Load {
     }
 
     fn bars(&self, s: Interval, j: usize) -> bool {
-        if 1 <= j && j <= self.n {
-            let by = i32::from(self.doors[j].change);
-            let limit = i32::from(self.limit);
+        if 1 <= j && j <= self.round.n {
+            let by = i32::from(self.round.doors[j].change);
+            let limit = i32::from(self.round.limit);
             above(s.low, by, limit) || below_zero(s.high, by)
         } else {
             false

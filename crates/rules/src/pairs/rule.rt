@@ -12,42 +12,37 @@ use crate::rule::Rule;
 use doors::DoorSet;
 use round::table::Round;
 
-impl Pairs {
-    // The pairs of a round.
-    pub fn of(round: &Round) -> Pairs
-        ensures n { result.n ≡ round.now.n }
-        ensures ahead { result.ahead ≡ round.now.ahead }
+impl<'a> Pairs<'a> {
+    pub fn of(round: &'a Round) -> Pairs<'a>
+        ensures { result.round ≡ round.entry }
     {
-        Pairs {
-            n: round.n,
-            ahead: round.ahead,
-        }
+        Pairs { round }
     }
 }
 
-impl Rule for Pairs {
+impl<'a> Rule for Pairs<'a> {
     type State = DoorSet;
 
-    ghost serves = { λ r n. r.n ≡ n };
+    ghost serves = { λ r n. r.round.now.n ≡ n };
 
-    ghost sense = { λ r. pairsSense r.n r.ahead };
+    ghost sense = { λ r. pairsSense r.round.now.n r.round.now.ahead };
 
-    ghost keeps = { λ r w. Ordered r.ahead w };
+    ghost keeps = { λ r w. Ordered r.round.now.ahead w };
 
     ghost stands = { λ r s w. ((j : ℕ) → In j w → Has s j) };
 
     ghost lawful = { λ r n e.
-        subst (λ (m : ℕ). RuleLaws m (pairsSense r.n r.ahead) (Ordered r.ahead) (λ s w. (i : ℕ) → In i w → Has s i)) e
-        (pairs-lawful r.n r.ahead) };
+        subst (λ (m : ℕ). RuleLaws m (pairsSense r.round.now.n r.round.now.ahead) (Ordered r.round.now.ahead) (λ s w. (i : ℕ) → In i w → Has s i)) e
+        (pairs-lawful r.round.now.n r.round.now.ahead) };
 
-    ghost reflexive = { λ r s. (pairs-lawful r.n r.ahead).same_self s };
+    ghost reflexive = { λ r s. (pairs-lawful r.round.now.n r.round.now.ahead).same_self s };
 
     fn start(&self) -> DoorSet {
         0
     }
 
     fn step(&self, s: DoorSet, j: usize) -> DoorSet {
-        if 1 <= j && j <= self.n {
+        if 1 <= j && j <= self.round.n {
             s | (1 << j)
         } else {
             s
@@ -59,8 +54,8 @@ impl Rule for Pairs {
     }
 
     fn bars(&self, s: DoorSet, j: usize) -> bool {
-        if 1 <= j && j <= self.n {
-            let ahead = self.ahead[j];
+        if 1 <= j && j <= self.round.n {
+            let ahead = self.round.ahead[j];
             ahead & s != ahead
         } else {
             false

@@ -17,36 +17,32 @@ fn capped_sum(a: u32, by: u32) -> u32
     a.saturating_add(by).min(MOST)
 }
 
-impl LateDoors {
+impl<'a> LateDoors<'a> {
     // The due minutes of a round.
-    pub fn of(round: &Round) -> LateDoors
-        ensures n { result.n ≡ round.now.n }
-        ensures doors { result.doors ≡ round.now.doors }
+    pub fn of(round: &'a Round) -> LateDoors<'a>
+        ensures { result.round ≡ round.entry }
     {
-        LateDoors {
-            n: round.n,
-            doors: round.doors,
-        }
+        LateDoors { round }
     }
 
     // By how many minutes door j is late, if its work ends at `finish`.
     fn minutes_late(&self, j: usize, finish: u32) -> u32
-        ensures { result ≡ lateBy self.now.n self.now.doors j finish }
+        ensures { result ≡ lateBy self.now.round.now.n self.now.round.now.doors j finish }
     {
-        if 1 <= j && j <= self.n {
-            finish.saturating_sub(u32::from(self.doors[j].due))
+        if 1 <= j && j <= self.round.n {
+            finish.saturating_sub(u32::from(self.round.door(j).due))
         } else {
             0
         }
     }
 }
 
-impl Tally for LateDoors {
+impl<'a> Tally for LateDoors<'a> {
     type Value = (u32, u32);
 
-    ghost serves = { λ t n. t.n ≡ n };
+    ghost serves = { λ t n. t.round.now.n ≡ n };
 
-    ghost sense = { λ t. lateSense t.n t.doors };
+    ghost sense = { λ t. lateSense t.round.now.n t.round.now.doors };
 
     ghost allows = { λ t k v. (v.0 ≤ k) × (v.1 ≤ latest 16 * k) };
 
