@@ -1,38 +1,11 @@
 // Reading a round's tables, and its clock.
 ghost use Rattle.std.specs.Prelude.{◌≡◌, ◌+◌, ◌≤◌, max, replicate, slice_index, slice_set};
-ghost use Rattle.round.specs.Tables.{blank, newDoor, leg};
+ghost use Rattle.doors.specs.Orders.{isDoor};
+ghost use Rattle.round.specs.Tables.{blank, newDoor};
 ghost use Rattle.round.specs.Clock.{door, drive, finish, ClockLaws};
 
 use crate::door::{BLANK, Door};
 use crate::table::Round;
-
-// What stands at place j of a row of drives, 0 past its end.
-fn minutes_at(row: &[u16], j: usize) -> u16
-    ensures { result ≡ slice_index row.now j }
-{
-    match row.get(j) {
-        Some(minutes) => *minutes,
-        None => 0,
-    }
-}
-
-// The same of place j of row i.
-fn leg_at(drives: &[[u16; 17]], i: usize, j: usize) -> u16
-    ensures { result ≡ leg drives.now i j }
-{
-    match drives.get(i) {
-        Some(row) => minutes_at(row, j),
-        None => 0,
-    }
-}
-
-// Work starts at the later of the door's opening and the arrival.
-fn ends(door: Door, from: u32, leg: u32) -> u64
-    ensures { result ≡ max door.opens (from + leg) + door.work }
-{
-    let arrives = u64::from(from) + u64::from(leg);
-    arrives.max(u64::from(door.opens)) + u64::from(door.work)
-}
 
 impl Round {
     // One door with one minute of work, and all else 0.
@@ -62,14 +35,18 @@ impl Round {
         }
     }
 
+    // Whether j is one of the doors 1 to n.
+    pub fn has_door(&self, j: usize) -> bool
+        ensures { result ≡ isDoor self.now.n j }
+    {
+        1 <= j && j <= self.n
+    }
+
     // The record of door j, blank where there is none.
     pub fn door(&self, j: usize) -> Door
         ensures { result ≡ door self.now j }
     {
-        match self.doors.get(j) {
-            Some(door) => *door,
-            None => BLANK,
-        }
+        self.doors.get(j).copied().unwrap_or(BLANK)
     }
 
     // The drive minutes from i to door j, 0 where there are none.
@@ -77,7 +54,8 @@ impl Round {
         ensures value { result ≡ drive self.now i j }
         ensures bound { result ≤ 999 }
     {
-        u32::from(leg_at(&self.drives, i, j))
+        let minutes = self.drives.get(i).and_then(|row| row.get(j));
+        minutes.map_or(0, |minutes| u32::from(*minutes))
     }
 
     // The minute at which the work at door j ends, for a van that left its last place at minute `from` and drove `leg` minutes.
@@ -85,6 +63,8 @@ impl Round {
         ensures value { result ≡ finish self.now from leg j }
         ensures laws { ClockLaws self.now }
     {
-        ends(self.door(j), from, leg)
+        let door = self.door(j);
+        let arrives = u64::from(from) + u64::from(leg);
+        arrives.max(u64::from(door.opens)) + u64::from(door.work)
     }
 }

@@ -66,8 +66,8 @@ impl<'a> Rule for Load<'a> {
     }
 
     fn step(&self, s: Interval, j: usize) -> Interval {
-        if 1 <= j && j <= self.round.n {
-            let by = i32::from(self.round.doors[j].change);
+        if self.round.has_door(j) {
+            let by = i32::from(self.round.door(j).change);
             Interval {
                 low: held_sum(s.low, by),
                 high: held_sum(s.high, by),
@@ -85,13 +85,11 @@ impl<'a> Rule for Load<'a> {
     }
 
     fn bars(&self, s: Interval, j: usize) -> bool {
-        if 1 <= j && j <= self.round.n {
-            let by = i32::from(self.round.doors[j].change);
-            let limit = i32::from(self.round.limit);
-            above(s.low, by, limit) || below_zero(s.high, by)
-        } else {
-            false
+        if !self.round.has_door(j) {
+            return false;
         }
+        let by = i32::from(self.round.door(j).change);
+        above(s.low, by, i32::from(self.round.limit)) || below_zero(s.high, by)
     }
 
     fn same(&self, s: Interval, t: Interval) -> bool {

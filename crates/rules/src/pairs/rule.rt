@@ -42,7 +42,7 @@ impl<'a> Rule for Pairs<'a> {
     }
 
     fn step(&self, s: DoorSet, j: usize) -> DoorSet {
-        if 1 <= j && j <= self.round.n {
+        if self.round.has_door(j) {
             s | (1 << j)
         } else {
             s
@@ -54,12 +54,11 @@ impl<'a> Rule for Pairs<'a> {
     }
 
     fn bars(&self, s: DoorSet, j: usize) -> bool {
-        if 1 <= j && j <= self.round.n {
-            let ahead = self.round.ahead[j];
-            ahead & s != ahead
-        } else {
-            false
+        if !self.round.has_door(j) {
+            return false;
         }
+        let ahead = self.round.ahead[j];
+        ahead & s != ahead
     }
 
     fn same(&self, s: DoorSet, t: DoorSet) -> bool {

@@ -29,7 +29,7 @@ impl<'a> LateDoors<'a> {
     fn minutes_late(&self, j: usize, finish: u32) -> u32
         ensures { result ≡ lateBy self.now.round.now.n self.now.round.now.doors j finish }
     {
-        if 1 <= j && j <= self.round.n {
+        if self.round.has_door(j) {
             finish.saturating_sub(u32::from(self.round.door(j).due))
         } else {
             0
