@@ -2,7 +2,8 @@
 ghost use Rattle.std.specs.Prelude.{◌≡◌, ◌+◌, ◌*◌, ◌≤◌, List, length};
 ghost use Rattle.layers.specs.Calls.{Call, openedOn, run};
 ghost use Rattle.layers.specs.Claim.{Sure, WholeSettles};
-ghost use Rattle.layers.specs.Shape.{Written, Tidy, OneFirst, Ended, Timely};
+ghost use Rattle.layers.specs.Shape.{Shaped, Timely};
+ghost use Rattle.std.proofs.Props.{props};
 
 use crate::lay::lay_arcs;
 use crate::room::Room;
@@ -19,10 +20,7 @@ pub struct Diagram<'a, 'n, S, V> {
     room: Room<'a>,
     nodes: &'n mut [Node<S, V>],
     ghost fits: { room.round.now.n * room.width + 1 ≤ length nodes.now },
-    ghost written: { Written room.round.now.n room.width nodes.now },
-    ghost tidy: { Tidy room.round.now.n room.width nodes.now },
-    ghost first: { OneFirst room.round.now.n room.width nodes.now },
-    ghost ended: { Ended room.round.now.n room.width nodes.now },
+    ghost shaped: { Shaped room.round.now.n room.width nodes.now } by { Prim.hlevel props },
     ghost timely: { Timely room.round.now.n room.width nodes.now },
 }
 

@@ -17,15 +17,12 @@ invariant_of-self g c =
     let xs = d.nodes.now in
     let ys = c.join_in.new.nodes.now in
     let e = c.join_in.ensures in
-    let shape : Shaped r.n W xs = record { written = d.written; tidy = d.tidy; first = d.first; ended = d.ended } in
+    let shape : Shaped r.n W xs = d.shaped in
     let is : ys ≡ joinSteps r R T W i a b xs = e.records ∙ sym (join-words r R T W i a b xs d.room.wide d.room.narrow d.fits shape) in
     let s = subst (Shaped r.n W) (sym is) (join-shaped r R T W i a b xs d.room.wide d.room.narrow d.fits shape) in
     let t = subst (Timely r.n W) (sym is) (join-timely r R T W i a b xs d.room.wide d.room.narrow d.fits shape d.timely) in
     record {
       fits = omega (arith, e.long, d.fits);
-      written = s.written;
-      tidy = s.tidy;
-      first = s.first;
-      ended = s.ended;
+      shaped = s;
       timely = t;
     }

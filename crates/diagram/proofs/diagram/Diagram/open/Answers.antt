@@ -37,10 +37,7 @@ invariant_of-result g c =
     let timely = subst (Timely r.n W) (sym all) (opened-timely r R T W a b xs c.requires) in
     record {
       fits = omega arith;
-      written = shape.written;
-      tidy = shape.tidy;
-      first = shape.first;
-      ended = shape.ended;
+      shaped = shape;
       timely = timely;
     }
 

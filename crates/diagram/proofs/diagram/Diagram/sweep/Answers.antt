@@ -7,9 +7,6 @@ invariant_of-self g c =
     let s = e.shaped in
     record {
       fits = omega (arith, e.long, c.args.self.now.fits);
-      written = s.written;
-      tidy = s.tidy;
-      first = s.first;
-      ended = s.ended;
+      shaped = s;
       timely = e.timely;
     }
