@@ -18,99 +18,6 @@ use split::joining::join;
 use split::parting::part;
 use tallies::tally::Tally;
 
-fn sweep_in<R: Rule, T: Tally>(
-    room: Room<'_>,
-    rule: &R,
-    tally: &T,
-    nodes: &mut &mut [Node<R::State, T::Value>],
-) -> usize
-    requires width_in_bounds { room.round.now.n * room.width + 1 ≤ length nodes.old.now }
-    requires is_shaped { Shaped room.round.now.n room.width nodes.old.now }
-    ensures records { nodes.new.now ≡ swept room.entry.round.now (R.Rule.sense rule.now) (T.Tally.sense tally.now) room.entry.width nodes.old.now }
-    ensures answer { result ≡ sweepAnswer room.entry.round.now (R.Rule.sense rule.now) (T.Tally.sense tally.now) room.entry.width nodes.old.now }
-    ensures lender { nodes.new.ghost_name ≡ nodes.old.ghost_name }
-    ensures long { length nodes.new.now ≡ length nodes.old.now }
-    ensures shaped { Shaped room.entry.round.now.n room.entry.width nodes.new.now }
-    ensures timely { Timely room.entry.round.now.n room.entry.width nodes.new.now }
-{
-    sweep(room.round, rule, tally, *nodes, room.width)
-}
-
-fn cut_in<R: Rule, T: Tally>(
-    room: Room<'_>,
-    rule: &R,
-    tally: &T,
-    nodes: &mut &mut [Node<R::State, T::Value>],
-    ceiling: T::Value,
-) -> usize
-    requires width_in_bounds { room.round.now.n * room.width + 1 ≤ length nodes.old.now }
-    requires is_shaped { Shaped room.round.now.n room.width nodes.old.now }
-    requires is_timely { Timely room.round.now.n room.width nodes.old.now }
-    ensures records { nodes.new.now ≡ cut_at room.entry.round.now (R.Rule.sense rule.now) (T.Tally.sense tally.now) room.entry.width ceiling nodes.old.now }
-    ensures answer { result ≡ cutAnswer room.entry.round.now (R.Rule.sense rule.now) (T.Tally.sense tally.now) room.entry.width ceiling nodes.old.now }
-    ensures lender { nodes.new.ghost_name ≡ nodes.old.ghost_name }
-    ensures long { length nodes.new.now ≡ length nodes.old.now }
-    ensures shaped { Shaped room.entry.round.now.n room.entry.width nodes.new.now }
-    ensures timely { Timely room.entry.round.now.n room.entry.width nodes.new.now }
-{
-    cut(room.round, rule, tally, *nodes, room.width, ceiling)
-}
-
-fn part_in<R: Rule, T: Tally>(
-    room: Room<'_>,
-    rule: &R,
-    tally: &T,
-    nodes: &mut &mut [Node<R::State, T::Value>],
-    layer: usize,
-    node: usize,
-) -> Result<(), Refusal>
-    requires width_in_bounds { room.round.now.n * room.width + 1 ≤ length nodes.old.now }
-    requires is_shaped { Shaped room.round.now.n room.width nodes.old.now }
-    ensures records { nodes.new.now ≡ parted room.entry.round.now (R.Rule.sense rule.now) (T.Tally.sense tally.now) room.entry.width layer node nodes.old.now }
-    ensures answer { MatchResult result (λ _. partAnswer room.entry.round.now (R.Rule.sense rule.now) (T.Tally.sense tally.now) room.entry.width layer node nodes.old.now ≡ 0) (λ e. partAnswer room.entry.round.now (R.Rule.sense rule.now) (T.Tally.sense tally.now) room.entry.width layer node nodes.old.now ≡ number_of e) }
-    ensures lender { nodes.new.ghost_name ≡ nodes.old.ghost_name }
-    ensures long { length nodes.new.now ≡ length nodes.old.now }
-{
-    part(room.round, rule, tally, *nodes, room.width, layer, node)
-}
-
-fn join_in<R: Rule, T: Tally>(
-    room: Room<'_>,
-    rule: &R,
-    tally: &T,
-    nodes: &mut &mut [Node<R::State, T::Value>],
-    layer: usize,
-    a: usize,
-    b: usize,
-) -> Result<(), Refusal>
-    requires width_in_bounds { room.round.now.n * room.width + 1 ≤ length nodes.old.now }
-    requires is_shaped { Shaped room.round.now.n room.width nodes.old.now }
-    ensures records { nodes.new.now ≡ joined room.entry.round.now (R.Rule.sense rule.now) (T.Tally.sense tally.now) room.entry.width layer a b nodes.old.now }
-    ensures answer { MatchResult result (λ _. joinAnswer room.entry.round.now (R.Rule.sense rule.now) (T.Tally.sense tally.now) room.entry.width layer a b nodes.old.now ≡ 0) (λ e. joinAnswer room.entry.round.now (R.Rule.sense rule.now) (T.Tally.sense tally.now) room.entry.width layer a b nodes.old.now ≡ number_of e) }
-    ensures lender { nodes.new.ghost_name ≡ nodes.old.ghost_name }
-    ensures long { length nodes.new.now ≡ length nodes.old.now }
-{
-    join(room.round, rule, tally, *nodes, room.width, layer, a, b)
-}
-
-fn refine_in<R: Rule, T: Tally>(
-    room: Room<'_>,
-    rule: &R,
-    tally: &T,
-    nodes: &mut &mut [Node<R::State, T::Value>],
-) -> Refined
-    requires width_in_bounds { room.round.now.n * room.width + 1 ≤ length nodes.old.now }
-    requires is_shaped { Shaped room.round.now.n room.width nodes.old.now }
-    ensures records { nodes.new.now ≡ (refined room.entry.round.now (R.Rule.sense rule.now) (T.Tally.sense tally.now) room.entry.width nodes.old.now).1 }
-    ensures answer { answer_of result ≡ (refined room.entry.round.now (R.Rule.sense rule.now) (T.Tally.sense tally.now) room.entry.width nodes.old.now).0 }
-    ensures lender { nodes.new.ghost_name ≡ nodes.old.ghost_name }
-    ensures long { length nodes.new.now ≡ length nodes.old.now }
-    ensures shaped { Shaped room.entry.round.now.n room.entry.width nodes.new.now }
-    ensures timely { Timely room.entry.round.now.n room.entry.width nodes.new.now }
-{
-    refine(room.round, rule, tally, *nodes, room.width)
-}
-
 impl<'a, 'n, S: Copy, V: Copy> Diagram<'a, 'n, S, V> {
     // Takes out each arc that one of the six tests bars, by the labels that stand, and answers how many arcs went.
     pub fn sweep<R: Rule<State = S>, T: Tally<Value = V>>(&mut self, rule: &R, tally: &T) -> usize
@@ -119,7 +26,8 @@ impl<'a, 'n, S: Copy, V: Copy> Diagram<'a, 'n, S, V> {
         ensures answer { result ≡ sweepAnswer self.old.room.round.now (R.Rule.sense rule.now) (T.Tally.sense tally.now) self.old.room.width self.old.nodes.now }
         ensures lender { self.new.nodes.ghost_name ≡ self.old.nodes.ghost_name }
     {
-        sweep_in(self.room, rule, tally, &mut self.nodes)
+        let Room { round, width } = self.room;
+        sweep(round, rule, tally, self.nodes, width)
     }
 
     // Takes out each arc whose arrival has a value above the ceiling, by the labels that stand, and answers how many arcs went.
@@ -134,7 +42,8 @@ impl<'a, 'n, S: Copy, V: Copy> Diagram<'a, 'n, S, V> {
         ensures answer { result ≡ cutAnswer self.old.room.round.now (R.Rule.sense rule.now) (T.Tally.sense tally.now) self.old.room.width ceiling self.old.nodes.now }
         ensures lender { self.new.nodes.ghost_name ≡ self.old.nodes.ghost_name }
     {
-        cut_in(self.room, rule, tally, &mut self.nodes, ceiling)
+        let Room { round, width } = self.room;
+        cut(round, rule, tally, self.nodes, width, ceiling)
     }
 
     // Parts a node: the in-arcs that differ from the first in what arrives over them go to a new last node of its layer, which has
@@ -151,7 +60,8 @@ impl<'a, 'n, S: Copy, V: Copy> Diagram<'a, 'n, S, V> {
         ensures answer { MatchResult result (λ _. partAnswer self.old.room.round.now (R.Rule.sense rule.now) (T.Tally.sense tally.now) self.old.room.width layer node self.old.nodes.now ≡ 0) (λ e. partAnswer self.old.room.round.now (R.Rule.sense rule.now) (T.Tally.sense tally.now) self.old.room.width layer node self.old.nodes.now ≡ number_of e) }
         ensures lender { self.new.nodes.ghost_name ≡ self.old.nodes.ghost_name }
     {
-        part_in(self.room, rule, tally, &mut self.nodes, layer, node)
+        let Room { round, width } = self.room;
+        part(round, rule, tally, self.nodes, width, layer, node)
     }
 
     // Joins two nodes of a layer: the one with the lower number takes the in-arcs and the out-arcs of both. A refusal alters nothing.
@@ -168,7 +78,8 @@ impl<'a, 'n, S: Copy, V: Copy> Diagram<'a, 'n, S, V> {
         ensures answer { MatchResult result (λ _. joinAnswer self.old.room.round.now (R.Rule.sense rule.now) (T.Tally.sense tally.now) self.old.room.width layer a b self.old.nodes.now ≡ 0) (λ e. joinAnswer self.old.room.round.now (R.Rule.sense rule.now) (T.Tally.sense tally.now) self.old.room.width layer a b self.old.nodes.now ≡ number_of e) }
         ensures lender { self.new.nodes.ghost_name ≡ self.old.nodes.ghost_name }
     {
-        join_in(self.room, rule, tally, &mut self.nodes, layer, a, b)
+        let Room { round, width } = self.room;
+        join(round, rule, tally, self.nodes, width, layer, a, b)
     }
 
     // Sweeps and parts from layer to layer, as long as there is room, then sweeps until nothing is taken out.
@@ -182,6 +93,7 @@ impl<'a, 'n, S: Copy, V: Copy> Diagram<'a, 'n, S, V> {
         ensures answer { answer_of result ≡ (refined self.old.room.round.now (R.Rule.sense rule.now) (T.Tally.sense tally.now) self.old.room.width self.old.nodes.now).0 }
         ensures lender { self.new.nodes.ghost_name ≡ self.old.nodes.ghost_name }
     {
-        refine_in(self.room, rule, tally, &mut self.nodes)
+        let Room { round, width } = self.room;
+        refine(round, rule, tally, self.nodes, width)
     }
 }
