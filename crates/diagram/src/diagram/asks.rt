@@ -6,6 +6,7 @@ ghost use Rattle.layers.specs.Claim.{Must-means};
 ghost use Rattle.layers.specs.Refusals.{number_of};
 
 use super::Diagram;
+use crate::room::Room;
 use layers::node::Node;
 use layers::refusal::Refusal;
 use refine::settled::settled;
@@ -32,7 +33,8 @@ impl<'a, 'n, S: Copy, V: Copy> Diagram<'a, 'n, S, V> {
     pub fn bound(&self) -> Option<V>
         ensures { result ≡ bound self.now.room.round.now.n self.now.room.width self.now.nodes.now }
     {
-        end_value(self.nodes, self.room.round.n, self.room.width)
+        let Room { round, width } = self.room;
+        end_value(self.nodes, round.n, width)
     }
 
     // Yes if no path has door j at an earlier place than door i, and so if i is ahead of j in every wanted order.
@@ -40,14 +42,15 @@ impl<'a, 'n, S: Copy, V: Copy> Diagram<'a, 'n, S, V> {
         ensures answer { MatchResult result (λ b. (mustAnswer self.now.room.round.now.n i j ≡ 0) × (b ≡ must self.now.room.round.now.n self.now.room.width i j self.now.nodes.now)) (λ e. mustAnswer self.now.room.round.now.n i j ≡ number_of e) }
         ensures paths { IfOk result (λ b. Must-means self.now.room.round.now.n self.now.room.width i j self.now.nodes.now b) }
     {
-        let n = self.room.round.n;
+        let Room { round, width } = self.room;
+        let n = round.n;
         if i < 1 || i > n || j < 1 || j > n {
             return Err(Refusal::NoDoor);
         }
         if i == j {
             return Err(Refusal::SameDoor);
         }
-        Ok(must(self.nodes, n, self.room.width, i, j))
+        Ok(must(self.nodes, round.n, width, i, j))
     }
 
     // Yes if the in-arcs of each node agree and a sweep would take out nothing: then every path is an allowed order. A tally has
@@ -55,6 +58,7 @@ impl<'a, 'n, S: Copy, V: Copy> Diagram<'a, 'n, S, V> {
     pub fn settled<R: Rule<State = S>>(&self, rule: &R) -> bool
         ensures { (t : TallySense V) → result ≡ settled self.now.room.round.now (R.Rule.sense rule.now) t self.now.room.width self.now.nodes.now }
     {
-        settled(self.room.round, rule, self.nodes, self.room.width)
+        let Room { round, width } = self.room;
+        settled(round, rule, self.nodes, width)
     }
 }
