@@ -33,7 +33,7 @@ fn has_fields(line: Line<'_>, many: usize) -> bool
     requires { 1 ≤ many }
     ensures { result ≡ (length (pieces 9 line.entry.bytes.now) == many) }
 {
-    count(line.bytes, b'\t') == many - 1
+    count(line.bytes, b'\t') == many
 }
 
 // The number in that field, from low to high.
