@@ -50,22 +50,14 @@ pub(crate) fn change(token: Token<'_>) -> Result<i8, Refusal>
     ensures { result ≡ changeIn (bytes_of token.entry) (line_of token.entry) (field_of token.entry) }
 {
     match token {
-        Token::Number { bytes, line, field } => {
-            let v = amount(bytes);
-            if v > 99 {
-                Err(Refusal::OutOfRange { line, field })
-            } else {
-                Ok(v as i8)
-            }
-        }
-        Token::Negative { bytes, line, field } => {
-            let v = amount(&bytes[1..]);
-            if v > 99 {
-                Err(Refusal::OutOfRange { line, field })
-            } else {
-                Ok(-(v as i8))
-            }
-        }
+        Token::Number { bytes, line, field } => match amount(bytes) {
+            v @ 0..=99 => Ok(v as i8),
+            _ => Err(Refusal::OutOfRange { line, field }),
+        },
+        Token::Negative { bytes, line, field } => match amount(&bytes[1..]) {
+            v @ 0..=99 => Ok(-(v as i8)),
+            _ => Err(Refusal::OutOfRange { line, field }),
+        },
         Token::Dash { line, field, .. } | Token::Word { line, field, .. } => Err(
             Refusal::NotNumber { line, field },
         ),
