@@ -3,7 +3,7 @@ ghost use Rattle.std.specs.Prelude.{◌≡◌, ◌-◌, ◌<◌, ◌≤◌, [], 
 ghost use Rattle.text.specs.Pieces.{pieces};
 ghost use Rattle.text.specs.Tokens.{Formed, bytes_of, line_of, field_of};
 ghost use Rattle.text.specs.Fields.{number_in, changeIn, dashIn};
-ghost use Rattle.text.specs.Lines.{counted, doorOf, doorDue, head_of, pair_of, legIn, rowFrom, rowDue};
+ghost use Rattle.text.specs.Lines.{counted, in_turn, doorOf, doorDue, head_of, pair_of, legIn, rowFrom, rowDue};
 
 use crate::cut::{count, piece};
 use crate::number::{change, within};
@@ -55,6 +55,21 @@ fn change_at(line: Line<'_>, field: usize) -> Result<i8, Refusal>
     change(field_at(line, field))
 }
 
+// Refuses a line whose number, from low to high, is not the one that is due.
+fn expect_turn(line: Line<'_>, low: u16, high: u16, due: u16) -> Result<(), Refusal>
+    requires { high < 10000 }
+    ensures { result ≡ in_turn low high due line.entry.number (pieces 9 line.entry.bytes.now) }
+{
+    if number_at(line, 2, low, high)? == due {
+        Ok(())
+    } else {
+        Err(Refusal::OutOfTurn {
+            line: line.number,
+            field: 2,
+        })
+    }
+}
+
 // What a door line says of its door.
 fn door_of(line: Line<'_>) -> Result<Door, Refusal>
     ensures { result ≡ doorOf line.entry.number (pieces 9 line.entry.bytes.now) }
@@ -79,13 +94,7 @@ pub(crate) fn door_due(line: Line<'_>, n: u16, due: u16) -> Result<Door, Refusal
     ensures { result ≡ doorDue n due line.entry.number (pieces 9 line.entry.bytes.now) }
 {
     expect_fields(line, 7)?;
-    let number = number_at(line, 2, 1, n)?;
-    if number != due {
-        return Err(Refusal::OutOfTurn {
-            line: line.number,
-            field: 2,
-        });
-    }
+    expect_turn(line, 1, n, due)?;
     door_of(line)
 }
 
@@ -138,9 +147,10 @@ fn dash_at(line: Line<'_>, field: usize) -> Result<u16, Refusal>
 {
     match field_at(line, field) {
         Token::Dash { .. } => Ok(0),
-        Token::Number { line, field, .. }
-        | Token::Negative { line, field, .. }
-        | Token::Word { line, field, .. } => Err(Refusal::NotNumber { line, field }),
+        _ => Err(Refusal::NotNumber {
+            line: line.number,
+            field,
+        }),
     }
 }
 
@@ -163,9 +173,8 @@ fn row_of(line: Line<'_>, n: u16, from: u16) -> Result<[u16; 17], Refusal>
     ensures { result ≡ rowFrom n from 1 line.entry.number (pieces 9 line.entry.bytes.now) (replicate 17 0) }
 {
     let mut row = [0; 17];
-    for to in 1..n + 1 {
-        let leg = leg_at(line, from, to)?;
-        row[to as usize] = leg;
+    for to in 1..=n {
+        row[to as usize] = leg_at(line, from, to)?;
     }
     Ok(row)
 }
@@ -176,12 +185,6 @@ pub(crate) fn row_due(line: Line<'_>, n: u16, due: u16) -> Result<[u16; 17], Ref
     ensures { result ≡ rowDue n due line.entry.number (pieces 9 line.entry.bytes.now) }
 {
     expect_fields(line, n as usize + 2)?;
-    let from = number_at(line, 2, 0, n)?;
-    if from != due {
-        return Err(Refusal::OutOfTurn {
-            line: line.number,
-            field: 2,
-        });
-    }
+    expect_turn(line, 0, n, due)?;
     row_of(line, n, due)
 }
