@@ -1,5 +1,6 @@
 -- What the tests of a field's bytes tell.
-use Rattle.std.proofs.Common.{◌≡◌, ℕ, ◌+◌, ◌-◌, ◌*◌, ◌<◌, ◌≤◌, Bool, true, false, cond, ◌&&◌, eqb, List, [], ◌∷◌, length, get_or, take, drop, sym, refl, ap, ◌∙◌, arith, le-ltb, lt-ltb, eq-eqb}
+use Rattle.std.proofs.Common.{◌≡◌, ℕ, ◌+◌, ◌-◌, ◌*◌, ◌<◌, ◌≤◌, Bool, true, false, cond, ◌&&◌, eqb, List, [], ◌∷◌, length, get_or, take, drop, sym, refl, ap, ◌∙◌, arith, le-ltb, lt-ltb, eq-eqb, ne_eqb}
+use Rattle.std.proofs.lemmas.Bool.Decides.{nat_tests}
 use borrow.Author.Tests.{both_ways}
 use Rattle.std.specs.Str.Parse.{digits_value}
 use Rattle.std.specs.Int.{IsInRange}
@@ -8,16 +9,20 @@ use Rattle.std.proofs.lemmas.Int.Digits.{digits_value_more}
 use Rattle.std.proofs.lemmas.Str.Parse.{IsNumeralModel, numerals_by_value, tells_all_ascii_digits, digit_at}
 use Rattle.text.specs.Number.{positive, minus}
 use Rattle.std.specs.Str.{all_ascii_digits}
+use Rattle.std.specs.List.{list_all}
 use Rattle.std.proofs.lemmas.List.{drop_more, drop_all, take_rest}
 
-pub digits-yes : (a : List ℕ) (i : ℕ) → i < length a → true ≡ is_ascii_digit (get_or a i 0) → all_ascii_digits (drop i a) ≡ all_ascii_digits (drop (i + 1) a)
-digits-yes a i l e = ap all_ascii_digits (drop_more a i 0 l) ∙ ap (λ t. t && all_ascii_digits (drop (i + 1) a)) (sym e)
+pub all-digits : (a : List ℕ) → list_all is_ascii_digit a ≡ all_ascii_digits a
+all-digits [] = refl
+all-digits (x ∷ a) = ap (λ t. is_ascii_digit x && t) (all-digits a)
 
-pub digits-no : (a : List ℕ) (i : ℕ) → i < length a → false ≡ is_ascii_digit (get_or a i 0) → all_ascii_digits (drop i a) ≡ false
-digits-no a i l e = ap all_ascii_digits (drop_more a i 0 l) ∙ ap (λ t. t && all_ascii_digits (drop (i + 1) a)) (sym e)
+in-range : (x : ℕ) → 49 ≤ x → x ≤ 57 → is_ascii_digit x ≡ true
+in-range x l m = grind (arith, nat_tests)
 
-pub digits-end : (a : List ℕ) (i : ℕ) → length a ≤ i → all_ascii_digits (drop i a) ≡ true
-digits-end a i l = ap all_ascii_digits (drop_all i a l)
+-- the first digit is not 0, and the rest tells
+pub positive-rest : (a : List ℕ) → 1 ≤ length a → 49 ≤ get_or a 0 0 → get_or a 0 0 ≤ 57 → list_all is_ascii_digit (take (length a - 1) (drop 1 a)) ≡ positive a
+positive-rest [] l m n = absurd (omega arith)
+positive-rest (x ∷ a) l m n = rw (take_rest (x ∷ a) 1, ne_eqb x 48 (omega arith), in-range x m n) (all-digits a)
 
 -- the rest after a minus tells
 pub minus-rest : (a : List ℕ) → 1 ≤ length a → get_or a 0 0 ≡ 45 → minus a ≡ positive (take (length a - 1) (drop 1 a))

@@ -1,6 +1,8 @@
 -- Where a list of bytes is cut.
-use Rattle.std.proofs.Common.{◌≡◌, ℕ, zero, suc, ◌+◌, ◌-◌, ◌<◌, ◌≤◌, true, false, cond, eqb, List, [], ◌∷◌, ◌++◌, length, get_or, take, drop, sym, refl, ap, ◌∙◌, arith, take-append-drop, eq-eqb, ne_eqb}
-use native.Mathlib.Nat.{sub-zero}
+use Rattle.std.proofs.Common.{◌≡◌, ℕ, zero, suc, ◌+◌, ◌-◌, ◌<◌, ◌≤◌, true, false, cond, eqb, List, [], ◌∷◌, ◌++◌, length, get_or, slice_get, Option, Some, None, Bor, take, drop, sym, refl, ap, ◌∙◌, arith, take-append-drop, eq-eqb, ne_eqb}
+use Rattle.std.specs.List.{slice_split, onto_first}
+use Rattle.std.specs.Option.{option_map, unwrap_or}
+use Rattle.std.proofs.lemmas.Option.{unwrap_or-slice_get}
 use Rattle.std.proofs.lemmas.List.{drop_more, drop_all, take_rest}
 use Rattle.std.proofs.lemmas.Bool.{cond_both}
 use Rattle.text.specs.Pieces.{pieces, onto}
@@ -35,10 +37,6 @@ around a n s l e = sym (take-append-drop n a) ∙ ap (λ t. take n a ++ t) (drop
 pub pieces-at : (s : ℕ) (a : List ℕ) (n : ℕ) → n < length a → ((k : ℕ) → k < n → get_or a k 0 ≡ s → ⊥) → get_or a n 0 ≡ s → take n a ∷ pieces s (drop (n + 1) a) ≡ pieces s a
 pieces-at s a n l h e = sym (ap (pieces s) (around a n s l e) ∙ pieces_more s (take n a) (drop (n + 1) a) (lacks-take s a n h (omega arith)))
 
-length-onto : (b : ℕ) (ps : List (List ℕ)) → 0 < length ps → length (onto b ps) ≡ length ps
-length-onto b [] l = omega arith
-length-onto b (p ∷ ps) l = refl
-
 length-onto-some : (b : ℕ) (ps : List (List ℕ)) → 0 < length (onto b ps)
 length-onto-some b [] = omega arith
 length-onto-some b (p ∷ ps) = omega arith
@@ -47,24 +45,20 @@ pub some-piece : (s : ℕ) (a : List ℕ) → 0 < length (pieces s a)
 some-piece s [] = omega arith
 some-piece s (b ∷ a) = cond_both (eqb b s) _ _ (λ ps. 0 < length ps) (λ _. omega arith) (λ _. length-onto-some b (pieces s a))
 
-count-onto : (s b : ℕ) (a : List ℕ) → length (pieces s (b ∷ a)) ≡ length (pieces s a) + cond (eqb b s) 1 0
-count-onto s b a =
-    elim (eqb b s) as (λ t. length (cond t ([] ∷ pieces s a) (onto b (pieces s a))) ≡ length (pieces s a) + cond t 1 0)
-    [ true ↦ omega arith | false ↦ omega (arith, length-onto b (pieces s a) (some-piece s a)) ]
+-- the pieces are the parts that `split` gives
+onto-first : (b : ℕ) (ps : List (List ℕ)) → onto_first b ps ≡ onto b ps
+onto-first b [] = refl
+onto-first b (p ∷ ps) = refl
 
--- one byte more counted
-pub count-more : (s : ℕ) (a : List ℕ) (i : ℕ) → i < length a → length (pieces s (drop i a)) ≡ length (pieces s (drop (i + 1) a)) + cond (eqb (get_or a i 0) s) 1 0
-count-more s a i l = ap (λ t. length (pieces s t)) (drop_more a i 0 l) ∙ count-onto s (get_or a i 0) (drop (i + 1) a)
+pub split-pieces : (s : ℕ) (a : List ℕ) → slice_split (λ b. eqb b s) a ≡ pieces s a
+split-pieces s [] = refl
+split-pieces s (b ∷ a) = rw (split-pieces s a, onto-first b (pieces s a))
 
-pub count_same : (s : ℕ) (a : List ℕ) (i : ℕ) → i < length a → get_or a i 0 ≡ s → length (pieces s (drop i a)) ≡ length (pieces s (drop (i + 1) a)) + 1
-count_same s a i l e = count-more s a i l ∙ rw (eq-eqb (get_or a i 0) s e)
+-- the piece that `nth` gives, or x
+pub nth-piece : (r : Option (Bor (List ℕ))) (x : Bor (List ℕ)) (ps : List (List ℕ)) (at : ℕ) → option_map (λ p. p.now) r ≡ slice_get ps at → (unwrap_or r x).now ≡ get_or ps at x.now
+nth-piece None x ps at e = ap (λ o. unwrap_or o x.now) e ∙ unwrap_or-slice_get ps at x.now
+nth-piece (Some p) x ps at e = ap (λ o. unwrap_or o x.now) e ∙ unwrap_or-slice_get ps at x.now
 
-pub count-other : (s : ℕ) (a : List ℕ) (i : ℕ) → i < length a → (get_or a i 0 ≡ s → ⊥) → length (pieces s (drop i a)) ≡ length (pieces s (drop (i + 1) a))
-count-other s a i l e = count-more s a i l ∙ rw (ne_eqb (get_or a i 0) s e) (omega arith)
-
-pub count-end : (s : ℕ) (a : List ℕ) (i : ℕ) → length a ≤ i → length (pieces s (drop i a)) ≡ 1
-count-end s a i l = ap (λ t. length (pieces s t)) (drop_all i a l)
-
--- the same of `&a[0..n]` and `&a[n + 1..]`
-pub pieces-cut : (s : ℕ) (a : List ℕ) (n : ℕ) → n < length a → ((k : ℕ) → k < n → get_or a k 0 ≡ s → ⊥) → get_or a n 0 ≡ s → take (n - 0) a ∷ pieces s (take (length a - (n + 1)) (drop (n + 1) a)) ≡ pieces s a
-pieces-cut s a n l h e = rw (sub-zero n, take_rest a (n + 1)) (pieces-at s a n l h e)
+-- the same of `&a[n + 1..]`
+pub pieces-cut : (s : ℕ) (a : List ℕ) (n : ℕ) → n < length a → ((k : ℕ) → k < n → get_or a k 0 ≡ s → ⊥) → get_or a n 0 ≡ s → pieces s a ≡ take n a ∷ pieces s (take (length a - (n + 1)) (drop (n + 1) a))
+pieces-cut s a n l h e = rw (take_rest a (n + 1)) (sym (pieces-at s a n l h e))

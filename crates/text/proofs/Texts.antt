@@ -1,5 +1,5 @@
 -- One line more of a text.
-use Rattle.std.proofs.Common.{◌≡◌, ℕ, ◌+◌, ◌<◌, List, [], ◌∷◌, length, Ok, Err, refl, ap, ◌∙◌, arith, ne_eqb}
+use Rattle.std.proofs.Common.{◌≡◌, ℕ, ◌+◌, ◌<◌, List, [], ◌∷◌, length, Ok, Err, sym, ap, ◌∙◌, arith, ne_eqb}
 use Rattle.text.specs.declared.refusal.Refusal.{Refusal}
 use Rattle.text.specs.declared.refusal.Refusal.TheVariants.{Unended}
 use Rattle.text.specs.declared.stage.Stage.{Stage}
@@ -13,19 +13,12 @@ more : (p : List ℕ) (ps : List (List ℕ)) (line : ℕ) (s : Stage) (d : Draft
 more p [] line s d t e l h = absurd (omega arith)
 more p (q ∷ ps) line s d t e l h = rw h
 
-pub read_more : (text p rest : List ℕ) (line : ℕ) (s : Stage) (d : Draft) (t : Stage) (e : Draft) → p ∷ pieces 10 rest ≡ pieces 10 text → lineStep s d line (pieces 9 p) ≡ Ok (t, e) → readLines (pieces 10 rest) (line + 1) t e ≡ readLines (pieces 10 text) line s d
-read_more text p rest line s d t e cut h = more p (pieces 10 rest) line s d t e (some-piece 10 rest) h ∙ ap (λ ps. readLines ps line s d) cut
+pub read_more : (text p rest : List ℕ) (line : ℕ) (s : Stage) (d : Draft) (t : Stage) (e : Draft) → pieces 10 text ≡ p ∷ pieces 10 rest → lineStep s d line (pieces 9 p) ≡ Ok (t, e) → readLines (pieces 10 rest) (line + 1) t e ≡ readLines (pieces 10 text) line s d
+read_more text p rest line s d t e cut h = more p (pieces 10 rest) line s d t e (some-piece 10 rest) h ∙ ap (λ ps. readLines ps line s d) (sym cut)
 
 stop : (p : List ℕ) (ps : List (List ℕ)) (line : ℕ) (s : Stage) (d : Draft) (r : Refusal) → 0 < length ps → lineStep s d line (pieces 9 p) ≡ Err r → Err r ≡ readLines (p ∷ ps) line s d
 stop p [] line s d r l h = absurd (omega arith)
 stop p (q ∷ ps) line s d r l h = rw h
 
-pub read-stop : (text p rest : List ℕ) (line : ℕ) (s : Stage) (d : Draft) (r : Refusal) → p ∷ pieces 10 rest ≡ pieces 10 text → lineStep s d line (pieces 9 p) ≡ Err r → Err r ≡ readLines (pieces 10 text) line s d
-read-stop text p rest line s d r cut h = stop p (pieces 10 rest) line s d r (some-piece 10 rest) h ∙ ap (λ ps. readLines ps line s d) cut
-
-pub read-unended : (text p : List ℕ) (line : ℕ) (s : Stage) (d : Draft) → p ∷ [] ≡ pieces 10 text → (length p ≡ 0 → ⊥) → Err (Unended line) ≡ readLines (pieces 10 text) line s d
-read-unended text p line s d cut h = rw (← cut, ne_eqb (length p) 0 h)
-
-pub read-end : (text : List ℕ) (line : ℕ) (s : Stage) (d : Draft) → length text ≡ 0 → atEnd s d line ≡ readLines (pieces 10 text) line s d
-read-end [] line s d e = refl
-read-end (b ∷ text) line s d e = absurd (omega arith)
+pub read-stop : (text p rest : List ℕ) (line : ℕ) (s : Stage) (d : Draft) (r : Refusal) → pieces 10 text ≡ p ∷ pieces 10 rest → lineStep s d line (pieces 9 p) ≡ Err r → Err r ≡ readLines (pieces 10 text) line s d
+read-stop text p rest line s d r cut h = stop p (pieces 10 rest) line s d r (some-piece 10 rest) h ∙ ap (λ ps. readLines ps line s d) (sym cut)

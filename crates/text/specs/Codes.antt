@@ -1,5 +1,5 @@
 -- The number, the line and the field of each refusal.
-use Rattle.std.specs.Prelude.{ℕ}
+use Rattle.std.specs.Prelude.{ℕ, List, ◌∷◌, ◌++◌, codes, decimal}
 use Rattle.text.specs.declared.refusal.Refusal.{Refusal}
 use Rattle.text.specs.declared.refusal.Refusal.TheVariants.{NotDue, FieldCount, NotNumber, OutOfRange, OutOfTurn, Unended, TooLong}
 
@@ -32,3 +32,7 @@ field_of (OutOfRange l f) = f
 field_of (OutOfTurn l f) = f
 field_of (Unended l) = 1
 field_of TooLong = 0
+
+-- the line that tells of it: number, line and field, with tabs between
+abbrev pub told : Refusal → List ℕ
+told r = codes "refused" ++ (9 ∷ decimal (number_of r)) ++ (9 ∷ decimal (line_of r)) ++ (9 ∷ decimal (field_of r))

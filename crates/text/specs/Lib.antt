@@ -1,5 +1,4 @@
 pub mod Pieces
-pub mod Split
 pub mod Number
 pub mod Tokens
 pub mod Fields

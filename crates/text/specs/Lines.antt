@@ -16,6 +16,12 @@ and_then (Err e) k = Err e
 abbrev pub counted : {A : Type 0} → ℕ → ℕ → List (List ℕ) → Result A Refusal → Result A Refusal
 counted k line fs r = cond (length fs == k) r (Err (FieldCount line))
 
+-- field 2 has the number that is due, from low to high
+abbrev pub in_turn : ℕ → ℕ → ℕ → ℕ → List (List ℕ) → Result (Unit {0}) Refusal
+in_turn low high due line fs =
+    and_then (number_in low high (slice_index_or fs 1 []) line 2) (λ number.
+    cond (number == due) (Ok tt) (Err (OutOfTurn line 2)))
+
 -- the round line: how many doors, the start load and the cap
 abbrev pub head_of : ℕ → List (List ℕ) → Result Head Refusal
 head_of line fs =

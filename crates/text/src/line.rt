@@ -3,7 +3,7 @@ ghost use Rattle.std.specs.Prelude.{◌≡◌, ◌-◌, ◌<◌, ◌≤◌, [], 
 ghost use Rattle.text.specs.Pieces.{pieces};
 ghost use Rattle.text.specs.Tokens.{Formed, bytes_of, line_of, field_of};
 ghost use Rattle.text.specs.Fields.{number_in, changeIn, dashIn};
-ghost use Rattle.text.specs.Lines.{doorOf, doorDue, head_of, pair_of, legIn, rowFrom, rowDue};
+ghost use Rattle.text.specs.Lines.{counted, in_turn, doorOf, doorDue, head_of, pair_of, legIn, rowFrom, rowDue};
 
 use crate::cut::{count, piece};
 use crate::number::{change, within};
@@ -28,12 +28,15 @@ fn field_at<'a>(line: Line<'a>, field: usize) -> Token<'a>
     token_of(piece(line.bytes, b'\t', field - 1), line.number, field)
 }
 
-// Whether the line has that many fields.
-fn has_fields(line: Line<'_>, many: usize) -> bool
-    requires { 1 ≤ many }
-    ensures { result ≡ (length (pieces 9 line.entry.bytes.now) == many) }
+// Refuses a line that has not that many fields.
+fn expect_fields(line: Line<'_>, many: usize) -> Result<(), Refusal>
+    ensures { result ≡ counted many line.entry.number (pieces 9 line.entry.bytes.now) (Ok tt) }
 {
-    count(line.bytes, b'\t') == many - 1
+    if count(line.bytes, b'\t') == many {
+        Ok(())
+    } else {
+        Err(Refusal::FieldCount { line: line.number })
+    }
 }
 
 // The number in that field, from low to high.
@@ -50,6 +53,21 @@ fn change_at(line: Line<'_>, field: usize) -> Result<i8, Refusal>
     ensures { result ≡ changeIn (slice_index_or (pieces 9 line.entry.bytes.now) (field - 1) []) line.entry.number field }
 {
     change(field_at(line, field))
+}
+
+// Refuses a line whose number, from low to high, is not the one that is due.
+fn expect_turn(line: Line<'_>, low: u16, high: u16, due: u16) -> Result<(), Refusal>
+    requires { high < 10000 }
+    ensures { result ≡ in_turn low high due line.entry.number (pieces 9 line.entry.bytes.now) }
+{
+    if number_at(line, 2, low, high)? == due {
+        Ok(())
+    } else {
+        Err(Refusal::OutOfTurn {
+            line: line.number,
+            field: 2,
+        })
+    }
 }
 
 // What a door line says of its door.
@@ -75,16 +93,8 @@ pub(crate) fn door_due(line: Line<'_>, n: u16, due: u16) -> Result<Door, Refusal
     requires { n ≤ 16 }
     ensures { result ≡ doorDue n due line.entry.number (pieces 9 line.entry.bytes.now) }
 {
-    if !has_fields(line, 7) {
-        return Err(Refusal::FieldCount { line: line.number });
-    }
-    let number = number_at(line, 2, 1, n)?;
-    if number != due {
-        return Err(Refusal::OutOfTurn {
-            line: line.number,
-            field: 2,
-        });
-    }
+    expect_fields(line, 7)?;
+    expect_turn(line, 1, n, due)?;
     door_of(line)
 }
 
@@ -99,9 +109,7 @@ pub(crate) struct Head {
 pub(crate) fn head_of(line: Line<'_>) -> Result<Head, Refusal>
     ensures { result ≡ head_of line.entry.number (pieces 9 line.entry.bytes.now) }
 {
-    if !has_fields(line, 4) {
-        return Err(Refusal::FieldCount { line: line.number });
-    }
+    expect_fields(line, 4)?;
     let n = number_at(line, 2, 1, 16)?;
     let load = number_at(line, 3, 0, 999)?;
     let limit = number_at(line, 4, load, 999)?;
@@ -120,9 +128,7 @@ pub(crate) fn pair_of(line: Line<'_>, n: u16) -> Result<Pair, Refusal>
     ensures value { result ≡ pair_of n line.entry.number (pieces 9 line.entry.bytes.now) }
     ensures bound { IfOk result (λ p. (p.first ≤ n) × (p.then ≤ n)) }
 {
-    if !has_fields(line, 3) {
-        return Err(Refusal::FieldCount { line: line.number });
-    }
+    expect_fields(line, 3)?;
     let first = number_at(line, 2, 1, n)?;
     let then = number_at(line, 3, 1, n)?;
     if first == then {
@@ -141,9 +147,10 @@ fn dash_at(line: Line<'_>, field: usize) -> Result<u16, Refusal>
 {
     match field_at(line, field) {
         Token::Dash { .. } => Ok(0),
-        Token::Number { line, field, .. }
-        | Token::Negative { line, field, .. }
-        | Token::Word { line, field, .. } => Err(Refusal::NotNumber { line, field }),
+        _ => Err(Refusal::NotNumber {
+            line: line.number,
+            field,
+        }),
     }
 }
 
@@ -166,9 +173,8 @@ fn row_of(line: Line<'_>, n: u16, from: u16) -> Result<[u16; 17], Refusal>
     ensures { result ≡ rowFrom n from 1 line.entry.number (pieces 9 line.entry.bytes.now) (replicate 17 0) }
 {
     let mut row = [0; 17];
-    for to in 1..n + 1 {
-        let leg = leg_at(line, from, to)?;
-        row[to as usize] = leg;
+    for to in 1..=n {
+        row[to as usize] = leg_at(line, from, to)?;
     }
     Ok(row)
 }
@@ -178,15 +184,7 @@ pub(crate) fn row_due(line: Line<'_>, n: u16, due: u16) -> Result<[u16; 17], Ref
     requires { n ≤ 16 }
     ensures { result ≡ rowDue n due line.entry.number (pieces 9 line.entry.bytes.now) }
 {
-    if !has_fields(line, n as usize + 2) {
-        return Err(Refusal::FieldCount { line: line.number });
-    }
-    let from = number_at(line, 2, 0, n)?;
-    if from != due {
-        return Err(Refusal::OutOfTurn {
-            line: line.number,
-            field: 2,
-        });
-    }
+    expect_fields(line, n as usize + 2)?;
+    expect_turn(line, 0, n, due)?;
     row_of(line, n, due)
 }

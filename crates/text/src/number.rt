@@ -13,36 +13,15 @@ use crate::token::Token;
 const LIMIT: u32 = 10_000;
 
 // The number that digits write, or LIMIT if it is above that.
-fn amount(digits: &[u8]) -> u32
+fn amount(digits: &[u8]) -> u16
     requires { all_ascii_digits digits.now ≡ true }
     ensures { result ≡ min 10000 (digits_value 10 digits.now) }
 {
     let mut v: u32 = 0;
     for b in digits {
-        v = v * 10 + u32::from(*b - b'0');
-        if v > LIMIT {
-            v = LIMIT;
-        }
+        v = (v * 10 + u32::from(*b - b'0')).min(LIMIT);
     }
-    v
-}
-
-// The same of the digits after a minus.
-fn amount_below(bytes: &[u8]) -> u32
-    requires { minus bytes.now ≡ true }
-    ensures { result ≡ min 10000 (digits_value 10 (drop 1 bytes.now)) }
-{
-    match bytes {
-        [_, digits @ ..] => amount(digits),
-        [] => 0,
-    }
-}
-
-fn negated(v: u32) -> i8
-    requires { v ≤ 99 }
-    ensures { result ≡ neg_ℤ (pos v) }
-{
-    -(v as i8)
+    v as u16
 }
 
 // The number of a field, from low to high.
@@ -53,10 +32,10 @@ pub(crate) fn within(token: Token<'_>, low: u16, high: u16) -> Result<u16, Refus
     match token {
         Token::Number { bytes, line, field } => {
             let v = amount(bytes);
-            if v < u32::from(low) || v > u32::from(high) {
-                Err(Refusal::OutOfRange { line, field })
+            if (low..=high).contains(&v) {
+                Ok(v)
             } else {
-                Ok(v as u16)
+                Err(Refusal::OutOfRange { line, field })
             }
         }
         Token::Negative { line, field, .. }
@@ -71,22 +50,14 @@ pub(crate) fn change(token: Token<'_>) -> Result<i8, Refusal>
     ensures { result ≡ changeIn (bytes_of token.entry) (line_of token.entry) (field_of token.entry) }
 {
     match token {
-        Token::Number { bytes, line, field } => {
-            let v = amount(bytes);
-            if v > 99 {
-                Err(Refusal::OutOfRange { line, field })
-            } else {
-                Ok(v as i8)
-            }
-        }
-        Token::Negative { bytes, line, field } => {
-            let v = amount_below(bytes);
-            if v > 99 {
-                Err(Refusal::OutOfRange { line, field })
-            } else {
-                Ok(negated(v))
-            }
-        }
+        Token::Number { bytes, line, field } => match amount(bytes) {
+            v @ 0..=99 => Ok(v as i8),
+            _ => Err(Refusal::OutOfRange { line, field }),
+        },
+        Token::Negative { bytes, line, field } => match amount(&bytes[1..]) {
+            v @ 0..=99 => Ok(-(v as i8)),
+            _ => Err(Refusal::OutOfRange { line, field }),
+        },
         Token::Dash { line, field, .. } | Token::Word { line, field, .. } => Err(
             Refusal::NotNumber { line, field },
         ),

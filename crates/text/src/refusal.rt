@@ -2,6 +2,9 @@
 ghost use Rattle.std.specs.Prelude.{◌≡◌};
 ghost use Rattle.text.specs.Codes.{number_of, line_of, field_of};
 
+use std::error::Error;
+use std::fmt;
+
 // Lines and fields count from 1, and a line's kind is its field 1.
 #[derive(Clone, Copy, Debug, PartialEq)]
 pub enum Refusal {
@@ -37,12 +40,12 @@ impl Refusal {
         ensures { result ≡ line_of self }
     {
         match self {
-            Refusal::NotDue { line } => line,
-            Refusal::FieldCount { line } => line,
-            Refusal::NotNumber { line, .. } => line,
-            Refusal::OutOfRange { line, .. } => line,
-            Refusal::OutOfTurn { line, .. } => line,
-            Refusal::Unended { line } => line,
+            Refusal::NotDue { line }
+            | Refusal::FieldCount { line }
+            | Refusal::NotNumber { line, .. }
+            | Refusal::OutOfRange { line, .. }
+            | Refusal::OutOfTurn { line, .. }
+            | Refusal::Unended { line } => line,
             Refusal::TooLong => 0,
         }
     }
@@ -52,13 +55,26 @@ impl Refusal {
         ensures { result ≡ field_of self }
     {
         match self {
-            Refusal::NotDue { .. } => 1,
-            Refusal::FieldCount { .. } => 1,
-            Refusal::NotNumber { field, .. } => field,
-            Refusal::OutOfRange { field, .. } => field,
-            Refusal::OutOfTurn { field, .. } => field,
-            Refusal::Unended { .. } => 1,
+            Refusal::NotDue { .. } | Refusal::FieldCount { .. } | Refusal::Unended { .. } => 1,
+            Refusal::NotNumber { field, .. }
+            | Refusal::OutOfRange { field, .. }
+            | Refusal::OutOfTurn { field, .. } => field,
             Refusal::TooLong => 0,
         }
     }
 }
+
+// As the programs print it: its number, line and field, with tabs between.
+impl fmt::Display for Refusal {
+    ghost use Rattle.std.specs.Prelude.{Some};
+    ghost use Rattle.text.specs.Codes.{told};
+
+    ghost output = { λ refusal. Some (told refusal) };
+
+    fn fmt<W: fmt::Write>(&self, f: &mut fmt::Formatter<W>) -> fmt::Result {
+        let (number, line, field) = (self.number(), self.line(), self.field());
+        write!(f, "refused\t{number}\t{line}\t{field}")
+    }
+}
+
+impl Error for Refusal {}

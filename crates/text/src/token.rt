@@ -30,38 +30,21 @@ pub(crate) enum Token<'a> {
     },
 }
 
-fn all_digits(bytes: &[u8]) -> bool
-    ensures { result ≡ all_ascii_digits bytes.now }
+// Whether the bytes are digits, the first not 0.
+fn is_positive(bytes: &[u8]) -> bool
+    ensures { result ≡ positive bytes.now }
 {
-    for b in bytes {
-        if !b.is_ascii_digit() {
-            return false;
-        }
+    match bytes {
+        [b'1'..=b'9', rest @ ..] => rest.iter().all(u8::is_ascii_digit),
+        _ => false,
     }
-    true
 }
 
 // Whether the bytes are digits with no leading zero.
 fn is_plain(bytes: &[u8]) -> bool
     ensures { result ≡ plain bytes.now }
 {
-    match bytes {
-        [] => false,
-        [b'0'] => true,
-        [b'0', ..] => false,
-        _ => all_digits(bytes),
-    }
-}
-
-// Whether the bytes are digits, the first not 0.
-fn is_positive(bytes: &[u8]) -> bool
-    ensures { result ≡ positive bytes.now }
-{
-    match bytes {
-        [] => false,
-        [b'0', ..] => false,
-        _ => all_digits(bytes),
-    }
+    matches!(bytes, b"0") || is_positive(bytes)
 }
 
 // Whether the bytes are a minus and a number other than 0.

@@ -1,14 +1,11 @@
-use Rattle.std.proofs.Common.{arith}
-use Rattle.text.proofs.Pieces.{count_same, count-other, count-end}
+use Rattle.std.proofs.Common.{length, ap, ◌∙◌, rules, tests}
+use Rattle.std.proofs.lemmas.Iterator.Consumers.{count_from_yields_List}
+use Rattle.std.proofs.lemmas.Iterator.Splits.{YieldsList-from_slice_split}
+use Rattle.text.proofs.Pieces.{split-pieces}
 use Rattle.text.proofs.cut.count.Goals as goal
-use Rattle.text.proofs.cut.count.Goals.{then-b-sep, else-b-sep}
-
-pub loop-b-preserved : goal.loop-b-preserved
-loop-b-preserved c =
-    elim c.if-b-sep.branch [
-      | then-b-sep w ↦ (omega (arith, w.n-is), omega (arith, w.n-is, count_same c.args.sep c.args.bytes.now c.loop-b.b-index (omega arith) w.if-b-sep.true))
-      | else-b-sep w ↦ (omega (arith, w.n-is), omega (arith, w.n-is, count-other c.args.sep c.args.bytes.now c.loop-b.b-index (omega arith) w.if-b-sep.false))
-    ]
 
 pub returns : goal.returns
-returns c = omega (arith, count-end c.args.sep c.args.bytes.now c.loop-b.b-index (omega arith))
+returns c =
+    count_from_yields_List c.split.result _ c.count.ensures.ran
+    (YieldsList-from_slice_split _ _ c.args.bytes.now c.split.ensures.rest c.split.ensures.done c.split.ensures.closure (λ x b q k. search (rules, tests)))
+    ∙ ap length (split-pieces c.args.sep c.args.bytes.now)

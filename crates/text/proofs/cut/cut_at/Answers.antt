@@ -1,18 +1,15 @@
-use Rattle.std.proofs.Common.{sym, refl, arith, rules}
+use Rattle.std.proofs.Common.{◌≡◌, ℕ, ◌<◌, length, get_or, rules}
 use Rattle.text.proofs.Pieces.{pieces-cut, pieces-last, lacks-all}
 use Rattle.text.proofs.cut.cut_at.Goals as goal
 
-pub returns-then-n-bytes : goal.returns-then-n-bytes
-returns-then-n-bytes c =
-    let told = c.front_len-n.ensures in
-    record {
-      parts = pieces-cut c.args.sep c.args.bytes.now c.front_len-n.result (omega arith) told.before (told.found (omega arith));
-      lengths = search rules;
-    }
+pub returns-in-Some-clause-parts : goal.returns-in-Some-clause-parts
+returns-in-Some-clause-parts c =
+    let within : c.in-Some.n < length c.args.bytes.now = search rules in
+    let before : (k : ℕ) → k < c.in-Some.n → get_or c.args.bytes.now k 0 ≡ c.args.sep → ⊥ = search rules in
+    let found : get_or c.args.bytes.now c.in-Some.n 0 ≡ c.args.sep = search rules in
+    pieces-cut c.args.sep c.args.bytes.now c.in-Some.n within before found
 
-pub returns-else-n-bytes : goal.returns-else-n-bytes
-returns-else-n-bytes c =
-    record {
-      parts = sym (pieces-last _ _ (lacks-all _ _ (λ k l. c.front_len-n.ensures.before k (omega arith))));
-      lengths = refl;
-    }
+pub returns-in-None-clause-parts : goal.returns-in-None-clause-parts
+returns-in-None-clause-parts c =
+    let none : (k : ℕ) → k < length c.args.bytes.now → get_or c.args.bytes.now k 0 ≡ c.args.sep → ⊥ = search rules in
+    pieces-last _ _ (lacks-all _ _ none)

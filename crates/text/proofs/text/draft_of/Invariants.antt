@@ -4,11 +4,12 @@ use Rattle.text.proofs.Sound.{Sound}
 use Rattle.text.specs.Reading.{readText, readLines}
 use Rattle.text.proofs.text.draft_of.Given as goal
 
-abbrev pub invariant-loop-rest : goal.invariant-loop-rest
-invariant-loop-rest l =
-    Sound l.stage l.draft ×
-    (l.number + length l.rest ≤ length l.text + 1) ×
-    (readLines (pieces 10 l.rest) l.number l.stage l.draft ≡ readText l.text)
+abbrev pub invariant-loop-bytes : goal.invariant-loop-bytes
+invariant-loop-bytes l = record {
+  sound : Sound l.stage l.draft;
+  numbered : l.number + length l.rest ≤ length l.text + 1;
+  same : readLines (pieces 10 l.rest) l.number l.stage l.draft ≡ readText l.text;
+}
 
-abbrev pub decreases-loop-rest : goal.decreases-loop-rest
-decreases-loop-rest l = length l.rest
+abbrev pub decreases-loop-bytes : goal.decreases-loop-bytes
+decreases-loop-bytes l = length l.rest
