@@ -1,5 +1,5 @@
--- The number of each refusal.
-use Rattle.std.specs.Prelude.{ℕ}
+-- The number of each refusal, and the line that tells of it.
+use Rattle.std.specs.Prelude.{ℕ, List, ◌∷◌, ◌++◌, codes, decimal}
 use Rattle.layers.specs.declared.refusal.Refusal.{Refusal}
 use Rattle.layers.specs.declared.refusal.Refusal.TheVariants.{Width, Short, NoLayer, NoNode, NoDoor, OneGroup, LayerFull, SameNode, Clash, SameDoor}
 
@@ -14,3 +14,7 @@ number_of LayerFull = 24
 number_of SameNode = 25
 number_of Clash = 26
 number_of SameDoor = 27
+
+-- its number, then line 0 and field 0, with tabs between: no line of a text is at fault
+abbrev pub told : Refusal → List ℕ
+told r = codes "refused" ++ (9 ∷ decimal (number_of r)) ++ codes "\t0\t0"

@@ -2,6 +2,8 @@
 ghost use Rattle.std.specs.Prelude.{◌≡◌};
 ghost use Rattle.layers.specs.Refusals.{number_of};
 
+use std::fmt;
+
 #[derive(Clone, Copy, Debug, PartialEq)]
 pub enum Refusal {
     // the width is not 1 to 128
@@ -43,5 +45,18 @@ impl Refusal {
             Refusal::Clash => 26,
             Refusal::SameDoor => 27,
         }
+    }
+}
+
+// As the programs print it: no line and no field of a text is at fault.
+impl fmt::Display for Refusal {
+    ghost use Rattle.std.specs.Prelude.{Some};
+    ghost use Rattle.layers.specs.Refusals.{told};
+
+    ghost output = { λ refusal. Some (told refusal) };
+
+    fn fmt<W: fmt::Write>(&self, f: &mut fmt::Formatter<W>) -> fmt::Result {
+        let number = self.number();
+        write!(f, "refused\t{number}\t0\t0")
     }
 }

@@ -3,12 +3,11 @@
 #![tactic(auto)]
 
 use anyhow::anyhow;
+use labels::blank::blank_node;
 use labels::relabel::relabel;
-use layers::node::{Arcs, Down, Label, Node, Up};
+use layers::node::{Arcs, Node};
 use round::table::Round;
 use rules::both::Both;
-use rules::load::Load;
-use rules::pairs::Pairs;
 use rules::rule::Rule;
 use std::io::Read;
 use tallies::late::LateDoors;
@@ -20,36 +19,10 @@ const TIMES: usize = 1000;
 // The arcs of a node at place a of its layer: by door k to the k-th node after it.
 fn arcs_of(a: usize) -> Arcs {
     let mut to = [0u8; 16];
-    for k in 0..16 {
-        to[k] = ((a % 128 + k) % 128) as u8 + 1;
+    for (k, t) in to.iter_mut().enumerate() {
+        *t = ((a % 128 + k) % 128) as u8 + 1;
     }
     Arcs { to }
-}
-
-fn full<S: Copy, V: Copy>(a: usize, state: S, value: V) -> Node<S, V> {
-    Node {
-        arcs: arcs_of(a),
-        label: Label {
-            down: Down {
-                all: 0,
-                some: 0,
-                finish: 0,
-                lasts: 0,
-                state,
-                value,
-            },
-            up: Up {
-                allup: 0,
-                someup: 0,
-            },
-        },
-    }
-}
-
-fn fill<S: Copy, V: Copy>(nodes: &mut [Node<S, V>], state: S, value: V) {
-    for k in 0..nodes.len() {
-        nodes[k] = full(k, state, value);
-    }
 }
 
 fn relabel_often<R: Rule, T: Tally>(
@@ -64,13 +37,12 @@ fn relabel_often<R: Rule, T: Tally>(
 }
 
 fn measure(rt: &HostRuntime, round: &Round) -> anyhow::Result<()> {
-    let rule = Both {
-        first: Pairs::of(round),
-        second: Load::of(round),
-    };
+    let rule = Both::of(round);
     let tally = LateDoors::of(round);
-    let mut nodes = [full(0, rule.start(), tally.start()); 2049];
-    fill(&mut nodes, rule.start(), tally.start());
+    let mut nodes = [blank_node(&rule, &tally); 2049];
+    for (a, node) in nodes.iter_mut().enumerate() {
+        node.arcs = arcs_of(a);
+    }
     relabel_often(round, &rule, &tally, &mut nodes);
     let last = nodes[2048].label.down.some;
     println!(rt; "relabelled\t{TIMES}\t{last}")?;

@@ -7,14 +7,11 @@ use orders::order::Order;
 use orders::verdict::Verdict;
 use round::table::Round;
 use rules::both::Both;
-use rules::load::Load;
-use rules::pairs::Pairs;
 use std::env;
 use std::io::Read;
 use tallies::driving::Driving;
 use tallies::late::LateDoors;
 use text::reading::read_bounded;
-use text::refusal::Refusal;
 
 // The door that an argument names: 1 to 16, with no leading zero.
 fn door_number(arg: &str) -> Option<usize> {
@@ -35,14 +32,6 @@ fn doors_named(rt: &HostRuntime) -> anyhow::Result<Option<Vec<usize>>> {
         }
     }
     Ok(Some(doors))
-}
-
-fn refuse_text(rt: &HostRuntime, refusal: Refusal) -> anyhow::Result<()> {
-    let number = refusal.number();
-    let line = refusal.line();
-    let field = refusal.field();
-    println!(rt; "refused\t{number}\t{line}\t{field}")?;
-    Err(anyhow!("the text is refused"))
 }
 
 fn refuse_order(rt: &HostRuntime) -> anyhow::Result<()> {
@@ -67,11 +56,7 @@ fn print_costs(rt: &HostRuntime, order: &Order<'_>) -> anyhow::Result<()> {
 }
 
 fn report(rt: &HostRuntime, order: &Order<'_>) -> anyhow::Result<()> {
-    let rule = Both {
-        first: Pairs::of(order.round),
-        second: Load::of(order.round),
-    };
-    let verdict = order.verdict(&rule);
+    let verdict = order.verdict(&Both::of(order.round));
     if let Verdict::Incomplete = verdict {
         return refuse_order(rt);
     }
@@ -89,7 +74,8 @@ fn main(rt: HostRuntime) -> anyhow::Result<()> {
     rt.stdin().read_to_end(&mut bytes)?;
     let mut round = Round::fresh();
     if let Err(refusal) = read_bounded(&mut round, bytes.as_slice()) {
-        return refuse_text(&rt, refusal);
+        println!(rt; "{refusal}")?;
+        return Err(anyhow!("the text is refused"));
     }
     let Some(doors) = doors_named(&rt)? else {
         return refuse_order(&rt);

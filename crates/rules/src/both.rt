@@ -1,14 +1,31 @@
 // Two rules together are a rule again.
+ghost use Rattle.std.specs.Prelude.{◌≡◌};
 ghost use Rattle.rules.specs.Boths.{bothSense};
 ghost use Rattle.rules.specs.BothLaws.{both-lawful};
 ghost use Rattle.std.proofs.lemmas.Bool.{and_from};
 
+use crate::load::Load;
+use crate::pairs::Pairs;
 use crate::rule::Rule;
+use round::table::Round;
 
 #[derive(Clone, Copy)]
 pub struct Both<A, B> {
     pub first: A,
     pub second: B,
+}
+
+// The side rules of a round.
+impl<'a> Both<Pairs<'a>, Load<'a>> {
+    pub fn of(round: &'a Round) -> Both<Pairs<'a>, Load<'a>>
+        ensures first { result.first.round ≡ round.entry }
+        ensures second { result.second.round ≡ round.entry }
+    {
+        Both {
+            first: Pairs::of(round),
+            second: Load::of(round),
+        }
+    }
 }
 
 impl<A: Rule, B: Rule> Rule for Both<A, B> {

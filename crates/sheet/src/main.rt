@@ -5,50 +5,17 @@
 use anyhow::anyhow;
 use diagram::diagram::Diagram;
 use diagram::room::Room;
-use layers::node::{Arcs, Down, Label, Node, Up};
+use labels::blank::blank_node;
 use refine::answer::Refined;
 use round::table::Round;
 use rules::both::Both;
-use rules::load::Load;
-use rules::pairs::Pairs;
-use rules::rule::Rule;
 use std::io::Read;
 use tallies::late::LateDoors;
-use tallies::tally::Tally;
 use text::reading::read_bounded;
-use text::refusal::Refusal;
 
-// The widest layer for which the program lends itself records.
+// The width of the diagram, and the records that it takes with 16 doors.
 const WIDTH: usize = 16;
-
-fn refuse_text(rt: &HostRuntime, refusal: Refusal) -> anyhow::Result<()> {
-    let number = refusal.number();
-    let line = refusal.line();
-    let field = refusal.field();
-    println!(rt; "refused\t{number}\t{line}\t{field}")?;
-    Err(anyhow!("the text is refused"))
-}
-
-// A place with no arcs and no label yet.
-fn empty<S: Copy, V: Copy>(state: S, value: V) -> Node<S, V> {
-    Node {
-        arcs: Arcs { to: [0; 16] },
-        label: Label {
-            down: Down {
-                all: 0,
-                some: 0,
-                finish: 0,
-                lasts: 0,
-                state,
-                value,
-            },
-            up: Up {
-                allup: 0,
-                someup: 0,
-            },
-        },
-    }
-}
+const RECORDS: usize = 257;
 
 fn print_bound(rt: &HostRuntime, bound: Option<(u32, u32)>) -> anyhow::Result<()> {
     match bound {
@@ -83,12 +50,9 @@ fn print_refined(rt: &HostRuntime, refined: Refined) -> anyhow::Result<()> {
 }
 
 fn print_sheet(rt: &HostRuntime, round: &Round) -> anyhow::Result<()> {
-    let rule = Both {
-        first: Pairs::of(round),
-        second: Load::of(round),
-    };
+    let rule = Both::of(round);
     let tally = LateDoors::of(round);
-    let mut records = [empty(rule.start(), tally.start()); 257];
+    let mut records = [blank_node(&rule, &tally); RECORDS];
     match Room::check(round, WIDTH, records.len()) {
         Ok(room) => {
             let mut diagram = Diagram::open(room, &rule, &tally, &mut records);
@@ -98,8 +62,7 @@ fn print_sheet(rt: &HostRuntime, round: &Round) -> anyhow::Result<()> {
             print_musts(rt, &diagram, round)
         }
         Err(refusal) => {
-            let number = refusal.number();
-            println!(rt; "refused\t{number}\t0\t0")?;
+            println!(rt; "{refusal}")?;
             Err(anyhow!("the diagram is refused"))
         }
     }
@@ -111,6 +74,9 @@ fn main(rt: HostRuntime) -> anyhow::Result<()> {
     let mut round = Round::fresh();
     match read_bounded(&mut round, bytes.as_slice()) {
         Ok(()) => print_sheet(&rt, &round),
-        Err(refusal) => refuse_text(&rt, refusal),
+        Err(refusal) => {
+            println!(rt; "{refusal}")?;
+            Err(anyhow!("the text is refused"))
+        }
     }
 }
