@@ -20,14 +20,14 @@ use Rattle.round.specs.declared.door.Door as door
 use Rattle.text.specs.Number.{plain, positive, minus, dash}
 use Rattle.text.specs.Fields.{number_in, changeIn}
 use Rattle.text.specs.Lines.{and_then, head_of, doorOf, doorDue, legIn, rowFrom, rowDue, pair_of}
-use Rattle.text.specs.Steps.{Ready, lineStep, headStep, doorStep, driveStep, pairStep, ifRound, ifDoor, ifDrive, ifFirst}
+use Rattle.text.specs.Steps.{lineStep, headStep, doorStep, driveStep, pairStep, ifRound, ifDoor, ifDrive, ifFirst}
 use Rattle.text.specs.Kinds.{named}
 use Rattle.text.specs.declared.line.Head as head
 use Rattle.text.specs.declared.line.Pair as pair
 use Rattle.text.specs.Pieces.{pieces}
 use Rattle.text.specs.Reading.{readLines, readText, atEnd}
 use Rattle.text.specs.Drafts.{unread, withDoor, with_row, withPair}
-use Rattle.round.specs.Tables.{blank, at, leg}
+use Rattle.round.specs.Tables.{blank, at}
 
 -- a refusal is no value
 pub never : {A : Type 0} (x : Refusal) (b : A) → Err x ≡ Ok b → ⊥
