@@ -20,11 +20,7 @@ fn outcome(text: &[u8]) -> (u8, usize, usize) {
 }
 
 fn after(heap: Global, parts: &[&[u8]]) -> Result<(u8, usize, usize), Fail> {
-    let mut text = Vec::new(heap);
-    for part in parts {
-        text.extend_from_slice(part)?;
-    }
-    Ok(outcome(text.as_slice()))
+    Ok(outcome(parts.concat(heap)?.as_slice()))
 }
 
 #[test]
@@ -47,6 +43,17 @@ fn a_refusal_leaves_the_round(rt: HostRuntime) {
     let mut round = Round::fresh();
     assert!(rt; read_bounded(&mut round, b"round\t2\t7\t8\nx").is_err());
     assert_eq!(rt; (round.n, round.load, round.limit), (1, 0, 0));
+}
+
+#[test]
+fn a_refusal_is_shown_with_tabs(rt: HostRuntime) -> Result<(), Fail> {
+    let mut round = Round::fresh();
+    let shown = match read_bounded(&mut round, b"round\t1\t5\t4\n") {
+        Ok(()) => format!(in rt.alloc(); "read")?,
+        Err(refusal) => format!(in rt.alloc(); "{refusal}")?,
+    };
+    assert_eq!(rt; shown.as_str(), "refused\t4\t1\t4");
+    Ok(())
 }
 
 #[test]
@@ -218,15 +225,8 @@ fn drives_and_pairs(rt: HostRuntime) -> Result<(), Fail> {
 
 // The 84 bytes of the round of two doors, that many lines of 10 bytes, and the last bytes.
 fn long(heap: Global, pairs: usize, last: &[u8]) -> Result<(u8, usize, usize), Fail> {
-    let mut text = Vec::new(heap);
-    for part in [HEAD, DOORS, DRIVES] {
-        text.extend_from_slice(part)?;
-    }
-    for _ in 0..pairs {
-        text.extend_from_slice(b"first\t1\t2\n")?;
-    }
-    text.extend_from_slice(last)?;
-    Ok(outcome(text.as_slice()))
+    let lines = b"first\t1\t2\n".repeat(heap, pairs)?;
+    after(heap, &[HEAD, DOORS, DRIVES, lines.as_slice(), last])
 }
 
 #[test]

@@ -1,16 +1,15 @@
 -- What the tests of a field's bytes tell.
-use Rattle.std.proofs.Common.{◌≡◌, ℕ, ◌+◌, ◌-◌, ◌*◌, ◌<◌, ◌≤◌, Bool, true, false, cond, ◌&&◌, eqb, List, [], ◌∷◌, length, get_or, take, drop, sym, refl, ap, ◌∙◌, arith, le-ltb, lt-ltb, eq-eqb, ne_eqb}
+use Rattle.std.proofs.Common.{◌≡◌, ℕ, ◌+◌, ◌-◌, ◌*◌, ◌<◌, ◌≤◌, true, ◌&&◌, List, [], ◌∷◌, length, get_or, take, drop, refl, ap, ◌∙◌, arith, le-ltb, lt-ltb, ne_eqb}
 use Rattle.std.proofs.lemmas.Bool.Decides.{nat_tests}
-use borrow.Author.Tests.{both_ways}
 use Rattle.std.specs.Str.Parse.{digits_value}
 use Rattle.std.specs.Int.{IsInRange}
 use Rattle.std.specs.Char.{digit_value as digitValue, is_ascii_digit}
 use Rattle.std.proofs.lemmas.Int.Digits.{digits_value_more}
 use Rattle.std.proofs.lemmas.Str.Parse.{IsNumeralModel, numerals_by_value, tells_all_ascii_digits, digit_at}
-use Rattle.text.specs.Number.{positive, minus}
+use Rattle.text.specs.Number.{positive}
 use Rattle.std.specs.Str.{all_ascii_digits}
 use Rattle.std.specs.List.{list_all}
-use Rattle.std.proofs.lemmas.List.{drop_more, drop_all, take_rest}
+use Rattle.std.proofs.lemmas.List.{take_rest}
 
 pub all-digits : (a : List ℕ) → list_all is_ascii_digit a ≡ all_ascii_digits a
 all-digits [] = refl
@@ -24,11 +23,6 @@ pub positive-rest : (a : List ℕ) → 1 ≤ length a → 49 ≤ get_or a 0 0 �
 positive-rest [] l m n = absurd (omega arith)
 positive-rest (x ∷ a) l m n = rw (take_rest (x ∷ a) 1, ne_eqb x 48 (omega arith), in-range x m n) (all-digits a)
 
--- the rest after a minus tells
-pub minus-rest : (a : List ℕ) → 1 ≤ length a → get_or a 0 0 ≡ 45 → minus a ≡ positive (take (length a - 1) (drop 1 a))
-minus-rest [] l e = absurd (omega arith)
-minus-rest (x ∷ a) l e = rw (take_rest (x ∷ a) 1, eq-eqb x 45 e)
-
 pub own : IsNumeralModel (λ ds. all_ascii_digits ds ≡ true) (digits_value 10)
 own = numerals_by_value _ tells_all_ascii_digits
 
@@ -41,19 +35,3 @@ digit_value b l h = rw (le-ltb b 48 l, lt-ltb b 58 (omega arith))
 -- one digit more
 pub value-step : (a : List ℕ) (i : ℕ) → i < length a → 48 ≤ get_or a i 0 → get_or a i 0 ≤ 57 → digits_value 10 (take (i + 1) a) ≡ digits_value 10 (take i a) * 10 + (get_or a i 0 - 48)
 value-step a i l d e = digits_value_more 10 a i l ∙ ap (λ t. digits_value 10 (take i a) * 10 + t) (digit_value _ d e)
-
-cond_either : (t u : Bool) → cond t u false ≡ true → u ≡ true
-cond_either true u e = e
-cond_either false u e = absurd (both_ways false refl e)
-
-cond-or : (t u : Bool) → cond t false u ≡ true → u ≡ true
-cond-or true u e = absurd (both_ways false refl e)
-cond-or false u e = e
-
-positive-digits : (a : List ℕ) → positive a ≡ true → all_ascii_digits a ≡ true
-positive-digits [] e = refl
-positive-digits (x ∷ a) e = cond-or (eqb x 48) (all_ascii_digits (x ∷ a)) e
-
-pub minus-digits : (a : List ℕ) → minus a ≡ true → all_ascii_digits (take (length a - 1) (drop 1 a)) ≡ true
-minus-digits [] e = absurd (both_ways _ refl e)
-minus-digits (x ∷ a) e = rw (take_rest (x ∷ a) 1) (positive-digits a (cond_either (eqb x 45) (positive a) e))

@@ -1,10 +1,10 @@
 -- Where a list of bytes is cut.
-use Rattle.std.proofs.Common.{◌≡◌, ℕ, zero, suc, ◌+◌, ◌-◌, ◌<◌, ◌≤◌, true, false, cond, eqb, List, [], ◌∷◌, ◌++◌, length, get_or, slice_get, Option, Some, None, Bor, take, drop, sym, refl, ap, ◌∙◌, arith, take-append-drop, eq-eqb, ne_eqb}
+use Rattle.std.proofs.Common.{◌≡◌, ℕ, zero, suc, ◌+◌, ◌-◌, ◌<◌, eqb, List, [], ◌∷◌, ◌++◌, length, get_or, slice_get, Option, Some, None, Bor, take, drop, refl, ap, ◌∙◌, arith, add-one, eq-eqb, ne_eqb}
 use Rattle.std.specs.List.{slice_split, onto_first}
+use Rattle.std.proofs.lemmas.List.Splits.{length-slice_split}
 use Rattle.std.specs.Option.{option_map, unwrap_or}
 use Rattle.std.proofs.lemmas.Option.{unwrap_or-slice_get}
-use Rattle.std.proofs.lemmas.List.{drop_more, drop_all, take_rest}
-use Rattle.std.proofs.lemmas.Bool.{cond_both}
+use Rattle.std.proofs.lemmas.List.{take_rest}
 use Rattle.text.specs.Pieces.{pieces, onto}
 
 -- s is not in the list
@@ -26,25 +26,6 @@ pub lacks-all : (s : ℕ) (a : List ℕ) → ((k : ℕ) → k < length a → get
 lacks-all s [] h = tt
 lacks-all s (x ∷ a) h = (h 0 (omega arith), lacks-all s a (λ k l. h (suc k) (omega arith)))
 
-pub lacks-take : (s : ℕ) (a : List ℕ) (n : ℕ) → ((k : ℕ) → k < n → get_or a k 0 ≡ s → ⊥) → n ≤ length a → Lacks s (take n a)
-lacks-take s a zero h l = tt
-lacks-take s [] (suc n) h l = tt
-lacks-take s (x ∷ a) (suc n) h l = (h 0 (omega arith), lacks-take s a n (λ k m. h (suc k) (omega arith)) (omega arith))
-
-around : (a : List ℕ) (n s : ℕ) → n < length a → get_or a n 0 ≡ s → a ≡ take n a ++ s ∷ drop (n + 1) a
-around a n s l e = sym (take-append-drop n a) ∙ ap (λ t. take n a ++ t) (drop_more a n 0 l ∙ ap (λ b. b ∷ drop (n + 1) a) e)
-
-pub pieces-at : (s : ℕ) (a : List ℕ) (n : ℕ) → n < length a → ((k : ℕ) → k < n → get_or a k 0 ≡ s → ⊥) → get_or a n 0 ≡ s → take n a ∷ pieces s (drop (n + 1) a) ≡ pieces s a
-pieces-at s a n l h e = sym (ap (pieces s) (around a n s l e) ∙ pieces_more s (take n a) (drop (n + 1) a) (lacks-take s a n h (omega arith)))
-
-length-onto-some : (b : ℕ) (ps : List (List ℕ)) → 0 < length (onto b ps)
-length-onto-some b [] = omega arith
-length-onto-some b (p ∷ ps) = omega arith
-
-pub some-piece : (s : ℕ) (a : List ℕ) → 0 < length (pieces s a)
-some-piece s [] = omega arith
-some-piece s (b ∷ a) = cond_both (eqb b s) _ _ (λ ps. 0 < length ps) (λ _. omega arith) (λ _. length-onto-some b (pieces s a))
-
 -- the pieces are the parts that `split` gives
 onto-first : (b : ℕ) (ps : List (List ℕ)) → onto_first b ps ≡ onto b ps
 onto-first b [] = refl
@@ -59,6 +40,15 @@ pub nth-piece : (r : Option (Bor (List ℕ))) (x : Bor (List ℕ)) (ps : List (L
 nth-piece None x ps at e = ap (λ o. unwrap_or o x.now) e ∙ unwrap_or-slice_get ps at x.now
 nth-piece (Some p) x ps at e = ap (λ o. unwrap_or o x.now) e ∙ unwrap_or-slice_get ps at x.now
 
+pub some-piece : (s : ℕ) (a : List ℕ) → 0 < length (pieces s a)
+some-piece s a = omega (arith, length-slice_split (λ b. eqb b s) a, ap length (split-pieces s a))
+
+-- the first separator, at n, ends the first piece
+first-cut : (s : ℕ) (a : List ℕ) (n : ℕ) → n < length a → ((k : ℕ) → k < n → get_or a k 0 ≡ s → ⊥) → get_or a n 0 ≡ s → pieces s a ≡ take n a ∷ pieces s (drop (suc n) a)
+first-cut s [] n l h e = absurd (omega arith)
+first-cut s (x ∷ a) zero l h e = rw (eq-eqb x s e)
+first-cut s (x ∷ a) (suc n) l h e = rw (ne_eqb x s (h 0 (omega arith)), first-cut s a n (omega arith) (λ k m. h (suc k) (omega arith)) e)
+
 -- the same of `&a[n + 1..]`
 pub pieces-cut : (s : ℕ) (a : List ℕ) (n : ℕ) → n < length a → ((k : ℕ) → k < n → get_or a k 0 ≡ s → ⊥) → get_or a n 0 ≡ s → pieces s a ≡ take n a ∷ pieces s (take (length a - (n + 1)) (drop (n + 1) a))
-pieces-cut s a n l h e = rw (take_rest a (n + 1)) (sym (pieces-at s a n l h e))
+pieces-cut s a n l h e = rw (take_rest a (n + 1), add-one) (first-cut s a n l h e)

@@ -20,14 +20,14 @@ use Rattle.round.specs.declared.door.Door as door
 use Rattle.text.specs.Number.{plain, positive, minus, dash}
 use Rattle.text.specs.Fields.{number_in, changeIn}
 use Rattle.text.specs.Lines.{and_then, head_of, doorOf, doorDue, legIn, rowFrom, rowDue, pair_of}
-use Rattle.text.specs.Steps.{Ready, lineStep, headStep, doorStep, driveStep, pairStep, ifRound, ifDoor, ifDrive, ifFirst}
+use Rattle.text.specs.Steps.{lineStep, headStep, doorStep, driveStep, pairStep, ifRound, ifDoor, ifDrive, ifFirst}
 use Rattle.text.specs.Kinds.{named}
 use Rattle.text.specs.declared.line.Head as head
 use Rattle.text.specs.declared.line.Pair as pair
 use Rattle.text.specs.Pieces.{pieces}
 use Rattle.text.specs.Reading.{readLines, readText, atEnd}
 use Rattle.text.specs.Drafts.{unread, withDoor, with_row, withPair}
-use Rattle.round.specs.Tables.{blank, at, leg}
+use Rattle.round.specs.Tables.{blank, at}
 
 -- a refusal is no value
 pub never : {A : Type 0} (x : Refusal) (b : A) → Err x ≡ Ok b → ⊥
@@ -65,21 +65,16 @@ number_ok low high f line k v e =
     let same = ok_same _ _ q.1 in
     (p.0, same, omega (arith, leb-true low (digits_value 10 f) b.0), omega (arith, leb-true (digits_value 10 f) high b.1))
 
--- what holds of each element, the default too, holds after a write
-pub set_all : {A : Type 0} (P : A → Type 0) (d : A) (xs : List A) (i : ℕ) (x : A) → P x → ((k : ℕ) → P (get_or xs k d)) → (k : ℕ) → P (get_or (set xs i x) k d)
-set_all P d [] i x p h k = h k
-set_all P d (y ∷ ys) zero x p h zero = p
-set_all P d (y ∷ ys) zero x p h (suc k) = h (suc k)
-set_all P d (y ∷ ys) (suc i) x p h zero = h 0
-set_all P d (y ∷ ys) (suc i) x p h (suc k) = set_all P d ys i x p (λ j. h (suc j)) k
-
--- the same with the place
+-- what holds of each element at its place, the default too, holds after a write
 pub set-each : {A : Type 0} (P : ℕ → A → Type 0) (d : A) (xs : List A) (i : ℕ) (x : A) → P i x → ((k : ℕ) → P k (get_or xs k d)) → (k : ℕ) → P k (get_or (set xs i x) k d)
 set-each P d [] i x p h k = h k
 set-each P d (y ∷ ys) zero x p h zero = p
 set-each P d (y ∷ ys) zero x p h (suc k) = h (suc k)
 set-each P d (y ∷ ys) (suc i) x p h zero = h 0
 set-each P d (y ∷ ys) (suc i) x p h (suc k) = set-each (λ j. P (suc j)) d ys i x p (λ j. h (suc j)) k
+
+pub set_all : {A : Type 0} (P : A → Type 0) (d : A) (xs : List A) (i : ℕ) (x : A) → P x → ((k : ℕ) → P (get_or xs k d)) → (k : ℕ) → P (get_or (set xs i x) k d)
+set_all P d xs i x p h k = set-each (λ _ y. P y) d xs i x p h k
 
 plain-parts : (f : List ℕ) → plain f ≡ true → (all_ascii_digits f ≡ true) × (0 < length f) × (get_or f 0 0 ≡ 48 → length f ≡ 1)
 plain-parts [] e = absurd (both_ways false refl e)
@@ -250,12 +245,6 @@ Sound Head d = d ≡ unread
 Sound (Doors k) d = During k d
 Sound (Drives k) d = Whole d × (k ≤ d.n)
 Sound Pairs d = Whole d
-
-pub ready : (s : Stage) (d : Draft) → Sound s d → Ready s d
-ready Head d h = tt
-ready (Doors k) d h = (h.within, h.head.most)
-ready (Drives k) d h = (h.1, h.0.head.most)
-ready Pairs d h = h.head.most
 
 pub round-ok : {A : Type 0} (k : Kind) (r : Result A Refusal) (x : Refusal) (b : A) → ifRound k r (Err x) ≡ Ok b → (k ≡ Round) × (r ≡ Ok b)
 round-ok Round r x b e = (refl, e)

@@ -1,12 +1,11 @@
 -- One line more of a text.
-use Rattle.std.proofs.Common.{◌≡◌, ℕ, ◌+◌, ◌<◌, List, [], ◌∷◌, length, Ok, Err, sym, ap, ◌∙◌, arith, ne_eqb}
+use Rattle.std.proofs.Common.{◌≡◌, ℕ, ◌+◌, ◌<◌, List, [], ◌∷◌, length, Ok, Err, sym, ap, ◌∙◌, arith}
 use Rattle.text.specs.declared.refusal.Refusal.{Refusal}
-use Rattle.text.specs.declared.refusal.Refusal.TheVariants.{Unended}
 use Rattle.text.specs.declared.stage.Stage.{Stage}
 use Rattle.text.specs.declared.draft.Draft.{Draft}
 use Rattle.text.specs.Pieces.{pieces}
 use Rattle.text.specs.Steps.{lineStep}
-use Rattle.text.specs.Reading.{readLines, atEnd}
+use Rattle.text.specs.Reading.{readLines}
 use Rattle.text.proofs.Pieces.{some-piece}
 
 more : (p : List ℕ) (ps : List (List ℕ)) (line : ℕ) (s : Stage) (d : Draft) (t : Stage) (e : Draft) → 0 < length ps → lineStep s d line (pieces 9 p) ≡ Ok (t, e) → readLines ps (line + 1) t e ≡ readLines (p ∷ ps) line s d

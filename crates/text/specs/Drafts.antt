@@ -1,5 +1,5 @@
 -- What each line adds to the round that is read. The tables go by number, with the yard at 0.
-use Rattle.std.specs.Prelude.{ℕ, ◌^◌, List, set, replicate, bit_or, slice_index, slice_set}
+use Rattle.std.specs.Prelude.{ℕ, ◌^◌, List, replicate, bit_or, slice_index, slice_set}
 use Rattle.round.specs.Tables.{blank}
 use Rattle.round.specs.declared.door.Door.{Door}
 use Rattle.text.specs.declared.draft.Draft.{Draft}

@@ -58,8 +58,7 @@ impl Draft {
         requires { (pair.first ≤ 16) × (pair.then ≤ 16) }
         ensures { self.new ≡ withPair self.old pair }
     {
-        let at = pair.then as usize;
-        let before = self.ahead[at];
-        self.ahead[at] = with(before, pair.first as usize);
+        let ahead = &mut self.ahead[pair.then as usize];
+        *ahead = with(*ahead, pair.first as usize);
     }
 }

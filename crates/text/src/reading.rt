@@ -14,7 +14,6 @@ pub fn read(round: &mut Round, text: &[u8]) -> Result<(), Refusal>
     ensures value { Reads result round.old round.new text.now }
     ensures form { Accepts result round.new text.now }
 {
-    let draft = draft_of(text)?;
     let Draft {
         n,
         load,
@@ -22,7 +21,7 @@ pub fn read(round: &mut Round, text: &[u8]) -> Result<(), Refusal>
         doors,
         drives,
         ahead,
-    } = draft;
+    } = draft_of(text)?;
     *round = Round {
         n: n as usize,
         load,

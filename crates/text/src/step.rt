@@ -12,8 +12,7 @@ use crate::stage::Stage;
 fn take_head(draft: &mut Draft, line: Line<'_>) -> Result<Stage, Refusal>
     ensures { went result draft.new ≡ headStep draft.old line.entry.number (pieces 9 line.entry.bytes.now) }
 {
-    let head = head_of(line)?;
-    draft.set_head(head);
+    draft.set_head(head_of(line)?);
     Ok(Stage::Doors(1))
 }
 
@@ -21,10 +20,9 @@ fn take_door(draft: &mut Draft, due: u16, line: Line<'_>) -> Result<Stage, Refus
     requires { (due ≤ draft.old.n) × (draft.old.n ≤ 16) }
     ensures { went result draft.new ≡ doorStep due draft.old line.entry.number (pieces 9 line.entry.bytes.now) }
 {
-    let n = draft.n;
-    let door = door_due(line, n, due)?;
+    let door = door_due(line, draft.n, due)?;
     draft.set_door(due, door);
-    if due < n {
+    if due < draft.n {
         Ok(Stage::Doors(due + 1))
     } else {
         Ok(Stage::Drives(0))
@@ -35,10 +33,9 @@ fn take_drive(draft: &mut Draft, from: u16, line: Line<'_>) -> Result<Stage, Ref
     requires { (from ≤ draft.old.n) × (draft.old.n ≤ 16) }
     ensures { went result draft.new ≡ driveStep from draft.old line.entry.number (pieces 9 line.entry.bytes.now) }
 {
-    let n = draft.n;
-    let row = row_due(line, n, from)?;
+    let row = row_due(line, draft.n, from)?;
     draft.set_row(from, row);
-    if from < n {
+    if from < draft.n {
         Ok(Stage::Drives(from + 1))
     } else {
         Ok(Stage::Pairs)

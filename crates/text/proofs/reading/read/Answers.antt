@@ -7,7 +7,7 @@ use Rattle.text.proofs.reading.read.Goals as goal
 
 pub invariant_of-round : goal.invariant_of-round
 invariant_of-round c =
-    let w = text-whole c.args.text.now c.in_ok-draft.draft (sym c.in_ok-draft.ensures) in
+    let w = text-whole c.args.text.now c.in_ok-n.field-0 (sym c.in_ok-n.ensures) in
     let doors = w.ranged.doors in
     let rows = w.ranged.rows in
     record {
@@ -26,13 +26,13 @@ invariant_of-round c =
       own = λ j. (rows j).own j refl;
     }
 
-pub returns-in_err-draft : goal.returns-in_err-draft
-returns-in_err-draft c =
+pub returns-in_err-n : goal.returns-in_err-n
+returns-in_err-n c =
     let p = err_from_is_err_and c.from_residual.result c.from_residual.ensures.1 in
-    let e = c.in_err-draft.ensures in
+    let e = c.in_err-n.ensures in
     rw (p.1, p.2) (record { value = (sym e, refl); form = refused-form c.args.text.now _ e })
 
 pub returns : goal.returns
 returns c =
-    let e = sym c.in_ok-draft.ensures in
-    record { value = e; form = accepted-form c.args.text.now c.in_ok-draft.draft e }
+    let e = sym c.in_ok-n.ensures in
+    record { value = e; form = accepted-form c.args.text.now c.in_ok-n.field-0 e }
