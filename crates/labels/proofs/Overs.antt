@@ -57,3 +57,19 @@ put-over at count xs ys e =
 
 pub part_of : {X : Type 0} (at count : ℕ) (xs : List X) → take (at + count - at) (drop at xs) ≡ part at count xs
 part_of at count xs = let e : at + count - at ≡ count = omega arith in ap (λ n. take n (drop at xs)) e
+
+-- a part that lies in the front of a list
+pub part-front : {X : Type 0} (from w at : ℕ) (xs : List X) → from + w ≤ at → part from w (take at xs) ≡ part from w xs
+part-front from w at xs le = sym (drop-take from w (take at xs)) ∙ ap (drop from) (take-take (from + w) at xs le) ∙ drop-take from w xs
+
+-- what a write to a part of the front leaves, before the rest
+pub put-front : {X : Type 0} (at w next : ℕ) (xs ys : List X) → at + w ≤ next → next ≤ length xs → length ys ≡ w → put_mid at (at + w - at) (take next xs) ys ++ drop next xs ≡ over at ys xs
+put-front at w next xs ys le h e =
+    let A = take next xs in
+    let B = drop next xs in
+    let D = drop (at + length ys) A in
+    let fits : at + length ys ≤ length A = omega (arith, length-take-le next xs h) in
+    ap (λ zs. zs ++ B) (put-over at w A ys e)
+    ∙ append_assoc (take at A) (ys ++ D) B
+    ∙ ap (λ zs. take at A ++ zs) (append_assoc ys D B)
+    ∙ ap₂ (λ zs ws. zs ++ (ys ++ ws)) (take-take at next xs (omega arith)) (sym (drop-append-le (at + length ys) A B fits) ∙ ap (drop (at + length ys)) (take-append-drop next xs))

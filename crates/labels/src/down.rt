@@ -154,66 +154,6 @@ fn clear<R: Rule, T: Tally>(rule: &R, tally: &T, vs: &mut [Node<R::State, T::Val
     }
 }
 
-// The `count` records from `at` on are cleared.
-fn clear_at<R: Rule, T: Tally>(
-    rule: &R,
-    tally: &T,
-    nodes: &mut [Node<R::State, T::Value>],
-    at: usize,
-    count: usize,
-)
-    requires { at + count ≤ length nodes.old }
-    ensures { (r : ARound) → nodes.new ≡ over at (map (cleared r (R.Rule.sense rule.now) (T.Tally.sense tally.now)) (part at count nodes.old)) nodes.old }
-{
-    let end = at + count;
-    clear(rule, tally, &mut nodes[at..end]);
-}
-
-fn node_at<S: Copy, V: Copy>(nodes: &[Node<S, V>], p: usize) -> Node<S, V>
-    requires { p < length nodes.now }
-    ensures { (d : ANode S V) → result ≡ slice_index_or nodes.now p d }
-{
-    nodes[p]
-}
-
-// Over all arcs of u, into the `count` records from `at` on.
-fn spread_into<R: Rule, T: Tally>(
-    round: &Round,
-    rule: &R,
-    tally: &T,
-    u: &Node<R::State, T::Value>,
-    nodes: &mut [Node<R::State, T::Value>],
-    at: usize,
-    count: usize,
-)
-    requires count_in_bounds { at + count ≤ length nodes.old }
-    requires at_in_bounds { at ≤ length nodes.old }
-    requires finish_bound { u.now.label.down.finish ≤ latest 15 }
-    ensures { nodes.new ≡ over at (spread round.now (R.Rule.sense rule.now) (T.Tally.sense tally.now) (part at count nodes.old) u.now) nodes.old }
-{
-    let end = at + count;
-    spread_node(round, rule, tally, u, &mut nodes[at..end]);
-}
-
-// The same of the node at p.
-fn spread_at<R: Rule, T: Tally>(
-    round: &Round,
-    rule: &R,
-    tally: &T,
-    nodes: &mut [Node<R::State, T::Value>],
-    p: usize,
-    at: usize,
-    count: usize,
-)
-    requires p_lt_at { p < at }
-    requires count_in_bounds { at + count ≤ length nodes.old }
-    requires finish_bound { (d : ANode (R.State) (T.Value)) → (get_or nodes.old p d).label.down.finish ≤ latest 15 }
-    ensures { (d : ANode (R.State) (T.Value)) → nodes.new ≡ over at (spread round.now (R.Rule.sense rule.now) (T.Tally.sense tally.now) (part at count nodes.old) (slice_index_or nodes.old p d)) nodes.old }
-{
-    let u = node_at(nodes, p);
-    spread_into(round, rule, tally, &u, nodes, at, count);
-}
-
 // Works out anew the labels of the `count` records from `at` on, from the `width` records at `from`.
 fn relabel_layer<R: Rule, T: Tally>(
     round: &Round,
@@ -230,9 +170,11 @@ fn relabel_layer<R: Rule, T: Tally>(
     requires all_early { AllByRecursion (Early (latest 15)) (part from width nodes.old) }
     ensures { nodes.new ≡ layerDone round.now (R.Rule.sense rule.now) (T.Tally.sense tally.now) width from count at nodes.old }
 {
-    clear_at(rule, tally, nodes, at, count);
+    let (before, rest) = nodes.split_at_mut(at);
+    let targets = &mut rest[..count];
+    clear(rule, tally, targets);
     for a in 0..width {
-        spread_at(round, rule, tally, nodes, from + a, at, count);
+        spread_node(round, rule, tally, &before[from + a], targets);
     }
 }
 
