@@ -6,7 +6,7 @@ ghost use Rattle.round.specs.declared.table.Round.{Round as ARound};
 ghost use Rattle.layers.specs.declared.node.Node.{Node as ANode};
 ghost use Rattle.layers.specs.Labels.{arrive, merge, first};
 ghost use Rattle.layers.specs.Records.{blank};
-ghost use Rattle.labels.specs.Passes.{part, over, Early, cleared, firstLayer, begun, layerDone, passDown, taken, landed, crossed, spread};
+ghost use Rattle.labels.specs.Passes.{part, over, Early, cleared, firstLayer, begun, layerDone, passDown, landed, crossed, spread};
 
 use crate::leg::leg_from;
 use layers::node::{Down, Node};
@@ -59,23 +59,7 @@ fn merge<R: Rule, T: Tally>(
     }
 }
 
-// One more arrival at what a node has gathered so far; nothing yet, while it has no last place.
-fn take_in<R: Rule, T: Tally>(
-    rule: &R,
-    tally: &T,
-    got: &Down<R::State, T::Value>,
-    x: &Down<R::State, T::Value>,
-) -> Down<R::State, T::Value>
-    ensures { (r : ARound) → result ≡ taken r (R.Rule.sense rule.now) (T.Tally.sense tally.now) got.now x.now }
-{
-    if got.lasts == 0 {
-        *x
-    } else {
-        merge(rule, tally, got, x)
-    }
-}
-
-// The node at place b takes in the arrival x.
+// The node at place b takes in the arrival x; it has gathered nothing yet while it has no last place.
 fn land<R: Rule, T: Tally>(
     rule: &R,
     tally: &T,
@@ -86,8 +70,12 @@ fn land<R: Rule, T: Tally>(
     requires { b < length vs.old }
     ensures { (r : ARound) → vs.new ≡ landed r (R.Rule.sense rule.now) (T.Tally.sense tally.now) vs.old b x.now }
 {
-    let v = vs[b];
-    let down = take_in(rule, tally, &v.label.down, x);
+    let got = vs[b].label.down;
+    let down = if got.lasts == 0 {
+        *x
+    } else {
+        merge(rule, tally, &got, x)
+    };
     vs[b].label.down = down;
 }
 
@@ -193,16 +181,7 @@ fn at_first<R: Rule, T: Tally>(rule: &R, tally: &T) -> Down<R::State, T::Value>
 }
 
 // The layer of the first node.
-fn begin<R: Rule, T: Tally>(rule: &R, tally: &T, us: &mut [Node<R::State, T::Value>])
-    requires { 0 < length us.old }
-    ensures { (r : ARound) → us.new ≡ firstLayer r (R.Rule.sense rule.now) (T.Tally.sense tally.now) us.old }
-{
-    clear(rule, tally, us);
-    let down = at_first(rule, tally);
-    us[0].label.down = down;
-}
-
-fn begin_at<R: Rule, T: Tally>(
+fn begin<R: Rule, T: Tally>(
     rule: &R,
     tally: &T,
     nodes: &mut [Node<R::State, T::Value>],
@@ -212,7 +191,8 @@ fn begin_at<R: Rule, T: Tally>(
     requires width_in_bounds { width ≤ length nodes.old }
     ensures { (r : ARound) → nodes.new ≡ begun r (R.Rule.sense rule.now) (T.Tally.sense tally.now) width nodes.old }
 {
-    begin(rule, tally, &mut nodes[0..width]);
+    clear(rule, tally, &mut nodes[..width]);
+    nodes[0].label.down = at_first(rule, tally);
 }
 
 // Works out anew all that is worked out from the first node.
@@ -229,7 +209,7 @@ pub(crate) fn label_down<R: Rule, T: Tally>(
     ensures { nodes.new ≡ passDown round.now (R.Rule.sense rule.now) (T.Tally.sense tally.now) width nodes.old }
 {
     let n = round.n;
-    begin_at(rule, tally, nodes, width);
+    begin(rule, tally, nodes, width);
     for i in 0..n - 1 {
         relabel_layer(
             round,

@@ -11,12 +11,11 @@ const NONE: Up = Up {
     someup: 0,
 };
 
-fn climb_from<S: Copy, V: Copy>(vs: &[Node<S, V>], b: usize, j: usize) -> Up
-    requires b_in_bounds { b < length vs.now }
-    requires j_bound { j < 17 }
-    ensures { (d : ANode S V) → result ≡ climb (get_or vs.now b d).label.up j }
+// What the arc by door j brings from its target.
+fn climb_from<S: Copy, V: Copy>(v: &Node<S, V>, j: usize) -> Up
+    requires { j < 17 }
+    ensures { result ≡ climb v.now.label.up j }
 {
-    let v = vs[b];
     let bit = 1u32 << j;
     Up {
         allup: v.label.up.allup | bit,
@@ -24,6 +23,7 @@ fn climb_from<S: Copy, V: Copy>(vs: &[Node<S, V>], b: usize, j: usize) -> Up
     }
 }
 
+// What two arcs have together.
 fn take_up(got: Option<Up>, x: Up) -> Option<Up>
     ensures { result ≡ takenUp got x }
 {
@@ -50,8 +50,7 @@ fn climb_by<S: Copy, V: Copy>(
     if t == 0 || t > vs.len() {
         return got;
     }
-    let x = climb_from(vs, t - 1, k + 1);
-    take_up(got, x)
+    take_up(got, climb_from(&vs[t - 1], k + 1))
 }
 
 fn climb_all<S: Copy, V: Copy>(vs: &[Node<S, V>], u: &Node<S, V>) -> Up
@@ -102,9 +101,7 @@ pub(crate) fn label_up<S: Copy, V: Copy>(nodes: &mut [Node<S, V>], n: usize, wid
 {
     clear_end(nodes, n * width);
     rise_layer(nodes, (n - 1) * width, width, n * width, 1);
-    let mut i = n - 1;
-    while i > 0 {
-        i -= 1;
+    for i in (0..n - 1).rev() {
         rise_layer(nodes, i * width, width, (i + 1) * width, width);
     }
 }
