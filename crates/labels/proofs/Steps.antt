@@ -1,6 +1,6 @@
-use Rattle.std.proofs.Common.{◌≡◌, ℕ, zero, suc, ◌+◌, ◌-◌, ◌<◌, ◌≤◌, List, [], ◌∷◌, ◌++◌, map, length, get_or, take, drop, set, Some, None, fold, Option, sym, refl, ap, ◌∙◌, ap₂, arith}
+use Rattle.std.proofs.Common.{◌≡◌, ℕ, zero, suc, ◌+◌, ◌-◌, ◌<◌, ◌≤◌, List, [], ◌∷◌, ◌++◌, map, length, get_or, take, drop, set, Some, None, fold, sym, refl, ap, ◌∙◌, arith}
 use Rattle.std.specs.List.{range_with_len, flat_map}
-use Rattle.std.proofs.lemmas.List.{drop-drop, drop_at, get_or_append_left, get_or-append_right, get_or-drop, length-map, length-append, length-drop, flat_map_more, drop_more, drop_all, set-append_left, set-append_right, length-set, length-take-le}
+use Rattle.std.proofs.lemmas.List.{drop-drop, drop_at, get_or_append_left, get_or-append_right, get_or-drop, length-map, length-append, length-drop, flat_map_more, set-append_left, set-append_right, length-set, length-take-le}
 use Rattle.std.specs.Option.{unwrap_or}
 use Rattle.layers.specs.declared.node.Node.{Node}
 use Rattle.layers.specs.declared.node.Up.{Up}

@@ -1,7 +1,7 @@
-use Rattle.std.proofs.Common.{◌≡◌, ℕ, suc, ◌+◌, ◌-◌, ◌*◌, ◌<◌, ◌≤◌, length, sym, refl, ap, ◌∙◌, subst, mul-le-mul_right, add-mul, one-mul, add-one, arith}
+use Rattle.std.proofs.Common.{◌≡◌, ◌+◌, ◌-◌, ◌*◌, sym, ap, ◌∙◌, subst, mul-le-mul_right, add-mul, one-mul, add-one, arith}
 use Rattle.std.specs.List.{AllByRecursion as All}
 use Rattle.round.specs.Clock.{latest}
-use Rattle.labels.specs.Passes.{part, Early, begun, layerDone, layersDone, passDown}
+use Rattle.labels.specs.Passes.{part, Early, layerDone, layersDone, passDown}
 use Rattle.labels.proofs.Earlies.{next-ends, layers-ready}
 use Rattle.labels.proofs.down.label_down.Goals as goal
 

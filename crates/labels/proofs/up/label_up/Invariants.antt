@@ -1,4 +1,4 @@
-use Rattle.std.proofs.Common.{◌≡◌, ◌<◌, ◌≤◌}
+use Rattle.std.proofs.Common.{◌≡◌, ◌<◌}
 use Rattle.labels.specs.Passes.{layersUp}
 use Rattle.labels.proofs.up.label_up.Given as goal
 
