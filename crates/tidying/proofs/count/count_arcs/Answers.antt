@@ -1,4 +1,4 @@
-use Rattle.std.proofs.Common.{length, sym, arith, rules}
+use Rattle.std.proofs.Common.{length, sym, rules}
 use Rattle.labels.proofs.Rooms.{room-facts, few-records}
 use Rattle.tidying.proofs.count.count_arcs.Goals as goal
 
