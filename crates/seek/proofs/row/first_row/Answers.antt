@@ -1,4 +1,4 @@
-use Rattle.std.proofs.Common.{◌≡◌, ℕ, suc, ◌+◌, ◌-◌, ◌*◌, ◌≤◌, List, take, drop, sym, ap, ◌∙◌, subst, mul-le-mul_right, suc-mul, zero-mul, arith}
+use Rattle.std.proofs.Common.{◌≡◌, ℕ, suc, ◌+◌, ◌-◌, ◌*◌, take, drop, ap, ◌∙◌, subst, zero-mul, arith}
 use Rattle.layers.specs.declared.node.Node.{Node}
 use Rattle.layers.specs.Records.{layers, drawn}
 use Rattle.seek.specs.declared.seen.Seen.{Seen}

@@ -3,7 +3,7 @@ use Rattle.std.proofs.lemmas.List.{length-set}
 use Rattle.layers.specs.declared.node.Node.{Node}
 use Rattle.layers.specs.Records.{used}
 use Rattle.seek.specs.declared.seen.Seen.{Seen}
-use Rattle.seek.specs.Rows.{seenIf, byFirst, allUsed, ofTarget}
+use Rattle.seek.specs.Rows.{seenIf, byFirst, allUsed}
 use Rattle.seek.proofs.Places.{row-start, row_more, row-cut, all_more}
 use Rattle.seek.proofs.row.row_of.Goals as goal
 
