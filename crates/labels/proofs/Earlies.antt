@@ -1,12 +1,11 @@
 -- No finish of layer i is above latest i.
-use Rattle.std.proofs.Common.{◌≡◌, ℕ, zero, suc, ◌+◌, ◌-◌, ◌*◌, ◌<◌, ◌≤◌, min, max, Bool, true, false, cond, eqb, List, [], ◌∷◌, ◌++◌, map, length, get_or, take, drop, fold, sym, refl, ap, ◌∙◌, subst, mul-le-mul_right, add-mul, one-mul, zero-mul, add-one, arith}
+use Rattle.std.proofs.Common.{◌≡◌, ℕ, zero, suc, ◌+◌, ◌*◌, ◌<◌, ◌≤◌, eqb, List, [], ◌∷◌, map, length, get_or, sym, refl, ap, ◌∙◌, subst, mul-le-mul_right, add-mul, one-mul, zero-mul, add-one, arith}
 use Rattle.std.proofs.lemmas.List.{length-map}
 use Rattle.std.specs.List.{range_with_len, flat_map, AllByRecursion as All}
-use Rattle.std.proofs.ByRecursion.{All-append, All-from_get_or, All-get_or}
+use Rattle.std.proofs.ByRecursion.{All-append, All-from_get_or}
 use Rattle.std.proofs.lemmas.List.FromFn.{get_or-map-range_with_len, length-map-range_with_len}
 use Rattle.std.proofs.lemmas.Bool.{cond_both}
 use Rattle.round.specs.declared.table.Round.{Round}
-use Rattle.round.specs.Clock.{finish}
 use Rattle.round.specs.Clock.{latest}
 use Rattle.round.proofs.Clocks.{clock-laws}
 use Rattle.rules.specs.Rules.{RuleSense}

@@ -1,5 +1,5 @@
 -- What the code's pass adds up at a record is what flows in over the arcs.
-use Rattle.std.proofs.Common.{◌≡◌, ℕ, zero, suc, ◌+◌, ◌<◌, ◌≤◌, Bool, true, false, cond, eqb, List, [], ◌∷◌, ◌++◌, map, length, get_or, Some, None, fold, Option, sym, refl, ap, ◌∙◌, subst, ap₂, zero-add, add-one, arith}
+use Rattle.std.proofs.Common.{◌≡◌, ℕ, zero, suc, ◌+◌, ◌<◌, ◌≤◌, Bool, true, false, cond, eqb, List, [], ◌∷◌, ◌++◌, length, get_or, Some, None, Option, refl, ap, ◌∙◌, ap₂, zero-add, add-one, arith}
 use Rattle.std.specs.List.{range_with_len, flat_map}
 use Rattle.std.proofs.lemmas.Bool.{cond-false, ne_eqb, eq-eqb, eqb-true}
 use Rattle.round.specs.declared.table.Round.{Round}
@@ -11,7 +11,7 @@ use Rattle.layers.specs.Flow.{table, Outs, Layer, node, put, insDoor, ins, gathe
 use Rattle.layers.specs.Labels.{arrive, merge, noUp}
 use Rattle.layers.specs.Records.{blank, orBlank, padded, place}
 use Rattle.layers.proofs.Flows.{table_at}
-use Rattle.labels.specs.Passes.{byDoor, fromNode, arrivals, gathered}
+use Rattle.labels.specs.Passes.{byDoor, fromNode, gathered}
 
 module _ {S V : Type 0} (r : Round) (R : RuleSense S) (T : TallySense V) where
   -- a label that is there has a last place

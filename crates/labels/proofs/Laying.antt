@@ -1,8 +1,8 @@
 -- The two passes over records with the arcs of a net leave the net laid out with its labels.
-use Rattle.std.proofs.Common.{◌≡◌, ℕ, zero, suc, ◌+◌, ◌-◌, ◌*◌, ◌<◌, ◌≤◌, Bool, true, false, cond, eqb, ◌⊎◌, List, [], ◌∷◌, ◌++◌, map, length, get_or, take, drop, Some, None, fold, Option, sym, refl, ap, ◌∙◌, subst, ap₂, inl, inr, ⊎_elim, append_assoc, suc-mul, suc-add, zero-add, zero-mul, add-one, arith, take-append-drop}
+use Rattle.std.proofs.Common.{◌≡◌, ℕ, zero, suc, ◌+◌, ◌-◌, ◌*◌, ◌<◌, ◌≤◌, Bool, false, cond, eqb, List, [], ◌∷◌, ◌++◌, map, length, get_or, take, drop, Some, None, fold, Option, sym, refl, ap, ◌∙◌, subst, ap₂, inl, ⊎_elim, append_assoc, suc-mul, suc-add, zero-add, zero-mul, add-one, arith, take-append-drop}
 use Rattle.std.specs.List.{range_with_len, flat_map}
 use Rattle.std.proofs.lemmas.List.FromFn.{get_or-map-range_with_len, length-map-range_with_len}
-use Rattle.std.proofs.lemmas.List.{same_lists, get_or-map, get_or_past, get_or_default, length-map, length-append, drop-drop, drop_at, take_at, length-take-le, length-drop}
+use Rattle.std.proofs.lemmas.List.{same_lists, get_or-map, get_or_past, length-map, drop-drop, drop_at, take_at, length-take-le, length-drop}
 use Rattle.std.proofs.lemmas.Bool.{cases_lt, ne_eqb}
 use Rattle.round.specs.declared.table.Round.{Round}
 use Rattle.rules.specs.Rules.{RuleSense}
@@ -11,7 +11,7 @@ use Rattle.layers.specs.declared.node.Arcs.{Arcs}
 use Rattle.layers.specs.declared.node.Node.{Node}
 use Rattle.layers.specs.declared.node.Down.{Down}
 use Rattle.layers.specs.declared.node.Up.{Up}
-use Rattle.layers.specs.Flow.{table, Outs, Layer, Net, node, target, width, ins, gather, next, read, consO, outs, up, Ranged, Led, Tied, Roomy, Even, Lawful}
+use Rattle.layers.specs.Flow.{table, Outs, Layer, Net, node, target, width, ins, gather, next, consO, outs, up, Ranged, Tied, Roomy, Even, Lawful}
 use Rattle.layers.specs.Labels.{arrive, merge, first, firsts, labelsNext, climb, mergeUp, noUp, ups}
 use Rattle.layers.specs.Records.{arcsRead, laidArcs, arcsAt, blank, orBlank, orNoUp, padded, place, laidFrom, laid}
 use Rattle.layers.proofs.Flows.{table_at, Among, ins-from}

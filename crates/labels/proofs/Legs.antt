@@ -1,4 +1,4 @@
-use Rattle.std.proofs.Common.{◌≡◌, ℕ, ◌+◌, ◌≤◌, Bool, true, false, not, ◌&&◌, eqb, Some, None, fold, Option, refl, arith}
+use Rattle.std.proofs.Common.{ℕ, ◌+◌, ◌≤◌, Bool, true, false, not, ◌&&◌, eqb, Some, None, Option, arith}
 use Rattle.std.specs.List.{range_with_len}
 use Rattle.round.specs.declared.table.Round.{Round}
 use Rattle.round.specs.Clock.{drive}

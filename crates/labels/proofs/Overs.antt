@@ -1,6 +1,6 @@
 -- A list with some of its places overwritten
-use Rattle.std.proofs.Common.{◌≡◌, ℕ, ◌+◌, ◌-◌, ◌<◌, ◌≤◌, List, [], ◌∷◌, ◌++◌, length, get_or, take, drop, sym, refl, ap, ◌∙◌, ap₂, arith}
-use Rattle.std.proofs.lemmas.List.{places, append_assoc, drop-take, take-append-le, take-take, length-take-le, length-drop, length-append, get_or-drop, get_or-take, get_or_append_left, drop-drop, take-append-drop, take_at, drop_at, drop-append-le}
+use Rattle.std.proofs.Common.{◌≡◌, ℕ, ◌+◌, ◌-◌, ◌<◌, ◌≤◌, List, ◌++◌, length, get_or, take, drop, sym, ap, ◌∙◌, ap₂, arith}
+use Rattle.std.proofs.lemmas.List.{append_assoc, drop-take, take-take, length-take-le, length-drop, length-append, get_or-drop, get_or-take, drop-drop, take-append-drop, take_at, drop_at, drop-append-le}
 use borrow.Rule.Slice.PartMut.{put_mid}
 use Rattle.labels.specs.Passes.{part, over}
 
@@ -22,30 +22,6 @@ pub part-over : {X : Type 0} (at : ℕ) (vs xs : List X) (count : ℕ) → lengt
 part-over at vs xs count e h =
     ap (take count) (drop_at (take at xs) (vs ++ drop (at + length vs) xs) at (length-take-le at xs h)) ∙ take_at vs (drop (at + length vs) xs) count e
 
-pub part-before-over : {X : Type 0} (from w at : ℕ) (vs xs : List X) → from + w ≤ at → at ≤ length xs → part from w (over at vs xs) ≡ part from w xs
-part-before-over from w at vs xs le fits =
-    let long : from + w ≤ length (take at xs) = simp (length-take-le at xs fits) (omega arith) in
-    sym (drop-take from w (over at vs xs))
-    ∙ ap (drop from) (take-append-le (from + w) (take at xs) (vs ++ drop (at + length vs) xs) long ∙ take-take (from + w) at xs le)
-    ∙ drop-take from w xs
-
-pub over-over : {X : Type 0} (at : ℕ) (vs ws xs : List X) → length vs ≡ length ws → at ≤ length xs → over at vs (over at ws xs) ≡ over at vs xs
-over-over at vs ws xs e h =
-    let A = take at xs in
-    let B = drop (at + length ws) xs in
-    let long : length A ≡ at = length-take-le at xs h in
-    let front : take at (over at ws xs) ≡ A = take_at A (ws ++ B) at long in
-    let back : drop (at + length vs) (over at ws xs) ≡ drop (at + length vs) xs =
-    sym (drop-drop (length vs) at (over at ws xs))
-    ∙ ap (drop (length vs)) (drop_at A (ws ++ B) at long)
-    ∙ drop_at ws B (length vs) (sym e)
-    ∙ ap (λ n. drop (at + n) xs) (sym e) in
-    ap₂ (λ a b. a ++ (vs ++ b)) front back
-
-pub getD-before-over : {X : Type 0} (at : ℕ) (vs xs : List X) (p : ℕ) (d : X) → p < at → at ≤ length xs → get_or (over at vs xs) p d ≡ get_or xs p d
-getD-before-over at vs xs p d lt h =
-    get_or_append_left (take at xs) (vs ++ drop (at + length vs) xs) d p (omega (arith, length-take-le at xs h)) ∙ get_or-take at xs p d lt
-
 pub length_over : {X : Type 0} (at : ℕ) (vs xs : List X) → at + length vs ≤ length xs → length (over at vs xs) ≡ length xs
 length_over at vs xs h = simp (length-append, length-drop) (omega (arith, length-take-le at xs (omega arith)))
 
@@ -57,3 +33,19 @@ put-over at count xs ys e =
 
 pub part_of : {X : Type 0} (at count : ℕ) (xs : List X) → take (at + count - at) (drop at xs) ≡ part at count xs
 part_of at count xs = let e : at + count - at ≡ count = omega arith in ap (λ n. take n (drop at xs)) e
+
+-- a part that lies in the front of a list
+pub part-front : {X : Type 0} (from w at : ℕ) (xs : List X) → from + w ≤ at → part from w (take at xs) ≡ part from w xs
+part-front from w at xs le = sym (drop-take from w (take at xs)) ∙ ap (drop from) (take-take (from + w) at xs le) ∙ drop-take from w xs
+
+-- what a write to a part of the front leaves, before the rest
+pub put-front : {X : Type 0} (at w next : ℕ) (xs ys : List X) → at + w ≤ next → next ≤ length xs → length ys ≡ w → put_mid at (at + w - at) (take next xs) ys ++ drop next xs ≡ over at ys xs
+put-front at w next xs ys le h e =
+    let A = take next xs in
+    let B = drop next xs in
+    let D = drop (at + length ys) A in
+    let fits : at + length ys ≤ length A = omega (arith, length-take-le next xs h) in
+    ap (λ zs. zs ++ B) (put-over at w A ys e)
+    ∙ append_assoc (take at A) (ys ++ D) B
+    ∙ ap (λ zs. take at A ++ zs) (append_assoc ys D B)
+    ∙ ap₂ (λ zs ws. zs ++ (ys ++ ws)) (take-take at next xs (omega arith)) (sym (drop-append-le (at + length ys) A B fits) ∙ ap (drop (at + length ys)) (take-append-drop next xs))

@@ -1,7 +1,7 @@
 -- Layers of w records, one after the other
-use Rattle.std.proofs.Common.{◌≡◌, ℕ, ◌+◌, ◌-◌, ◌*◌, ◌<◌, ◌≤◌, ◌≢◌, List, ◌++◌, length, take, drop, ap, ◌∙◌, append-nil, add-mul, one-mul, arith}
+use Rattle.std.proofs.Common.{◌≡◌, ℕ, ◌+◌, ◌-◌, ◌*◌, ◌<◌, ◌≢◌, List, ◌++◌, length, take, drop, ap, ◌∙◌, append-nil, add-mul, one-mul, arith}
 use borrow.Rule.Slice.PartMut.{put_mid}
-use Rattle.std.proofs.lemmas.List.{drop_at, drop_all, length-take-le, length-drop, length-append}
+use Rattle.std.proofs.lemmas.List.{drop_all, length-drop}
 
 pub one_more : (left w : ℕ) → left ≢ 0 → left * w ≡ (left - 1) * w + w
 one_more left w ne = let e : left ≡ left - 1 + 1 = omega arith in ap (λ n. n * w) e ∙ omega (arith, add-mul (left - 1) 1 w, one-mul w)
@@ -12,17 +12,7 @@ one-fits left w m ne le = omega (arith, one_more left w ne)
 pub rest-fits : (left w m : ℕ) → left ≢ 0 → left * w < m → (left - 1) * w < m - w
 rest-fits left w m ne le = omega (arith, one_more left w ne)
 
-pub front_fits : {X : Type 0} (w k : ℕ) (xs ys : List X) → w ≤ length xs → w ≤ length (put_mid w k xs ys)
-front_fits w k xs ys le = omega (arith, length-append (take w xs) (ys ++ drop k (drop w xs)), length-take-le w xs le)
-
 pub rest_put : {X : Type 0} (w : ℕ) (xs ys : List X) → put_mid w (length xs - w) xs ys ≡ take w xs ++ ys
 rest_put w xs ys =
     ap (λ zs. take w xs ++ (ys ++ zs)) (drop_all (length xs - w) (drop w xs) (omega (arith, length-drop w xs)))
     ∙ ap (λ zs. take w xs ++ zs) (append-nil ys)
-
--- what is written over all places from w on
-pub rest-written : {X : Type 0} (w : ℕ) (xs ys : List X) → w ≤ length xs → drop w (put_mid w (length xs - w) xs ys) ≡ ys
-rest-written w xs ys le =
-    drop_at (take w xs) _ w (length-take-le w xs le)
-    ∙ ap (λ zs. ys ++ zs) (drop_all (length xs - w) (drop w xs) (omega (arith, length-drop w xs)))
-    ∙ append-nil ys

@@ -3,7 +3,7 @@ use Rattle.std.proofs.Common.{◌≡◌, ℕ, ◌+◌, ◌*◌, ◌≤◌, List,
 use Rattle.round.specs.declared.table.Round.{Round}
 use Rattle.layers.specs.declared.node.Arcs.{Arcs}
 use Rattle.layers.specs.declared.node.Node.{Node}
-use Rattle.layers.specs.Flow.{Layer, Net, Roomy, Even}
+use Rattle.layers.specs.Flow.{Net, Roomy, Even}
 use Rattle.layers.specs.Records.{arcsRead, laidArcs}
 use Rattle.layers.specs.Calls.{arcs}
 use Rattle.layers.specs.Shape.{targetsOf, Shaped}

@@ -1,6 +1,7 @@
-use Rattle.std.proofs.Common.{◌≡◌, ℕ, zero, suc, ◌+◌, ◌-◌, ◌<◌, ◌≤◌, List, [], ◌∷◌, ◌++◌, map, length, get_or, take, drop, set, Some, None, fold, Option, sym, refl, ap, ◌∙◌, ap₂, arith}
+use Rattle.std.proofs.Common.{◌≡◌, ℕ, zero, suc, ◌+◌, ◌-◌, ◌<◌, ◌≤◌, List, [], ◌∷◌, ◌++◌, map, length, get_or, take, drop, set, Some, None, fold, sym, refl, ap, ◌∙◌, arith}
 use Rattle.std.specs.List.{range_with_len, flat_map}
-use Rattle.std.proofs.lemmas.List.{drop-drop, drop_at, get_or_append_left, get_or-append_right, get_or-drop, length-map, length-append, length-drop, flat_map_more, drop_more, drop_all, set-append_left, set-append_right, length-set, length-take-le}
+use Rattle.std.proofs.lemmas.List.{drop-drop, drop_at, get_or_append_left, get_or-append_right, get_or-drop, length-map, length-append, length-drop, flat_map_more, set-append_left, set-append_right, length-set, length-take-le}
+use Rattle.std.specs.Option.{unwrap_or}
 use Rattle.layers.specs.declared.node.Node.{Node}
 use Rattle.layers.specs.declared.node.Up.{Up}
 use Rattle.layers.specs.Labels.{climb, mergeUp, noUp}
@@ -25,14 +26,10 @@ taken-some : (a : Up) (xs : List Up) → fold takenUp (Some a) xs ≡ Some (fold
 taken-some a [] = refl
 taken-some a (x ∷ xs) = taken-some (mergeUp a x) xs
 
-abbrev pub or-no-up : Option Up → Up
-or-no-up None = noUp
-or-no-up (Some x) = x
-
-pub taken-gathered : (xs : List Up) → or-no-up (fold takenUp None xs) ≡ gatheredUp xs
+pub taken-gathered : (xs : List Up) → unwrap_or (fold takenUp None xs) noUp ≡ gatheredUp xs
 unfolding gatheredUp
 taken-gathered [] = refl
-taken-gathered (x ∷ xs) = ap or-no-up (taken-some x xs)
+taken-gathered (x ∷ xs) = ap (λ o. unwrap_or o noUp) (taken-some x xs)
 
 pub part-after-over : {X : Type 0} (at : ℕ) (ws xs : List X) (next m : ℕ) → at + length ws ≤ next → at ≤ length xs → part next m (over at ws xs) ≡ part next m xs
 part-after-over at ws xs next m le h =

@@ -1,6 +1,6 @@
 -- The passes over the flat list, layer by layer on what is left of it.
-use Rattle.std.proofs.Common.{◌≡◌, ℕ, zero, suc, ◌+◌, ◌-◌, ◌*◌, ◌<◌, ◌≤◌, List, [], ◌∷◌, ◌++◌, map, length, take, drop, sym, refl, ap, ◌∙◌, subst, ap₂, append_assoc, add_assoc, suc-mul, add-mul, one-mul, zero-add, zero-mul, add-one, arith, take-append-drop}
-use Rattle.std.proofs.lemmas.List.{drop-drop, drop_at, take_at, length-append, length-take-le, length-drop}
+use Rattle.std.proofs.Common.{◌≡◌, ℕ, zero, suc, ◌+◌, ◌-◌, ◌*◌, List, [], ◌∷◌, ◌++◌, map, length, take, drop, sym, ap, ◌∙◌, ap₂, append_assoc, add_assoc, suc-mul, one-mul, zero-add, zero-mul, arith, take-append-drop}
+use Rattle.std.proofs.lemmas.List.{drop-drop, drop_at}
 use Rattle.round.specs.declared.table.Round.{Round}
 use Rattle.rules.specs.Rules.{RuleSense}
 use Rattle.tallies.specs.Tallies.{TallySense}

@@ -6,7 +6,7 @@ ghost use Rattle.round.specs.declared.table.Round.{Round as ARound};
 ghost use Rattle.layers.specs.declared.node.Node.{Node as ANode};
 ghost use Rattle.layers.specs.Labels.{arrive, merge, first};
 ghost use Rattle.layers.specs.Records.{blank};
-ghost use Rattle.labels.specs.Passes.{part, over, Early, cleared, firstLayer, begun, layerDone, passDown, taken, landed, crossed, spread};
+ghost use Rattle.labels.specs.Passes.{part, over, Early, cleared, firstLayer, begun, layerDone, passDown, landed, crossed, spread};
 
 use crate::leg::leg_from;
 use layers::node::{Down, Node};
@@ -59,23 +59,7 @@ fn merge<R: Rule, T: Tally>(
     }
 }
 
-// One more arrival at what a node has gathered so far; nothing yet, while it has no last place.
-fn take_in<R: Rule, T: Tally>(
-    rule: &R,
-    tally: &T,
-    got: &Down<R::State, T::Value>,
-    x: &Down<R::State, T::Value>,
-) -> Down<R::State, T::Value>
-    ensures { (r : ARound) → result ≡ taken r (R.Rule.sense rule.now) (T.Tally.sense tally.now) got.now x.now }
-{
-    if got.lasts == 0 {
-        *x
-    } else {
-        merge(rule, tally, got, x)
-    }
-}
-
-// The node at place b takes in the arrival x.
+// The node at place b takes in the arrival x; it has gathered nothing yet while it has no last place.
 fn land<R: Rule, T: Tally>(
     rule: &R,
     tally: &T,
@@ -86,8 +70,12 @@ fn land<R: Rule, T: Tally>(
     requires { b < length vs.old }
     ensures { (r : ARound) → vs.new ≡ landed r (R.Rule.sense rule.now) (T.Tally.sense tally.now) vs.old b x.now }
 {
-    let v = vs[b];
-    let down = take_in(rule, tally, &v.label.down, x);
+    let got = vs[b].label.down;
+    let down = if got.lasts == 0 {
+        *x
+    } else {
+        merge(rule, tally, &got, x)
+    };
     vs[b].label.down = down;
 }
 
@@ -154,66 +142,6 @@ fn clear<R: Rule, T: Tally>(rule: &R, tally: &T, vs: &mut [Node<R::State, T::Val
     }
 }
 
-// The `count` records from `at` on are cleared.
-fn clear_at<R: Rule, T: Tally>(
-    rule: &R,
-    tally: &T,
-    nodes: &mut [Node<R::State, T::Value>],
-    at: usize,
-    count: usize,
-)
-    requires { at + count ≤ length nodes.old }
-    ensures { (r : ARound) → nodes.new ≡ over at (map (cleared r (R.Rule.sense rule.now) (T.Tally.sense tally.now)) (part at count nodes.old)) nodes.old }
-{
-    let end = at + count;
-    clear(rule, tally, &mut nodes[at..end]);
-}
-
-fn node_at<S: Copy, V: Copy>(nodes: &[Node<S, V>], p: usize) -> Node<S, V>
-    requires { p < length nodes.now }
-    ensures { (d : ANode S V) → result ≡ slice_index_or nodes.now p d }
-{
-    nodes[p]
-}
-
-// Over all arcs of u, into the `count` records from `at` on.
-fn spread_into<R: Rule, T: Tally>(
-    round: &Round,
-    rule: &R,
-    tally: &T,
-    u: &Node<R::State, T::Value>,
-    nodes: &mut [Node<R::State, T::Value>],
-    at: usize,
-    count: usize,
-)
-    requires count_in_bounds { at + count ≤ length nodes.old }
-    requires at_in_bounds { at ≤ length nodes.old }
-    requires finish_bound { u.now.label.down.finish ≤ latest 15 }
-    ensures { nodes.new ≡ over at (spread round.now (R.Rule.sense rule.now) (T.Tally.sense tally.now) (part at count nodes.old) u.now) nodes.old }
-{
-    let end = at + count;
-    spread_node(round, rule, tally, u, &mut nodes[at..end]);
-}
-
-// The same of the node at p.
-fn spread_at<R: Rule, T: Tally>(
-    round: &Round,
-    rule: &R,
-    tally: &T,
-    nodes: &mut [Node<R::State, T::Value>],
-    p: usize,
-    at: usize,
-    count: usize,
-)
-    requires p_lt_at { p < at }
-    requires count_in_bounds { at + count ≤ length nodes.old }
-    requires finish_bound { (d : ANode (R.State) (T.Value)) → (get_or nodes.old p d).label.down.finish ≤ latest 15 }
-    ensures { (d : ANode (R.State) (T.Value)) → nodes.new ≡ over at (spread round.now (R.Rule.sense rule.now) (T.Tally.sense tally.now) (part at count nodes.old) (slice_index_or nodes.old p d)) nodes.old }
-{
-    let u = node_at(nodes, p);
-    spread_into(round, rule, tally, &u, nodes, at, count);
-}
-
 // Works out anew the labels of the `count` records from `at` on, from the `width` records at `from`.
 fn relabel_layer<R: Rule, T: Tally>(
     round: &Round,
@@ -230,9 +158,11 @@ fn relabel_layer<R: Rule, T: Tally>(
     requires all_early { AllByRecursion (Early (latest 15)) (part from width nodes.old) }
     ensures { nodes.new ≡ layerDone round.now (R.Rule.sense rule.now) (T.Tally.sense tally.now) width from count at nodes.old }
 {
-    clear_at(rule, tally, nodes, at, count);
+    let (before, rest) = nodes.split_at_mut(at);
+    let targets = &mut rest[..count];
+    clear(rule, tally, targets);
     for a in 0..width {
-        spread_at(round, rule, tally, nodes, from + a, at, count);
+        spread_node(round, rule, tally, &before[from + a], targets);
     }
 }
 
@@ -251,16 +181,7 @@ fn at_first<R: Rule, T: Tally>(rule: &R, tally: &T) -> Down<R::State, T::Value>
 }
 
 // The layer of the first node.
-fn begin<R: Rule, T: Tally>(rule: &R, tally: &T, us: &mut [Node<R::State, T::Value>])
-    requires { 0 < length us.old }
-    ensures { (r : ARound) → us.new ≡ firstLayer r (R.Rule.sense rule.now) (T.Tally.sense tally.now) us.old }
-{
-    clear(rule, tally, us);
-    let down = at_first(rule, tally);
-    us[0].label.down = down;
-}
-
-fn begin_at<R: Rule, T: Tally>(
+fn begin<R: Rule, T: Tally>(
     rule: &R,
     tally: &T,
     nodes: &mut [Node<R::State, T::Value>],
@@ -270,7 +191,8 @@ fn begin_at<R: Rule, T: Tally>(
     requires width_in_bounds { width ≤ length nodes.old }
     ensures { (r : ARound) → nodes.new ≡ begun r (R.Rule.sense rule.now) (T.Tally.sense tally.now) width nodes.old }
 {
-    begin(rule, tally, &mut nodes[0..width]);
+    clear(rule, tally, &mut nodes[..width]);
+    nodes[0].label.down = at_first(rule, tally);
 }
 
 // Works out anew all that is worked out from the first node.
@@ -287,7 +209,7 @@ pub(crate) fn label_down<R: Rule, T: Tally>(
     ensures { nodes.new ≡ passDown round.now (R.Rule.sense rule.now) (T.Tally.sense tally.now) width nodes.old }
 {
     let n = round.n;
-    begin_at(rule, tally, nodes, width);
+    begin(rule, tally, nodes, width);
     for i in 0..n - 1 {
         relabel_layer(
             round,

@@ -6,6 +6,7 @@ ghost use Rattle.layers.specs.Calls.{relaid};
 ghost use Rattle.labels.specs.Passes.{fits, relabelled};
 
 use crate::down::label_down;
+use crate::room::has_room;
 use crate::up::label_up;
 use layers::node::Node;
 use round::table::Round;
@@ -23,9 +24,8 @@ pub fn relabel<R: Rule, T: Tally>(
     ensures passes { nodes.new ≡ (if fits round.now.n width (length nodes.old) then relabelled round.now (R.Rule.sense rule.now) (T.Tally.sense tally.now) width nodes.old else nodes.old) }
     ensures labelled { (Ls : Net) → 1 ≤ width → width ≤ 128 → round.now.n * width + 1 ≤ length nodes.old → Lawful round.now.n width Ls → arcsRead (take (round.now.n * width + 1) nodes.old) ≡ laidArcs width Ls → nodes.new ≡ relaid round.now (R.Rule.sense rule.now) (T.Tally.sense tally.now) width nodes.old Ls }
 {
-    if width < 1 || width > 128 || nodes.len() < round.n * width + 1 {
-        return;
+    if has_room(round, width, nodes.len()) {
+        label_down(round, rule, tally, nodes, width);
+        label_up(nodes, round.n, width);
     }
-    label_down(round, rule, tally, nodes, width);
-    label_up(nodes, round.n, width);
 }

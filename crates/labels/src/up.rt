@@ -11,12 +11,11 @@ const NONE: Up = Up {
     someup: 0,
 };
 
-fn climb_from<S: Copy, V: Copy>(vs: &[Node<S, V>], b: usize, j: usize) -> Up
-    requires b_in_bounds { b < length vs.now }
-    requires j_bound { j < 17 }
-    ensures { (d : ANode S V) → result ≡ climb (get_or vs.now b d).label.up j }
+// What the arc by door j brings from its target.
+fn climb_from<S: Copy, V: Copy>(v: &Node<S, V>, j: usize) -> Up
+    requires { j < 17 }
+    ensures { result ≡ climb v.now.label.up j }
 {
-    let v = vs[b];
     let bit = 1u32 << j;
     Up {
         allup: v.label.up.allup | bit,
@@ -24,6 +23,7 @@ fn climb_from<S: Copy, V: Copy>(vs: &[Node<S, V>], b: usize, j: usize) -> Up
     }
 }
 
+// What two arcs have together.
 fn take_up(got: Option<Up>, x: Up) -> Option<Up>
     ensures { result ≡ takenUp got x }
 {
@@ -50,8 +50,7 @@ fn climb_by<S: Copy, V: Copy>(
     if t == 0 || t > vs.len() {
         return got;
     }
-    let x = climb_from(vs, t - 1, k + 1);
-    take_up(got, x)
+    take_up(got, climb_from(&vs[t - 1], k + 1))
 }
 
 fn climb_all<S: Copy, V: Copy>(vs: &[Node<S, V>], u: &Node<S, V>) -> Up
@@ -61,44 +60,10 @@ fn climb_all<S: Copy, V: Copy>(vs: &[Node<S, V>], u: &Node<S, V>) -> Up
     for k in 0..16 {
         got = climb_by(vs, u, k, got);
     }
-    match got {
-        None => NONE,
-        Some(x) => x,
-    }
+    got.unwrap_or(NONE)
 }
 
-fn with_up<S: Copy, V: Copy>(u: Node<S, V>, up: Up) -> Node<S, V>
-    ensures { result ≡ withUp u up }
-{
-    let mut v = u;
-    v.label.up = up;
-    v
-}
-
-// The node at p with its upward sets, worked out from the `count` records from `next` on.
-fn risen_at<S: Copy, V: Copy>(
-    nodes: &[Node<S, V>],
-    p: usize,
-    next: usize,
-    count: usize,
-) -> Node<S, V>
-    requires p_in_bounds { p < length nodes.now }
-    requires count_in_bounds { next + count ≤ length nodes.now }
-    ensures { (d : ANode S V) → result ≡ risen (part next count nodes.now) (slice_index_or nodes.now p d) }
-{
-    let u = nodes[p];
-    let end = next + count;
-    let up = climb_all(&nodes[next..end], &u);
-    with_up(u, up)
-}
-
-fn put<S: Copy, V: Copy>(nodes: &mut [Node<S, V>], k: usize, node: Node<S, V>)
-    requires { k < length nodes.old }
-    ensures { nodes.new ≡ slice_set nodes.old k node }
-{
-    nodes[k] = node;
-}
-
+// The `width` records at `at` gather from the `count` records at `next`.
 fn rise_layer<S: Copy, V: Copy>(
     nodes: &mut [Node<S, V>],
     at: usize,
@@ -110,9 +75,11 @@ fn rise_layer<S: Copy, V: Copy>(
     requires count_in_bounds { next + count ≤ length nodes.old }
     ensures { nodes.new ≡ layerUp at width next count nodes.old }
 {
-    for a in 0..width {
-        let node = risen_at(nodes, at + a, next, count);
-        put(nodes, at + a, node);
+    let (before, after) = nodes.split_at_mut(next);
+    let targets = &after[..count];
+    for u in before[at..at + width].iter_mut() {
+        let up = climb_all(targets, u);
+        u.label.up = up;
     }
 }
 
@@ -134,9 +101,7 @@ pub(crate) fn label_up<S: Copy, V: Copy>(nodes: &mut [Node<S, V>], n: usize, wid
 {
     clear_end(nodes, n * width);
     rise_layer(nodes, (n - 1) * width, width, n * width, 1);
-    let mut i = n - 1;
-    while i > 0 {
-        i -= 1;
+    for i in (0..n - 1).rev() {
         rise_layer(nodes, i * width, width, (i + 1) * width, width);
     }
 }

@@ -1,5 +1,5 @@
 -- One more place of a row.
-use Rattle.std.proofs.Common.{◌≡◌, ℕ, zero, suc, ◌+◌, ◌<◌, Bool, true, false, ◌&&◌, ◌⊎◌, List, [], ◌∷◌, length, get_or, take, set, replicate, sym, refl, ap, ◌∙◌, subst, ⊎_elim, add-one, arith}
+use Rattle.std.proofs.Common.{◌≡◌, ℕ, zero, suc, ◌+◌, ◌<◌, Bool, true, false, ◌&&◌, List, [], ◌∷◌, length, get_or, take, set, replicate, sym, refl, ap, ◌∙◌, subst, ⊎_elim, add-one, arith}
 use mathlib.Core.Bool.{and-true, and_assoc}
 use Rattle.std.proofs.lemmas.List.{get_or-set_same, get_or-set_other}
 use Rattle.std.proofs.lemmas.Bool.{cases_order}
@@ -73,3 +73,17 @@ module _ {S V : Type 0} where
         → IsRow row (take a us) → IsRow (set row (a + 1) v) (take (a + 1) us)
     row_more us a d row v h long =
         subst (λ (m : ℕ). v ≡ seenIf (allUsed (take m us)) (f (get_or us a d)) → IsRow row (take a us) → IsRow (set row m v) (take m us)) (sym (add-one a)) (row_next us a d row v h (omega arith))
+
+    -- nothing is seen from a place that is not in use on
+    cut : (us : List (Node S V)) (a b : ℕ) (d : Node S V) → a < length us → used (get_or us a d) ≡ false → ofPlace f (take a us) b ≡ ofPlace f us b
+    unfolding ofPlace
+    cut [] a b d lt off = absurd (omega arith)
+    cut (u ∷ us) zero zero d lt off = ap (λ (x : Bool). seenIf x (f u)) (sym off)
+    cut (u ∷ us) zero (suc b) d lt off = ap (λ (x : Bool). seenIf x (ofPlace f us b)) (sym off)
+    cut (u ∷ us) (suc a) zero d lt off = refl
+    cut (u ∷ us) (suc a) (suc b) d lt off = ap (seenIf (used u)) (cut us a b d (omega arith) off)
+
+    pub row-cut : (us : List (Node S V)) (a : ℕ) (d : Node S V) (row : List Seen) → a < length us → used (get_or us a d) ≡ false → IsRow row (take a us) → IsRow row us
+    unfolding ofTarget
+    row-cut us a d row lt off g zero = g zero
+    row-cut us a d row lt off g (suc b) = g (suc b) ∙ cut us a b d lt off

@@ -12,25 +12,17 @@ pub fn count_of<S: Copy, V: Copy>(x: &Node<S, V>) -> usize
     ensures many { result ≡ arcsOf x.now }
     ensures few { result ≤ 16 }
 {
-    let mut n = 0;
-    for k in 0..16 {
-        if x.arcs.to[k] != 0 {
-            n += 1;
-        }
-    }
-    n
+    x.arcs.to.iter().filter(|t| **t != 0).count()
 }
 
-// How many arcs leave the first `end` records: no diagram has more than 2,049.
-fn count_first<S: Copy, V: Copy>(nodes: &[Node<S, V>], end: usize) -> usize
-    requires end_in_bounds { end ≤ length nodes.now }
-    requires end_bound { end ≤ 2049 }
-    ensures { result ≡ arcsWithin (take end nodes.now) }
+// How many arcs leave all these nodes: no diagram has more than 2,049.
+fn count_all<S: Copy, V: Copy>(nodes: &[Node<S, V>]) -> usize
+    requires { length nodes.now ≤ 2049 }
+    ensures { result ≡ arcsWithin nodes.now }
 {
     let mut n = 0;
-    for p in 0..end {
-        let x = nodes[p];
-        n += count_of(&x);
+    for x in nodes {
+        n += count_of(x);
     }
     n
 }
@@ -42,5 +34,5 @@ pub fn count_arcs<S: Copy, V: Copy>(round: &Round, nodes: &[Node<S, V>], width: 
     if !has_room(round, width, nodes.len()) {
         return 0;
     }
-    count_first(nodes, round.n * width)
+    count_all(&nodes[..round.n * width])
 }

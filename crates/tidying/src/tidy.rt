@@ -24,8 +24,8 @@ fn lives<S: Copy, V: Copy>(x: &Node<S, V>) -> bool
 fn mark<S: Copy, V: Copy>(marks: &mut [bool; 256], x: &Node<S, V>)
     ensures { marks.new ≡ marked marks.old (targets x.now) }
 {
-    for k in 0..16 {
-        marks[x.arcs.to[k] as usize] = true;
+    for t in x.arcs.to {
+        marks[t as usize] = true;
     }
 }
 
@@ -35,10 +35,9 @@ fn mark_next<S: Copy, V: Copy>(from: &[bool; 256], us: &[Node<S, V>]) -> [bool; 
     ensures { (z : ANode S V) → result ≡ reachedNext z from.now us.now }
 {
     let mut marks = [false; 256];
-    for a in 0..us.len() {
-        let x = us[a];
+    for (a, x) in us.iter().enumerate() {
         if from[a + 1] {
-            mark(&mut marks, &x);
+            mark(&mut marks, x);
         }
     }
     marks
@@ -48,29 +47,17 @@ fn mark_next<S: Copy, V: Copy>(from: &[bool; 256], us: &[Node<S, V>]) -> [bool; 
 fn renew<S: Copy, V: Copy>(x: &Node<S, V>, new: &[u8; 256]) -> Node<S, V>
     ensures { result ≡ withTargets x.now (map (λ t. slice_index new.now t) (targets x.now)) }
 {
-    let mut to = [0u8; 16];
-    for k in 0..16 {
-        to[k] = new[x.arcs.to[k] as usize];
+    let mut to = [0; 16];
+    for (k, t) in x.arcs.to.iter().enumerate() {
+        to[k] = new[*t as usize];
     }
-    let label = x.label;
     Node {
         arcs: Arcs { to },
-        label,
+        label: x.label,
     }
 }
 
-// The same of a node that is reached; one that is not goes blank.
-fn renew_if<S: Copy, V: Copy>(
-    on: bool,
-    x: &Node<S, V>,
-    new: &[u8; 256],
-    blank: Node<S, V>,
-) -> Node<S, V>
-    ensures { result ≡ renewed blank on new.now x.now }
-{
-    if on { renew(x, new) } else { blank }
-}
-
+// Renews the nodes that are reached; the others go blank.
 fn renew_layer<S: Copy, V: Copy>(
     us: &mut [Node<S, V>],
     from: &[bool; 256],
@@ -80,9 +67,8 @@ fn renew_layer<S: Copy, V: Copy>(
     requires { length us.old ≤ 128 }
     ensures { us.new ≡ renewals blank from.now new.now us.old }
 {
-    for a in 0..us.len() {
-        let x = us[a];
-        us[a] = renew_if(from[a + 1], &x, new, blank);
+    for (a, x) in us.iter_mut().enumerate() {
+        *x = if from[a + 1] { renew(x, new) } else { blank };
     }
 }
 
@@ -93,9 +79,8 @@ fn number_layer<S: Copy, V: Copy>(us: &[Node<S, V>]) -> [u8; 256]
 {
     let mut new = [0u8; 256];
     let mut count = 0;
-    for a in 0..us.len() {
-        let x = us[a];
-        if lives(&x) {
+    for (a, x) in us.iter().enumerate() {
+        if lives(x) {
             count += 1;
             new[a + 1] = count;
         }
@@ -153,32 +138,6 @@ fn tidy_layer<S: Copy, V: Copy>(
     numbers
 }
 
-// The marks of the second layer, out of those of the first.
-fn mark_second<S: Copy, V: Copy>(from: &[bool; 256], nodes: &[Node<S, V>], w: usize) -> [bool; 256]
-    requires w_bound { w ≤ 128 }
-    requires w_in_bounds { w ≤ length nodes.now }
-    ensures { (z : ANode S V) → result ≡ reachedNext z from.now (take w nodes.now) }
-{
-    let us = &nodes[0..w];
-    mark_next(from, us)
-}
-
-fn tidy_first<S: Copy, V: Copy>(
-    nodes: &mut [Node<S, V>],
-    w: usize,
-    from: &[bool; 256],
-    new: &[u8; 256],
-    blank: &Node<S, V>,
-) -> [u8; 256]
-    requires w_bound { w ≤ 128 }
-    requires w_in_bounds { w ≤ length nodes.old }
-    ensures records { nodes.new ≡ together blank.now (renewals blank.now from.now new.now (take w nodes.old)) ++ drop w nodes.old }
-    ensures numbered { result ≡ numbering (renewals blank.now from.now new.now (take w nodes.old)) }
-{
-    let us = &mut nodes[0..w];
-    tidy_layer(us, from, new, blank)
-}
-
 // Tidies `left` layers of `w` records, the marked nodes of the first being reached, and answers its new numbers.
 fn tidy_from<S: Copy, V: Copy>(
     nodes: &mut [Node<S, V>],
@@ -197,10 +156,10 @@ fn tidy_from<S: Copy, V: Copy>(
         end[1] = 1;
         return end;
     }
-    let next = mark_second(from, nodes, w);
-    let rest = &mut nodes[w..];
+    let (us, rest) = nodes.split_at_mut(w);
+    let next = mark_next(from, us);
     let new = tidy_from(rest, w, left - 1, &next, blank);
-    tidy_first(nodes, w, from, &new, blank)
+    tidy_layer(us, from, &new, blank)
 }
 
 // Tidies a diagram of n layers of w records and the end, in which the first node alone is reached at the start.

@@ -1,7 +1,6 @@
-use Rattle.std.proofs.Common.{◌≡◌, ◌≤◌, arith}
+use Rattle.std.proofs.Common.{◌≤◌, arith}
 use Rattle.std.proofs.lemmas.Nat.{one_shl}
-use Rattle.round.specs.Clock.{finish}
-use Rattle.layers.specs.Labels.{leg, arrive}
+use Rattle.layers.specs.Labels.{arrive}
 use Rattle.labels.proofs.Legs.{leg-most}
 use Rattle.labels.proofs.down.arrive.Goals as goal
 

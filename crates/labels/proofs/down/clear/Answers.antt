@@ -1,8 +1,7 @@
-use Rattle.std.proofs.Common.{◌≡◌, ℕ, ◌+◌, ◌<◌, ◌≤◌, List, ◌++◌, map, length, get_or, take, drop, set, sym, refl, ap, ◌∙◌, append-nil, arith}
+use Rattle.std.proofs.Common.{◌++◌, map, drop, set, sym, ap, ◌∙◌, append-nil, arith}
 use Rattle.std.proofs.lemmas.List.Edits.{map_over_more}
 use Rattle.std.proofs.lemmas.List.{take_all, drop_all}
 use Rattle.layers.specs.declared.node.Node.{Node}
-use Rattle.round.specs.declared.table.Round.{Round}
 use Rattle.labels.specs.Passes.{withDown, cleared}
 use Rattle.labels.proofs.down.clear.Goals as goal
 

@@ -1,24 +1,53 @@
-use Rattle.std.proofs.Common.{◌≡◌, ℕ, ◌+◌, Some, None, fold, sym, refl, ap, ◌∙◌, arith}
+use Rattle.std.proofs.Common.{◌≡◌, ℕ, ◌+◌, Bool, true, false, not, ◌&&◌, Some, None, fold, Option, sym, refl, ap, ◌∙◌, ap₂, arith, eq-eqb, ne_eqb, eqb}
 use Rattle.std.specs.List.{range_with_len}
-use Rattle.layers.specs.Labels.{legStep, or_zero, leg}
+use Rattle.std.specs.Option.{unwrap_or}
+use Rattle.doors.specs.Sets.{has}
+use Rattle.round.specs.declared.table.Round.{Round}
+use Rattle.round.specs.Clock.{drive}
+use Rattle.layers.specs.Labels.{nearest, nearestIf, legStep, or_zero, leg}
 use Rattle.labels.proofs.Folds.{folded-counting}
 use Rattle.labels.proofs.leg.leg_from.Goals as goal
+use Rattle.labels.proofs.leg.leg_from.Goals.{then-contains+then-i-j, else-contains, else-contains-via-then-contains+else-i-j, else-contains-via-else-contains}
+
+or_zero_is : (o : Option ℕ) → unwrap_or o 0 ≡ or_zero o
+or_zero_is None = refl
+or_zero_is (Some d) = refl
+
+module _ (r : Round) (m j : ℕ) (o : Option ℕ) (i : ℕ) where
+  came : has m i ≡ true → (i ≡ j → ⊥) → nearest o (drive r i j) ≡ legStep r m j o i
+  unfolding legStep
+  came h ne = ap₂ (λ (a b : Bool). nearestIf (a && not b) o (drive r i j)) (sym h) (sym (ne_eqb i j ne))
+
+  stayed : has m i ≡ true → i ≡ j → o ≡ legStep r m j o i
+  unfolding legStep
+  stayed h e = ap₂ (λ (a b : Bool). nearestIf (a && not b) o (drive r i j)) (sym h) (sym (eq-eqb i j e))
+
+  absent : has m i ≡ false → o ≡ legStep r m j o i
+  unfolding legStep
+  absent h = ap (λ (a : Bool). nearestIf (a && not (eqb i j)) o (drive r i j)) (sym h)
 
 pub loop-i-preserved : goal.loop-i-preserved
 loop-i-preserved c =
-    let f = legStep c.args.round.now c.args.lasts c.args.j in
-    c.look_from-best.ensures ∙ ap (λ o. f o c.loop-i.i) c.loop-i.invariant ∙ sym (folded-counting f None c.loop-i.i)
+    let r = c.args.round.now in
+    let m = c.args.lasts in
+    let j = c.args.j in
+    let o = c.loop-i.best in
+    let i = c.loop-i.i in
+    let more : c.if-contains.best ≡ legStep r m j o i =
+    elim c.if-contains.branch [
+      | then-contains+then-i-j w ↦ w.best-is ∙ w.nearer-best.ensures ∙ ap (nearest o) w.drive.ensures.value ∙ came r m j o i (sym c.contains.ensures ∙ w.if-contains.true) w.if-i-j.true
+      | else-contains w ↦
+          w.best-is
+          ∙ elim w.else-contains.branch [
+            | else-contains-via-then-contains+else-i-j v ↦ stayed r m j o i (sym c.contains.ensures ∙ v.if-contains.true) v.if-i-j.false
+            | else-contains-via-else-contains v ↦ absent r m j o i (sym c.contains.ensures ∙ v.if-contains.false)
+          ]
+    ] in
+    more ∙ ap (λ o. legStep r m j o i) c.loop-i.invariant ∙ sym (folded-counting (legStep r m j) None i)
 
-pub returns-in-None : goal.returns-in-None
+pub returns : goal.returns
 unfolding leg
-returns-in-None c =
+returns c =
     let f = legStep c.args.round.now c.args.lasts c.args.j in
     let all : c.loop-i.i ≡ c.args.round.now.n + 1 = omega arith in
-    ap or_zero (sym c.in-None.is ∙ c.loop-i.invariant ∙ ap (λ k. fold f None (range_with_len 0 k)) all)
-
-pub returns-in-Some : goal.returns-in-Some
-unfolding leg
-returns-in-Some c =
-    let f = legStep c.args.round.now c.args.lasts c.args.j in
-    let all : c.loop-i.i ≡ c.args.round.now.n + 1 = omega arith in
-    ap or_zero (sym c.in-Some.is ∙ c.loop-i.invariant ∙ ap (λ k. fold f None (range_with_len 0 k)) all)
+    c.unwrap_or.ensures ∙ or_zero_is c.loop-i.best ∙ ap or_zero (c.loop-i.invariant ∙ ap (λ k. fold f None (range_with_len 0 k)) all)

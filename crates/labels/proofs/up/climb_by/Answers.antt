@@ -1,6 +1,8 @@
-use Rattle.std.proofs.Common.{◌≡◌, ℕ, ◌+◌, ◌-◌, ◌<◌, ◌≤◌, List, [], ◌∷◌, map, length, get_or, take, drop, fold, sym, refl, ap, ◌∙◌, arith}
+use Rattle.std.proofs.Common.{◌+◌, ◌-◌, ◌<◌, length, get_or, fold, sym, ap, ◌∙◌, arith}
 use Rattle.std.proofs.lemmas.Bool.{eq-eqb, ne_eqb}
-use Rattle.std.proofs.lemmas.List.{drop_more, drop_all}
+use Rattle.std.proofs.lemmas.List.{drop_all, get_or_read}
+use Rattle.layers.specs.declared.node.Node.{Node}
+use Rattle.layers.specs.Labels.{climb}
 use Rattle.labels.specs.Passes.{upBy, takenUp}
 use Rattle.labels.proofs.Steps.{climb-one}
 use Rattle.labels.proofs.up.climb_by.Goals as goal
@@ -25,5 +27,7 @@ returns g c =
     let vs = c.args.vs.now in
     let j = c.args.k + 1 in
     let e = ne_eqb t 0 c.if-t-eq0.false in
-    let one = climb-one vs (t - 1) j c.climb_from-x.result (omega arith) c.climb_from-x.ensures in
+    let lt : t - 1 < length vs = omega arith in
+    let one = climb-one vs (t - 1) j c.climb_from.result lt
+    (λ d. c.climb_from.ensures ∙ ap (λ (v : Node g.row.S.Denot g.row.V.Denot). climb v.label.up j) (get_or_read vs (t - 1) c.index-vs-t.result lt c.index-vs-t.is d)) in
     rw e (c.take_up.ensures ∙ ap (fold takenUp c.args.got) (sym one))

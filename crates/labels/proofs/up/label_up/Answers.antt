@@ -1,4 +1,4 @@
-use Rattle.std.proofs.Common.{◌≡◌, ℕ, suc, ◌+◌, ◌-◌, ◌*◌, ◌<◌, ◌≤◌, sym, refl, ap, ◌∙◌, subst, mul-le-mul_right, add-mul, one-mul, add-one, arith}
+use Rattle.std.proofs.Common.{◌≡◌, suc, ◌+◌, ◌-◌, ◌*◌, ◌≤◌, ap, ◌∙◌, mul-le-mul_right, add-mul, one-mul, arith}
 use Rattle.labels.specs.Passes.{layerUp, layersUp, passUp}
 use Rattle.labels.proofs.up.label_up.Goals as goal
 

@@ -1,49 +1,47 @@
-use Rattle.std.proofs.Common.{◌≡◌, ℕ, ◌+◌, ◌-◌, ◌<◌, ◌≤◌, List, ◌++◌, map, length, get_or, take, drop, set, sym, refl, ap, ◌∙◌, subst, ap₂, append-nil, arith}
-use Rattle.std.proofs.lemmas.List.{length-map, length-append, length-drop, length-take-le, take_all, drop_all, get_or-append_right, get_or-drop, get_or_default}
+use Rattle.std.proofs.Common.{◌≡◌, ◌+◌, ◌-◌, ◌++◌, map, length, take, drop, set, sym, ap, ◌∙◌, ap₂, append-nil, arith}
+use borrow.Rule.Slice.PartMut.{put_mid}
+use Rattle.std.proofs.lemmas.List.{length-map, take_all, drop_all}
 use Rattle.std.proofs.lemmas.List.Edits.{map_over_more}
-use Rattle.labels.specs.Passes.{part, over, risen, layerUp}
-use Rattle.labels.proofs.Overs.{over_none, part-over, get_d_part, length_part}
-use Rattle.labels.proofs.Steps.{set-over, part-after-over, getD-in-over, length-mapped, getD-mapped}
+use Rattle.layers.specs.declared.node.Node.{Node}
+use Rattle.labels.specs.Passes.{part, withUp, upsOf, gatheredUp, risen, layerUp}
+use Rattle.labels.proofs.Overs.{part_of, part-front, put-front, length_part}
 use Rattle.labels.proofs.up.rise_layer.Goals as goal
 
-pub loop-a-init : goal.loop-a-init
-loop-a-init g c = sym (over_none c.args.at c.args.width c.args.nodes.now (omega arith))
-
-pub loop-a-preserved : goal.loop-a-preserved
-loop-a-preserved g c =
-    let E = c.args.nodes.now in
-    let ys = c.loop-a.nodes in
-    let at = c.args.at in
-    let w = c.args.width in
-    let next = c.args.next in
-    let n = c.args.count in
-    let a = c.loop-a.a in
-    let us = part at w E in
-    let f = risen (part next n E) in
-    let ws = map f (take a us) ++ drop a us in
-    let x = c.risen_at-node.result in
-    let z = get_or us a x in
-    let long : length us ≡ w = length_part at w E (omega arith) in
-    let long' : length ws ≡ length us = length-mapped f us a (omega arith) in
-    let vs : part next n ys ≡ part next n E = ap (part next n) c.loop-a.invariant ∙ part-after-over at ws E next n (omega arith) (omega arith) in
-    let here : get_or ys (at + a) z ≡ z =
-    ap (λ zs. get_or zs (at + a) z) c.loop-a.invariant ∙ getD-in-over at a ws E z (omega arith) (omega arith) ∙ getD-mapped f us a z (omega arith) ∙ get_or_default us a z x (omega arith) in
-    let new : x ≡ f z = c.risen_at-node.ensures z ∙ ap₂ (λ v u. risen v u) vs here in
-    let read : z ≡ get_or ws a z = sym (getD-mapped f us a z (omega arith) ∙ get_or_default us a z x (omega arith)) in
-    c.put.ensures
-    ∙ ap₂ (λ zs y. set zs (at + a) y) c.loop-a.invariant new
-    ∙ set-over at a ws E (f z) (omega arith) (omega arith)
-    ∙ ap (λ zs. over at zs E) (map_over_more f us ws a z (omega arith) refl read)
+pub loop-u-preserved : goal.loop-u-preserved
+unfolding risen
+loop-u-preserved g c =
+    let vs = take c.args.count c.split_at_mut-before.result.1.now in
+    let us = take (c.args.at + c.args.width - c.args.at) (drop c.args.at c.split_at_mut-before.result.0.now) in
+    let ys = c.loop-u.u-items in
+    let i = c.loop-u.u-index in
+    let x = c.u-item.result in
+    let up : c.climb_all-up.result ≡ gatheredUp (upsOf vs x) =
+    c.climb_all-up.ensures ∙ ap (λ (v : Node g.row.S.Denot g.row.V.Denot). gatheredUp (upsOf vs v)) (sym c.u-item.is) in
+    ap (set ys i) (ap₂ (λ v l. withUp v l) (sym c.u-item.is) up)
+    ∙ map_over_more (risen vs) us ys i x (omega arith) c.loop-u.invariant c.u-item.is
 
 pub returns : goal.returns
 unfolding layerUp
 returns g c =
-    let E = c.args.nodes.now in
+    let xs = c.args.nodes.now in
     let at = c.args.at in
     let w = c.args.width in
-    let us = part at w E in
-    let f = risen (part c.args.next c.args.count E) in
-    let a = c.loop-a.a in
-    let long : length us ≡ w = length_part at w E (omega arith) in
-    c.loop-a.invariant
-    ∙ ap (λ zs. over at zs E) (ap₂ (λ xs ys. map f xs ++ ys) (take_all a us (omega arith)) (drop_all a us (omega arith)) ∙ append-nil (map f us))
+    let next = c.args.next in
+    let n = c.args.count in
+    let before = c.split_at_mut-before.result.0.now in
+    let after = c.split_at_mut-before.result.1.now in
+    let front : before ≡ take next xs = cc in
+    let back : after ≡ drop next xs = cc in
+    let us = take (at + w - at) (drop at before) in
+    let i = c.loop-u.u-index in
+    let f = risen (take n after) in
+    let sources : us ≡ part at w xs = part_of at w before ∙ ap (part at w) front ∙ part-front at w next xs (omega arith) in
+    let gathered : c.loop-u.u-items ≡ map (risen (part next n xs)) (part at w xs) =
+    c.loop-u.invariant
+    ∙ ap₂ (λ ys zs. map f ys ++ zs) (take_all i us (omega arith)) (drop_all i us (omega arith))
+    ∙ append-nil (map f us)
+    ∙ ap₂ (λ vs ys. map (risen (take n vs)) ys) back sources in
+    let long : length c.loop-u.u-items ≡ w = ap length gathered ∙ length-map (part at w xs) (risen (part next n xs)) ∙ length_part at w xs (omega arith) in
+    ap₂ (λ ys zs. put_mid at (at + w - at) ys c.loop-u.u-items ++ zs) front back
+    ∙ ap (λ ys. put_mid at (at + w - at) (take next xs) ys ++ drop next xs) gathered
+    ∙ put-front at w next xs (map (risen (part next n xs)) (part at w xs)) (omega arith) (omega arith) (sym (ap length gathered) ∙ long)

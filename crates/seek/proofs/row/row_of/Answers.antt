@@ -1,15 +1,15 @@
-use Rattle.std.proofs.Common.{◌≡◌, ℕ, ◌+◌, Bool, ◌&&◌, get_or, take, sym, refl, ap, ◌∙◌, ap₂, add-one, arith}
-use Rattle.std.proofs.lemmas.List.{length-set, take_all}
+use Rattle.std.proofs.Common.{◌≡◌, ◌+◌, Bool, true, false, not, ◌&&◌, get_or, take, sym, refl, ap, ◌∙◌, add-one, arith, ne_eqb, eq-eqb}
+use Rattle.std.proofs.lemmas.List.{length-set}
 use Rattle.layers.specs.declared.node.Node.{Node}
 use Rattle.layers.specs.Records.{used}
 use Rattle.seek.specs.declared.seen.Seen.{Seen}
-use Rattle.seek.specs.Rows.{seenIf, byFirst, allUsed, ofTarget}
-use Rattle.seek.proofs.Places.{row-start, row_more, all_more}
+use Rattle.seek.specs.Rows.{seenIf, byFirst, allUsed}
+use Rattle.seek.proofs.Places.{row-start, row_more, row-cut, all_more}
 use Rattle.seek.proofs.row.row_of.Goals as goal
 
 pub loop-a-init : goal.loop-a-init
 unfolding allUsed
-loop-a-init g c = (refl, refl, row-start (λ u. byFirst c.args.i c.args.j c.args.below.now u c.args.n) 256)
+loop-a-init g c = record { long = refl; stand = refl; seen = row-start (λ u. byFirst c.args.i c.args.j c.args.below.now u c.args.n) 256 }
 
 pub loop-a-preserved : goal.loop-a-preserved
 loop-a-preserved g c =
@@ -20,16 +20,23 @@ loop-a-preserved g c =
     let inv = c.loop-a.invariant in
     let u = c.index-us-a.result in
     let is : u ≡ get_or us a u = c.index-us-a.is in
-    let live : c.goes_on-live.result ≡ allUsed (take (a + 1) us) =
-    c.goes_on-live.ensures
-    ∙ ap₂ (λ (b : Bool) (x : Node g.row.S.Denot g.row.V.Denot). b && used x) inv.1 is
-    ∙ sym (all_more us a u (omega arith))
-    ∙ ap (λ (m : ℕ). allUsed (take m us)) (sym (add-one a)) in
-    let v : c.seen_if.result ≡ seenIf (allUsed (take (a + 1) us)) (f (get_or us a u)) = c.seen_if.ensures ∙ ap₂ (λ (b : Bool) (x : Node g.row.S.Denot g.row.V.Denot). seenIf b (f x)) live is in
-    (length-set row (a + 1) c.seen_if.result ∙ inv.0, live, row_more f us a u row c.seen_if.result (omega arith) (omega (arith, inv.0)) v inv.2)
+    let on : used (get_or us a u) ≡ true = ap used (sym is) ∙ ap not (ne_eqb u.label.down.lasts 0 c.if-u-eq0.false) in
+    let stand : allUsed (take (a + 1) us) ≡ true =
+    ap (λ m. allUsed (take m us)) (add-one a) ∙ all_more us a u (omega arith) ∙ ap (λ (b : Bool). b && used (get_or us a u)) inv.stand ∙ on in
+    let v : c.by_first.result ≡ seenIf (allUsed (take (a + 1) us)) (f (get_or us a u)) =
+    c.by_first.ensures ∙ ap f is ∙ ap (λ (b : Bool). seenIf b (f (get_or us a u))) (sym stand) in
+    record {
+      long = length-set row (a + 1) c.by_first.result ∙ inv.long;
+      stand = stand;
+      seen = row_more f us a u row c.by_first.result (omega arith) (omega (arith, inv.long)) v inv.seen;
+    }
 
-pub returns : goal.returns
-returns g c =
+pub returns-then-u-eq0 : goal.returns-then-u-eq0
+returns-then-u-eq0 g c =
     let us = c.args.us.now in
+    let a = c.loop-a.a in
     let f : Node g.row.S.Denot g.row.V.Denot → Seen = λ u. byFirst c.args.i c.args.j c.args.below.now u c.args.n in
-    λ t. c.loop-a.invariant.2 t ∙ ap (λ ys. ofTarget f ys t) (take_all c.loop-a.a us (omega arith))
+    let u = c.index-us-a.result in
+    let is : u ≡ get_or us a u = c.index-us-a.is in
+    let off : used (get_or us a u) ≡ false = ap used (sym is) ∙ ap not (eq-eqb u.label.down.lasts 0 c.if-u-eq0.true) in
+    row-cut f us a u c.loop-a.row (omega arith) off c.loop-a.invariant.seen

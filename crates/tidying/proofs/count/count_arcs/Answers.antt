@@ -1,4 +1,4 @@
-use Rattle.std.proofs.Common.{length, sym, arith, rules}
+use Rattle.std.proofs.Common.{length, sym, rules}
 use Rattle.labels.proofs.Rooms.{room-facts, few-records}
 use Rattle.tidying.proofs.count.count_arcs.Goals as goal
 
@@ -8,11 +8,13 @@ overflow_mul-round g c =
     let h = few-records c.args.round.now.n c.args.width c.args.round.now.most f.high in
     search rules
 
-pub count_first-requires : goal.count_first-requires
-count_first-requires g c =
+pub slice_bounds-count_all-end : goal.slice_bounds-count_all-end
+slice_bounds-count_all-end g c =
+    let f = room-facts c.args.round.now.n c.args.width (length c.args.nodes.now) (sym c.if-not-has_room.ensures) in
+    search rules
+
+pub count_all-requires : goal.count_all-requires
+count_all-requires g c =
     let f = room-facts c.args.round.now.n c.args.width (length c.args.nodes.now) (sym c.if-not-has_room.ensures) in
     let h = few-records c.args.round.now.n c.args.width c.args.round.now.most f.high in
-    record {
-      end_in_bounds = omega (arith, f.enough);
-      end_bound = omega (arith, h);
-    }
+    search rules
