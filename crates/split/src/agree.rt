@@ -67,28 +67,6 @@ fn meet<R: Rule, V: Copy>(
     }
 }
 
-// The arc of u by the door k + 1, if it leads to node t.
-fn meet_door<R: Rule, V: Copy>(
-    round: &Round,
-    rule: &R,
-    got: Arrived<R::State, V>,
-    u: &Node<R::State, V>,
-    k: usize,
-    t: u8,
-) -> Arrived<R::State, V>
-    requires { k < 16 }
-    ensures { (s : TallySense V) → seen round.now (R.Rule.sense rule.now) s result ≡ fold (met round.now (R.Rule.sense rule.now) s) (seen round.now (R.Rule.sense rule.now) s got) (byDoor round.now (R.Rule.sense rule.now) s t u.now k) }
-{
-    if u.arcs.to[k] != t {
-        return got;
-    }
-    let y = Source {
-        label: u.label.down,
-        door: k + 1,
-    };
-    meet(round, rule, got, y)
-}
-
 // All arcs of u that lead to node t.
 fn meet_node<R: Rule, V: Copy>(
     round: &Round,
@@ -104,7 +82,13 @@ fn meet_node<R: Rule, V: Copy>(
     }
     let mut all = got;
     for k in 0..16 {
-        all = meet_door(round, rule, all, u, k, t);
+        if u.arcs.to[k] == t {
+            let y = Source {
+                label: u.label.down,
+                door: k + 1,
+            };
+            all = meet(round, rule, all, y);
+        }
     }
     all
 }

@@ -57,19 +57,17 @@ fn move_layer<S: Copy, V: Copy>(us: &mut [Node<S, V>], lo: u8, hi: u8)
     }
 }
 
-fn pick(s: u8, t: u8) -> u8
-    ensures { result ≡ pickT s t }
-{
-    if s == 0 { t } else { s }
-}
-
 // A node with the out-arcs of both.
 fn both<S: Copy, V: Copy>(x: &Node<S, V>, y: &Node<S, V>) -> Node<S, V>
     ensures { result ≡ joinedNode x.now y.now }
 {
     let mut to = [0u8; 16];
     for k in 0..16 {
-        to[k] = pick(x.arcs.to[k], y.arcs.to[k]);
+        to[k] = if x.arcs.to[k] == 0 {
+            y.arcs.to[k]
+        } else {
+            x.arcs.to[k]
+        };
     }
     Node {
         arcs: Arcs { to },
