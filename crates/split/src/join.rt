@@ -37,10 +37,7 @@ fn move_node<S: Copy, V: Copy>(x: &Node<S, V>, lo: u8, hi: u8) -> Node<S, V>
     requires lo_lt_hi { lo < hi }
     ensures { result ≡ movedNode (lo - 1) (hi - 1) x.now }
 {
-    let mut to = [0u8; 16];
-    for k in 0..16 {
-        to[k] = moved_to(lo, hi, x.arcs.to[k]);
-    }
+    let to = x.arcs.to.map(|t| moved_to(lo, hi, t));
     Node {
         arcs: Arcs { to },
         label: x.label,
