@@ -1,6 +1,6 @@
 -- Records that move down by one
 use Rattle.std.proofs.Common.{◌≡◌, ℕ, ◌+◌, ◌-◌, ◌<◌, ◌≤◌, List, [], ◌∷◌, ◌++◌, length, get_or, take, drop, set, sym, ap, ◌∙◌, append_assoc, add-one, arith}
-use Rattle.std.proofs.lemmas.List.{places, take-append-drop, drop_more, set_at, length-append, length-take-le, length-drop, take_more, get_or-drop, take_all, drop_all}
+use Rattle.std.proofs.lemmas.List.{drop_more, set_at, length-append, length-take-le, length-drop, take_all, drop_all}
 use Rattle.layers.specs.Flow.{dropAt}
 use Rattle.split.proofs.Joins.{dropped}
 

@@ -1,8 +1,7 @@
 -- The records of a layer that are in use
-use Rattle.std.proofs.Common.{Bool, true, false, refl, ◌≡◌, ℕ, suc, ◌+◌, ◌<◌, ◌≤◌, cond, not, eqb, List, [], ◌∷◌, length, get_or, take, drop, sym, ap, ◌∙◌, arith}
+use Rattle.std.proofs.Common.{Bool, true, false, refl, ◌≡◌, ℕ, ◌+◌, ◌≤◌, cond, not, eqb, List, [], ◌∷◌, length, take, drop, arith}
 use Rattle.std.specs.List.{prefix_len}
 use Rattle.std.proofs.lemmas.List.{length-take}
-use Rattle.std.proofs.lemmas.Bool.{eq-eqb, ne_eqb}
 use Rattle.layers.specs.declared.node.Node.{Node}
 use Rattle.layers.specs.Records.{standing}
 use Rattle.layers.proofs.Shaped.{standing-short}

@@ -11,5 +11,5 @@ returns g c =
     let x = c.args.x.now in
     let f = movedTo (c.args.lo - 1) (c.args.hi - 1) in
     let made = c.map-to.ensures.items in
-    let each : (k : ℕ) → k < 16 → get_or c.map-to.result k 0 ≡ byDoor f x k = λ k lt. let h = (made.at k 0 0 lt).1.1 in search rules in
+    let each : (k : ℕ) → k < 16 → get_or c.map-to.result k 0 ≡ byDoor f x k = λ k lt. let h = (made.at k 0 0 lt).2 in search rules in
     ap (withTargets x) (fill_by_all (byDoor f x) c.map-to.result 16 0 made.long each) ∙ redirect-made f x
