@@ -1,7 +1,7 @@
 -- Cutting on the flat list comes to cutting the net; what it is to be timely.
-use Rattle.std.proofs.Common.{◌≡◌, ℕ, zero, suc, ◌+◌, ◌*◌, ◌<◌, ◌≤◌, Bool, true, false, cond, ◌&&◌, leb, List, [], ◌∷◌, ◌++◌, map, length, get_or, take, drop, None, sym, refl, ap, ◌∙◌, subst, suc-mul, suc-add, zero-add, zero-mul, arith}
+use Rattle.std.proofs.Common.{◌≡◌, ℕ, zero, suc, ◌+◌, ◌*◌, ◌≤◌, Bool, true, cond, ◌&&◌, leb, List, [], ◌∷◌, ◌++◌, map, length, get_or, take, drop, None, sym, refl, ap, ◌∙◌, subst, suc-mul, zero-mul, arith}
 use Rattle.std.specs.List.{AllByRecursion as All, list_all}
-use Rattle.std.proofs.lemmas.List.{append_assoc, take_more, drop-drop, length-map, length-append, length-take-le, length-drop, drop_at}
+use Rattle.std.proofs.lemmas.List.{append_assoc, drop-drop, length-map, length-append, length-take-le, length-drop, drop_at}
 use Rattle.std.proofs.lemmas.Bool.{and_parts, and_from, leb-true, le-leb}
 use Rattle.round.specs.declared.table.Round.{Round}
 use Rattle.round.specs.Clock.{latest}
