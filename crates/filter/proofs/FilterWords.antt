@@ -1,18 +1,18 @@
 -- On the records of a diagram the steps of sweep and cut come to their definitions.
-use Rattle.std.proofs.Common.{◌≡◌, ℕ, zero, suc, ◌+◌, ◌-◌, ◌*◌, ◌<◌, ◌≤◌, Bool, true, List, [], ◌∷◌, ◌++◌, length, get_or, take, drop, sym, refl, ap, ◌∙◌, subst, ap₂, arith}
+use Rattle.std.proofs.Common.{◌≡◌, ℕ, zero, suc, ◌+◌, ◌-◌, ◌*◌, ◌≤◌, true, List, [], ◌++◌, length, get_or, drop, sym, refl, ap, ◌∙◌, subst, ap₂, arith}
 use Rattle.std.proofs.lemmas.List.{drop-drop}
 use Rattle.round.specs.declared.table.Round.{Round}
 use Rattle.rules.specs.Rules.{RuleSense}
 use Rattle.tallies.specs.Tallies.{TallySense}
 use Rattle.layers.specs.declared.node.Node.{Node}
-use Rattle.layers.specs.Flow.{Net, node, target, width, countArcs, tidied}
-use Rattle.layers.specs.Records.{standing, layers, arcsIn, drawn, arcsAt, laid}
-use Rattle.layers.specs.Calls.{nodes, arcs, layer, thinned, trimmed, relaid, fewer, swept, sweepAnswer, cut_at, cutAnswer}
+use Rattle.layers.specs.Flow.{Net, node, target, countArcs, tidied}
+use Rattle.layers.specs.Records.{layers, drawn, laid}
+use Rattle.layers.specs.Calls.{nodes, arcs, thinned, trimmed, relaid, fewer, swept, cut_at}
 use Rattle.layers.specs.Shape.{Shaped, Timely}
 use Rattle.layers.proofs.Proper.{Proper, even-of, lawful}
-use Rattle.layers.proofs.Shaped.{shaped-proper, relaid-shaped, ended-one, arcs-relaid, tied-ranged, RangedAll, Less, thinned-less, trimmed-less, proper-less}
+use Rattle.layers.proofs.Shaped.{shaped-proper, relaid-shaped, ended-one, tied-ranged, RangedAll, Less, thinned-less, trimmed-less, proper-less}
 use Rattle.layers.proofs.Timely.{relaid-timely}
-use Rattle.labels.specs.Passes.{fits, blankNode, relabelled}
+use Rattle.labels.specs.Passes.{fits, blankNode}
 use Rattle.labels.proofs.Laying.{Arranged, Good, relabelled-lawful}
 use Rattle.labels.proofs.Rooms.{room-facts}
 use Rattle.labels.proofs.Shaped_arranged.{shaped-arranged, good-net}

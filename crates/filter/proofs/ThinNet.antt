@@ -1,5 +1,5 @@
 -- Taking out arcs on the flat list comes to taking them out of the net.
-use Rattle.std.proofs.Common.{◌≡◌, ℕ, zero, suc, ◌+◌, ◌-◌, ◌*◌, ◌<◌, ◌≤◌, Bool, true, false, cond, not, List, [], ◌∷◌, ◌++◌, map, length, get_or, take, drop, Some, None, Option, sym, refl, ap, ◌∙◌, subst, ap₂, ⊎_elim, suc-mul, zero-mul, arith}
+use Rattle.std.proofs.Common.{◌≡◌, ℕ, zero, suc, ◌+◌, ◌-◌, ◌*◌, ◌<◌, ◌≤◌, cond, List, [], ◌++◌, map, length, get_or, take, drop, Some, None, Option, sym, refl, ap, ◌∙◌, subst, ap₂, suc-mul, arith}
 use Rattle.std.proofs.lemmas.List.{get_or-map, length-map, take_at, drop_at, drop-drop, length-append, length-drop, length-take-le}
 use Rattle.round.specs.declared.table.Round.{Round}
 use Rattle.rules.specs.Rules.{RuleSense}
@@ -7,10 +7,10 @@ use Rattle.tallies.specs.Tallies.{TallySense}
 use Rattle.layers.specs.declared.node.Down.{Down}
 use Rattle.layers.specs.declared.node.Node.{Node}
 use Rattle.layers.specs.declared.node.Up.{Up}
-use Rattle.layers.specs.Flow.{table, Layer, Net, node, target, width, redirect, Ranged}
+use Rattle.layers.specs.Flow.{table, Layer, node, target, width, redirect}
 use Rattle.layers.specs.Labels.{barred, dear}
 use Rattle.layers.specs.Records.{standing, layers, arcsIn, downsIn, upsIn, drawn, arcsAt}
-use Rattle.layers.specs.Calls.{thinned, trimmed}
+use Rattle.layers.specs.Calls.{thinned}
 use Rattle.layers.proofs.Shaped.{standing-at, standing-short, RangedAll}
 use Rattle.labels.specs.Passes.{part}
 use Rattle.labels.proofs.Laying.{Arranged, arcsOf}

@@ -1,7 +1,7 @@
 -- Cutting on the flat list comes to cutting the net; what it is to be timely.
-use Rattle.std.proofs.Common.{◌≡◌, ℕ, zero, suc, ◌+◌, ◌*◌, ◌<◌, ◌≤◌, Bool, true, false, cond, ◌&&◌, leb, List, [], ◌∷◌, ◌++◌, map, length, get_or, take, drop, None, sym, refl, ap, ◌∙◌, subst, suc-mul, suc-add, zero-add, zero-mul, arith}
-use Rattle.std.specs.List.{AllByRecursion as All}
-use Rattle.std.proofs.lemmas.List.{append_assoc, take_more, drop-drop, length-map, length-append, length-take-le, length-drop, drop_at}
+use Rattle.std.proofs.Common.{◌≡◌, ℕ, zero, suc, ◌+◌, ◌*◌, ◌≤◌, Bool, true, cond, ◌&&◌, leb, List, [], ◌∷◌, ◌++◌, map, length, get_or, take, drop, None, sym, refl, ap, ◌∙◌, subst, suc-mul, zero-mul, arith}
+use Rattle.std.specs.List.{AllByRecursion as All, list_all}
+use Rattle.std.proofs.lemmas.List.{append_assoc, drop-drop, length-map, length-append, length-take-le, length-drop, drop_at}
 use Rattle.std.proofs.lemmas.Bool.{and_parts, and_from, leb-true, le-leb}
 use Rattle.round.specs.declared.table.Round.{Round}
 use Rattle.round.specs.Clock.{latest}
@@ -19,23 +19,10 @@ use Rattle.filter.specs.Trimmed.{trimmedNode, trimmedAll}
 use Rattle.filter.proofs.ThinNet.{trim-row, front-row, row-short}
 
 -- ---- timely
-and-swap : (a b : Bool) → (a && (b && true)) ≡ (a && b)
-and-swap true true = refl
-and-swap true false = refl
-and-swap false b = refl
-
-and_assoc : (a b c : Bool) → (a && (b && c)) ≡ ((a && b) && c)
-and_assoc true b c = refl
-and_assoc false b c = refl
-
 module _ {S V : Type 0} where
-  timely-append : (xs ys : List (Node S V)) → timely (xs ++ ys) ≡ (timely xs && timely ys)
-  timely-append [] ys = refl
-  timely-append (x ∷ xs) ys = ap (λ (b : Bool). leb x.label.down.finish (latest 15) && b) (timely-append xs ys) ∙ and_assoc (leb x.label.down.finish (latest 15)) (timely xs) (timely ys)
-
-  pub timely-more : (xs : List (Node S V)) (p : ℕ) (d : Node S V) → p < length xs → timely (take (p + 1) xs) ≡ (timely (take p xs) && leb (get_or xs p d).label.down.finish (latest 15))
-  timely-more xs p d h =
-      ap timely (take_more xs p d h) ∙ timely-append (take p xs) (get_or xs p d ∷ []) ∙ and-swap (timely (take p xs)) (leb (get_or xs p d).label.down.finish (latest 15))
+  pub timely-each : (xs : List (Node S V)) → list_all (λ (x : Node S V). leb x.label.down.finish (latest 15)) xs ≡ timely xs
+  timely-each [] = refl
+  timely-each (x ∷ xs) = ap (λ (b : Bool). leb x.label.down.finish (latest 15) && b) (timely-each xs)
 
   pub timely-all : (xs : List (Node S V)) → timely xs ≡ true → All (Early (latest 15)) xs
   timely-all [] e = tt

@@ -1,6 +1,6 @@
 -- Sweep and cut as the code does them, on the flat list: arcs are taken out by the labels that stand, then the list is tidied and labelled anew.
 -- What this comes to on the records of a diagram is said in the words of the definitions of the calls.
-use Rattle.std.specs.Prelude.{◌≡◌, ℕ, ◌-◌, ◌*◌, Bool, true, ◌&&◌, List, [], ◌∷◌, length, take, ◌==◌, nat_le}
+use Rattle.std.specs.Prelude.{◌≡◌, ℕ, ◌*◌, Bool, true, ◌&&◌, List, [], ◌∷◌, length, take, ◌==◌, nat_le}
 use Rattle.round.specs.declared.table.Round.{Round}
 use Rattle.round.specs.Clock.{latest}
 use Rattle.rules.specs.Rules.{RuleSense}

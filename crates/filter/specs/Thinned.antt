@@ -8,7 +8,7 @@ use Rattle.tallies.specs.Tallies.{TallySense}
 use Rattle.layers.specs.declared.node.Node.{Node}
 use Rattle.layers.specs.Labels.{one, leg, barred}
 use Rattle.layers.specs.Records.{upsIn}
-use Rattle.labels.specs.Passes.{part, over}
+use Rattle.labels.specs.Passes.{part}
 use Rattle.layers.specs.Targets.{redirected}
 
 -- how many records follow a layer, with k layers of arcs after it: after the last there is the end alone
@@ -29,11 +29,6 @@ module _ {S V : Type 0} (r : Round) (rule : RuleSense S) (tally : TallySense V) 
   unfoldable pub thinnedNode : ℕ → List (Node S V) → Node S V → Node S V
   unfolding thinnedTo redirected
   thinnedNode i vs u = redirected (thinnedTo i vs u) u
-
-  -- layer i: the w records at `at`, with the m records at `next` after it
-  unfoldable pub thinnedLayer : ℕ → ℕ → ℕ → ℕ → ℕ → List (Node S V) → List (Node S V)
-  unfolding thinnedNode
-  thinnedLayer i at w next m xs = over at (map (thinnedNode i (part next m xs)) (part at w xs)) xs
 
   -- k layers from layer i on, w records to each, and the end
   unfoldable pub thinnedFrom : ℕ → ℕ → ℕ → List (Node S V) → List (Node S V)

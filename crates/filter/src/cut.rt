@@ -15,32 +15,18 @@ use tidying::count::count_arcs;
 // The latest finish after 15 doors: 9,999 + 15 * 1,998.
 const LATEST: u32 = 39_969;
 
-fn also(a: bool, b: bool) -> bool
-    ensures { result ≡ (a && b) }
-{
-    a && b
-}
-
 // Whether no finish of the first `end` records is above the latest: one that is could not be told to a tally.
 fn all_timely<S: Copy, V: Copy>(nodes: &[Node<S, V>], end: usize) -> bool
     requires { end ≤ length nodes.now }
     ensures { result ≡ timely (take end nodes.now) }
 {
-    let mut all = true;
-    for p in 0..end {
-        let x = nodes[p];
-        all = also(all, x.label.down.finish <= LATEST);
-    }
-    all
+    nodes[..end].iter().all(|x| x.label.down.finish <= LATEST)
 }
 
 fn may_cut<S: Copy, V: Copy>(round: &Round, nodes: &[Node<S, V>], width: usize) -> bool
     ensures { result ≡ (fits round.now.n width (length nodes.now) && timely (take (round.now.n * width) nodes.now)) }
 {
-    if !has_room(round, width, nodes.len()) {
-        return false;
-    }
-    all_timely(nodes, round.n * width)
+    has_room(round, width, nodes.len()) && all_timely(nodes, round.n * width)
 }
 
 // Takes out each arc whose arrival has a value above the ceiling, by the labels that stand, tidies and labels anew, and answers

@@ -1,36 +1,34 @@
 // Whether a sweep would take out no arc.
 ghost use Rattle.std.specs.Prelude.{◌≡◌, ◌+◌, ◌*◌, ◌<◌, ◌≤◌, false, map, length, take, if◌then◌else◌};
 ghost use Rattle.tallies.specs.Tallies.{TallySense};
-ghost use Rattle.labels.specs.Passes.{fits, part};
+ghost use Rattle.labels.specs.Passes.{fits};
 ghost use Rattle.tidying.specs.Counted.{arcsWithin};
 ghost use Rattle.filter.specs.Steps.{quietSteps, QuietDone};
 ghost use Rattle.filter.specs.Thinned.{thinnedNode, thinnedFrom};
 
-use crate::thin::{next_count, thin_at};
+use crate::thin::{next_count, thin_node};
 use labels::room::has_room;
 use layers::node::Node;
 use round::table::Round;
 use rules::rule::Rule;
 use tidying::count::{count_arcs, count_of};
 
-// How many arcs of layer i, the first w records, a sweep would leave, with m records after it.
+// How many arcs of layer i a sweep would leave, with the layer vs after it.
 fn kept_in<R: Rule, V: Copy>(
     round: &Round,
     rule: &R,
     i: usize,
-    nodes: &[Node<R::State, V>],
-    w: usize,
-    m: usize,
+    us: &[Node<R::State, V>],
+    vs: &[Node<R::State, V>],
 ) -> usize
     requires i_lt_n { i < round.now.n }
-    requires m_in_bounds { w + m ≤ length nodes.now }
-    requires w_bound { w ≤ 128 }
-    ensures many { (t : TallySense V) → result ≡ arcsWithin (map (thinnedNode round.now (R.Rule.sense rule.now) t i (part w m nodes.now)) (take w nodes.now)) }
-    ensures few { result ≤ 16 * w }
+    requires us_bound { length us.now ≤ 128 }
+    ensures many { (t : TallySense V) → result ≡ arcsWithin (map (thinnedNode round.now (R.Rule.sense rule.now) t i vs.now) us.now) }
+    ensures few { result ≤ 16 * length us.now }
 {
     let mut sum = 0;
-    for a in 0..w {
-        let node = thin_at(round, rule, i, nodes, a, w, m);
+    for u in us {
+        let node = thin_node(round, rule, i, vs, u);
         sum += count_of(&node);
     }
     sum
@@ -54,9 +52,9 @@ fn kept_from<R: Rule, V: Copy>(
     if left == 0 {
         return 0;
     }
-    let m = next_count(w, left);
-    let here = kept_in(round, rule, i, nodes, w, m);
-    let rest = &nodes[w..];
+    let m = next_count(w, left - 1);
+    let (us, rest) = nodes.split_at(w);
+    let here = kept_in(round, rule, i, us, &rest[..m]);
     let later = kept_from(round, rule, i + 1, rest, w, left - 1);
     here + later
 }

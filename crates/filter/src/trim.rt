@@ -8,29 +8,13 @@ ghost use Rattle.labels.specs.Passes.{Early};
 ghost use Rattle.layers.specs.Targets.{atDoor};
 ghost use Rattle.filter.specs.Trimmed.{trimmedTo, trimmedNode, trimmedAll};
 
-use crate::thin::unless;
 use labels::leg::leg_from;
 use layers::node::{Arcs, Down, Node};
 use round::table::Round;
 use tallies::tally::Tally;
 
-// The value of the arrival by door j. A finish that no label has could not be told to the tally, hence the bound.
-fn value_by<S: Copy, T: Tally>(
-    round: &Round,
-    tally: &T,
-    u: &Down<S, T::Value>,
-    j: usize,
-) -> T::Value
-    requires { u.now.finish ≤ latest 15 }
-    ensures { (q : RuleSense S) → result ≡ (arrive round.now q (T.Tally.sense tally.now) u.now j).value }
-{
-    let leg = leg_from(round, u.lasts, j);
-    let minute = round.finish(u.finish, leg, j);
-    let finish = minute as u32;
-    tally.step(u.value, j, leg, finish)
-}
-
-// Whether that value is above the ceiling.
+// Whether the arrival by door j has a value above the ceiling. A finish that no label has could not be told to the tally, hence the
+// bound.
 fn too_dear<S: Copy, T: Tally>(
     round: &Round,
     tally: &T,
@@ -41,7 +25,9 @@ fn too_dear<S: Copy, T: Tally>(
     requires { u.now.finish ≤ latest 15 }
     ensures { (q : RuleSense S) → result ≡ dear round.now q (T.Tally.sense tally.now) ceiling j (Some u.now) }
 {
-    let value = value_by(round, tally, u, j);
+    let leg = leg_from(round, u.lasts, j);
+    let finish = round.finish(u.finish, leg, j) as u32;
+    let value = tally.step(u.value, j, leg, finish);
     !tally.not_above(value, ceiling)
 }
 
@@ -61,8 +47,11 @@ fn trim_door<S: Copy, T: Tally>(
     if t == 0 {
         return 0;
     }
-    let gone = too_dear(round, tally, &u.label.down, k + 1, ceiling);
-    unless(gone, t)
+    if too_dear(round, tally, &u.label.down, k + 1, ceiling) {
+        0
+    } else {
+        t
+    }
 }
 
 fn trim_node<S: Copy, T: Tally>(
@@ -78,10 +67,9 @@ fn trim_node<S: Copy, T: Tally>(
     for k in 0..16 {
         to[k] = trim_door(round, tally, u, k, ceiling);
     }
-    let label = u.label;
     Node {
         arcs: Arcs { to },
-        label,
+        label: u.label,
     }
 }
 
@@ -94,9 +82,8 @@ fn trim_each<S: Copy, T: Tally>(
     requires { AllByRecursion (Early (latest 15)) us.old }
     ensures { (q : RuleSense S) → us.new ≡ map (trimmedNode round.now q (T.Tally.sense tally.now) ceiling) us.old }
 {
-    for p in 0..us.len() {
-        let u = us[p];
-        us[p] = trim_node(round, tally, &u, ceiling);
+    for u in us.iter_mut() {
+        *u = trim_node(round, tally, u, ceiling);
     }
 }
 
@@ -114,6 +101,5 @@ pub(crate) fn trim<S: Copy, T: Tally>(
     ensures { (q : RuleSense S) → nodes.new ≡ trimmedAll round.now q (T.Tally.sense tally.now) ceiling width nodes.old }
 {
     let end = round.n * width;
-    let us = &mut nodes[0..end];
-    trim_each(round, tally, us, ceiling);
+    trim_each(round, tally, &mut nodes[..end], ceiling);
 }

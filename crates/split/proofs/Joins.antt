@@ -1,7 +1,8 @@
 -- Two nodes' arcs, door by door, and the numbers after a join
-use Rattle.std.proofs.Common.{◌≡◌, ℕ, zero, suc, ◌-◌, ◌<◌, ◌≤◌, Bool, true, false, cond, not, ◌||◌, eqb, ltb, ◌≢◌, List, [], ◌∷◌, ◌++◌, map, get_or, take, drop, fold, sym, refl, ap, ◌∙◌, arith}
+use Rattle.std.proofs.Common.{◌≡◌, ℕ, zero, suc, ◌-◌, ◌<◌, ◌≤◌, Bool, cond, not, ◌&&◌, ◌||◌, eqb, ltb, ◌≢◌, List, [], ◌∷◌, ◌++◌, map, length, get_or, take, drop, sym, refl, ap, ◌∙◌, ap₂, arith}
 use lib.Dec.{eqb-suc-suc}
-use Rattle.std.specs.List.{range_with_len}
+use Rattle.std.specs.List.{range_with_len, list_any, zip}
+use Rattle.std.proofs.lemmas.List.FromFn.{fill_by_all}
 use Rattle.std.proofs.lemmas.Bool.{eq-eqb, ne_eqb, lt-ltb, le-ltb}
 use Rattle.layers.specs.declared.node.Node.{Node}
 use Rattle.layers.specs.Flow.{apart_t, clash, pickT, bothOut, moved, dropAt}
@@ -10,37 +11,30 @@ use Rattle.split.specs.Joined.{movedTo, joinedNode}
 use Rattle.labels.proofs.Redirects.{written}
 
 -- ---- one door
-pub apart_none : (s : ℕ) → false ≡ apart_t s 0
-apart_none zero = refl
-apart_none (suc s) = refl
+-- two arcs, to different nodes, as it is tested
+abbrev pub apartPair : ℕ × ℕ → Bool
+apartPair p = not (eqb p.0 0) && (not (eqb p.1 0) && not (eqb p.0 p.1))
 
-pub apart-both : (s t : ℕ) → s ≢ 0 → t ≢ 0 → not (eqb s t) ≡ apart_t s t
-apart-both zero t some some' = absurd (some refl)
-apart-both (suc s) zero some some' = absurd (some' refl)
-apart-both (suc s) (suc t) some some' = ap not (eqb-suc-suc s t)
+apart-tested : (s t : ℕ) → apartPair (s, t) ≡ apart_t s t
+apart-tested zero t = ap (λ a. not a && (not (eqb t 0) && not (eqb 0 t))) (eq-eqb 0 0 refl)
+apart-tested (suc s) zero = ap₂ (λ a b. not a && (not b && not a)) (ne_eqb (suc s) 0 (omega arith)) (eq-eqb 0 0 refl)
+apart-tested (suc s) (suc t) =
+    ap₂ (λ a b. not a && (not b && not (eqb (suc s) (suc t)))) (ne_eqb (suc s) 0 (omega arith)) (ne_eqb (suc t) 0 (omega arith)) ∙ ap not (eqb-suc-suc s t)
 
 pub pick_some : (s t : ℕ) → s ≢ 0 → s ≡ pickT s t
 pick_some zero t some = absurd (some refl)
 pick_some (suc s) t some = refl
 
 -- ---- all doors
-abbrev pub clashStep : {S V : Type 0} → Node S V → Node S V → Bool → ℕ → Bool
-clashStep x y b k = b || apart_t (get_or x.arcs.to k 0) (get_or y.arcs.to k 0)
-
-found : (f g : ℕ → ℕ) (ks : List ℕ) → fold (λ b k. b || apart_t (f k) (g k)) true ks ≡ true
-found f g [] = refl
-found f g (k ∷ ks) = found f g ks
-
-clash-next : (f g : ℕ → ℕ) (ks : List ℕ) (b : Bool) → (b || clash (map f ks) (map g ks)) ≡ fold (λ b k. b || apart_t (f k) (g k)) b ks
+pub clash-zipped : (ss ts : List ℕ) → list_any apartPair (zip ss ts) ≡ clash ss ts
 unfolding clash
-clash-next f g [] true = refl
-clash-next f g [] false = refl
-clash-next f g (k ∷ ks) true = sym (found f g ks)
-clash-next f g (k ∷ ks) false = clash-next f g ks (apart_t (f k) (g k))
+clash-zipped [] ts = refl
+clash-zipped (s ∷ ss) [] = refl
+clash-zipped (s ∷ ss) (t ∷ ts) = ap₂ ◌||◌ (apart-tested s t) (clash-zipped ss ts)
 
-pub clash-folded : {S V : Type 0} (x y : Node S V) → fold (clashStep x y) false (range_with_len 0 16) ≡ clash (targets x) (targets y)
+pub all-targets : {S V : Type 0} (x : Node S V) → length x.arcs.to ≡ 16 → x.arcs.to ≡ targets x
 unfolding targets
-clash-folded x y = sym (clash-next (λ k. get_or x.arcs.to k 0) (λ k. get_or y.arcs.to k 0) (range_with_len 0 16) false)
+all-targets x long = fill_by_all (λ k. get_or x.arcs.to k 0) x.arcs.to 16 0 long (λ k lt. refl)
 
 both-mapped : (f g : ℕ → ℕ) (ks : List ℕ) → map (λ k. pickT (f k) (g k)) ks ≡ bothOut (map f ks) (map g ks)
 unfolding bothOut

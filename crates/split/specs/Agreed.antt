@@ -1,33 +1,18 @@
 -- The arrivals at a node, looked at one after another: the first, and whether the others agree with it.
-use Rattle.std.specs.Prelude.{ℕ, Bool, ◌&&◌, Some, None, Option, ◌==◌, bit_or}
+use Rattle.std.specs.Prelude.{ℕ, Bool, ◌&&◌, Some, None, Option}
 use Rattle.round.specs.declared.table.Round.{Round}
 use Rattle.round.specs.Clock.{finish}
 use Rattle.rules.specs.Rules.{RuleSense}
 use Rattle.tallies.specs.Tallies.{TallySense}
 use Rattle.layers.specs.declared.node.Down.{Down}
 use Rattle.layers.specs.declared.node.Label.{Label}
-use Rattle.layers.specs.Labels.{one, leg, arrive, agree}
+use Rattle.layers.specs.Labels.{leg, arrive, agree}
 use Rattle.split.specs.declared.source.Source.{Source}
 use Rattle.split.specs.declared.source.Arrived.{Arrived}
 
--- ---- what two arcs bring agrees: in the states, in the last doors too, and so on up to all that has to agree
+-- when the work at an arrival would end
 abbrev pub finishOf : {S V : Type 0} → Round → Source S V → ℕ
 finishOf r s = finish r s.label.finish (leg r s.label.lasts s.door) s.door
-
-abbrev pub statesAgree : {S V : Type 0} → RuleSense S → Source S V → Source S V → Bool
-statesAgree rule x y = rule.same (rule.step x.label.state x.door) (rule.step y.label.state y.door)
-
-abbrev pub lastsAgree : {S V : Type 0} → RuleSense S → Source S V → Source S V → Bool
-lastsAgree rule x y = one x.door == one y.door && statesAgree rule x y
-
-abbrev pub finishesAgree : {S V : Type 0} → Round → RuleSense S → Source S V → Source S V → Bool
-finishesAgree r rule x y = finishOf r x == finishOf r y && lastsAgree rule x y
-
-abbrev pub somesAgree : {S V : Type 0} → Round → RuleSense S → Source S V → Source S V → Bool
-somesAgree r rule x y = bit_or x.label.some (one x.door) == bit_or y.label.some (one y.door) && finishesAgree r rule x y
-
-abbrev pub allsAgree : {S V : Type 0} → Round → RuleSense S → Source S V → Source S V → Bool
-allsAgree r rule x y = bit_or x.label.all (one x.door) == bit_or y.label.all (one y.door) && somesAgree r rule x y
 
 -- ---- arrivals
 module _ {S V : Type 0} (r : Round) (rule : RuleSense S) (tally : TallySense V) where

@@ -1,34 +1,21 @@
 // Whether the in-arcs of a node agree, and the test by which a node is parted.
-ghost use Rattle.std.specs.Prelude.{◌≡◌, ◌+◌, ◌-◌, ◌<◌, ◌≤◌, ◌&&◌, ◌++◌, length, take, drop, fold, bit_or};
+ghost use Rattle.std.specs.Prelude.{◌≡◌, ◌+◌, ◌-◌, ◌<◌, ◌≤◌, ◌++◌, length, take, drop, fold};
 ghost use Rattle.tallies.specs.Tallies.{TallySense};
 ghost use Rattle.layers.specs.declared.node.Node.{Node as ANode};
-ghost use Rattle.layers.specs.Labels.{one, agree, agreeing, headO};
+ghost use Rattle.layers.specs.Labels.{agree, agreeing, headO};
 ghost use Rattle.labels.specs.Passes.{part, byDoor, fromNode, arrivals};
-ghost use Rattle.split.specs.Agreed.{finishOf, statesAgree, lastsAgree, finishesAgree, somesAgree, allsAgree, brought, broughtFirst, seen, met, keptBy};
+ghost use Rattle.split.specs.Agreed.{finishOf, brought, broughtFirst, seen, met, keptBy};
 ghost use Rattle.split.specs.Parted.{partedSecond};
 
 use crate::part::{Test, part};
 use crate::source::{Arrived, Source};
-use doors::DoorSet;
 use labels::leg::leg_from;
 use layers::node::{Label, Node};
 use round::table::Round;
 use rules::rule::Rule;
 use tallies::tally::Tally;
 
-// What is compared of two arrivals, part by part; the finish in u64, since any finish may stand.
-fn door_bit<S: Copy, V: Copy>(x: &Source<S, V>) -> DoorSet
-    ensures { result ≡ one x.now.door }
-{
-    1u32 << x.door
-}
-
-fn with_door<S: Copy, V: Copy>(set: DoorSet, x: &Source<S, V>) -> DoorSet
-    ensures { result ≡ bit_or set (one x.now.door) }
-{
-    set | door_bit(x)
-}
-
+// When the work at the arrival would end, in u64 since any finish may stand.
 fn finish_of<S: Copy, V: Copy>(round: &Round, x: &Source<S, V>) -> u64
     ensures { result ≡ finishOf round.now x.now }
 {
@@ -36,58 +23,8 @@ fn finish_of<S: Copy, V: Copy>(round: &Round, x: &Source<S, V>) -> u64
     round.finish(x.label.finish, leg, x.door)
 }
 
-fn states_agree<R: Rule, V: Copy>(
-    rule: &R,
-    x: &Source<R::State, V>,
-    y: &Source<R::State, V>,
-) -> bool
-    ensures { result ≡ statesAgree (R.Rule.sense rule.now) x.now y.now }
-{
-    let s = rule.step(x.label.state, x.door);
-    let t = rule.step(y.label.state, y.door);
-    rule.same(s, t)
-}
-
-fn lasts_agree<R: Rule, V: Copy>(rule: &R, x: &Source<R::State, V>, y: &Source<R::State, V>) -> bool
-    ensures { result ≡ lastsAgree (R.Rule.sense rule.now) x.now y.now }
-{
-    door_bit(x) == door_bit(y) && states_agree(rule, x, y)
-}
-
-fn finishes_agree<R: Rule, V: Copy>(
-    round: &Round,
-    rule: &R,
-    x: &Source<R::State, V>,
-    y: &Source<R::State, V>,
-) -> bool
-    ensures { result ≡ finishesAgree round.now (R.Rule.sense rule.now) x.now y.now }
-{
-    finish_of(round, x) == finish_of(round, y) && lasts_agree(rule, x, y)
-}
-
-fn somes_agree<R: Rule, V: Copy>(
-    round: &Round,
-    rule: &R,
-    x: &Source<R::State, V>,
-    y: &Source<R::State, V>,
-) -> bool
-    ensures { result ≡ somesAgree round.now (R.Rule.sense rule.now) x.now y.now }
-{
-    with_door(x.label.some, x) == with_door(y.label.some, y) && finishes_agree(round, rule, x, y)
-}
-
-fn alls_agree<R: Rule, V: Copy>(
-    round: &Round,
-    rule: &R,
-    x: &Source<R::State, V>,
-    y: &Source<R::State, V>,
-) -> bool
-    ensures { result ≡ allsAgree round.now (R.Rule.sense rule.now) x.now y.now }
-{
-    with_door(x.label.all, x) == with_door(y.label.all, y) && somes_agree(round, rule, x, y)
-}
-
 // Whether two arrivals agree in all, some, finish, lasts and state.
+#[tactic(auto, unfolding(layers::specs::Labels::agree, layers::specs::Labels::arrive, crate::specs::Agreed::brought))]
 fn agrees<R: Rule, V: Copy>(
     round: &Round,
     rule: &R,
@@ -96,13 +33,16 @@ fn agrees<R: Rule, V: Copy>(
 ) -> bool
     ensures { (t : TallySense V) → result ≡ agree round.now (R.Rule.sense rule.now) t (brought round.now (R.Rule.sense rule.now) t x.now) (brought round.now (R.Rule.sense rule.now) t y.now) }
 {
-    alls_agree(round, rule, x, y)
-}
-
-pub(crate) fn also(a: bool, b: bool) -> bool
-    ensures { result ≡ (a && b) }
-{
-    a && b
+    let last = 1u32 << x.door;
+    let other = 1u32 << y.door;
+    (x.label.all | last) == (y.label.all | other)
+        && (x.label.some | last) == (y.label.some | other)
+        && finish_of(round, x) == finish_of(round, y)
+        && last == other
+        && rule.same(
+            rule.step(x.label.state, x.door),
+            rule.step(y.label.state, y.door),
+        )
 }
 
 // One more arrival.
@@ -120,36 +60,11 @@ fn meet<R: Rule, V: Copy>(
             first: Some(y),
             agreed,
         },
-        Some(x) => {
-            let same = agrees(round, rule, &x, &y);
-            Arrived {
-                first: Some(x),
-                agreed: also(agreed, same),
-            }
-        }
+        Some(x) => Arrived {
+            first: Some(x),
+            agreed: agreed && agrees(round, rule, &x, &y),
+        },
     }
-}
-
-// The arc of u by the door k + 1, if it leads to node t.
-fn meet_door<R: Rule, V: Copy>(
-    round: &Round,
-    rule: &R,
-    got: Arrived<R::State, V>,
-    u: &Node<R::State, V>,
-    k: usize,
-    t: u8,
-) -> Arrived<R::State, V>
-    requires { k < 16 }
-    ensures { (s : TallySense V) → seen round.now (R.Rule.sense rule.now) s result ≡ fold (met round.now (R.Rule.sense rule.now) s) (seen round.now (R.Rule.sense rule.now) s got) (byDoor round.now (R.Rule.sense rule.now) s t u.now k) }
-{
-    if u.arcs.to[k] != t {
-        return got;
-    }
-    let y = Source {
-        label: u.label.down,
-        door: k + 1,
-    };
-    meet(round, rule, got, y)
 }
 
 // All arcs of u that lead to node t.
@@ -167,7 +82,13 @@ fn meet_node<R: Rule, V: Copy>(
     }
     let mut all = got;
     for k in 0..16 {
-        all = meet_door(round, rule, all, u, k, t);
+        if u.arcs.to[k] == t {
+            let y = Source {
+                label: u.label.down,
+                door: k + 1,
+            };
+            all = meet(round, rule, all, y);
+        }
     }
     all
 }
@@ -186,9 +107,8 @@ fn look_at<R: Rule, V: Copy>(
         first: None,
         agreed: true,
     };
-    for a in 0..us.len() {
-        let u = us[a];
-        all = meet_node(round, rule, all, &u, t);
+    for u in us {
+        all = meet_node(round, rule, all, u, t);
     }
     all
 }

@@ -5,7 +5,7 @@ ghost use Rattle.labels.specs.Passes.{part};
 ghost use Rattle.split.specs.Steps.{countAt, agreedTo, agreedSteps};
 ghost use Rattle.split.specs.Words.{AgreedDone};
 
-use crate::agree::{also, look_in};
+use crate::agree::look_in;
 use crate::stand::count_in;
 use labels::room::has_room;
 use layers::node::Node;
@@ -28,7 +28,7 @@ fn layer_agreed<R: Rule, V: Copy>(
     let mut all = true;
     for b in 0..count {
         let got = look_in(round, rule, nodes, at, w, b as u8 + 1);
-        all = also(got.agreed, all);
+        all &= got.agreed;
     }
     all
 }
@@ -48,8 +48,7 @@ pub fn agreed<R: Rule, V: Copy>(
     }
     let mut all = true;
     for k in 0..round.n - 1 {
-        let here = layer_agreed(round, rule, nodes, k * width, width);
-        all = also(here, all);
+        all &= layer_agreed(round, rule, nodes, k * width, width);
     }
     all
 }

@@ -10,13 +10,13 @@ pub(crate) fn check_place(n: usize, width: usize, len: usize, layer: usize) -> R
     requires { n ≤ 16 }
     ensures { MatchResult result (λ _. placeCode n width len layer ≡ 0) (λ e. placeCode n width len layer ≡ number_of e) }
 {
-    if width < 1 || width > 128 {
+    if !(1..=128).contains(&width) {
         return Err(Refusal::Width);
     }
     if len < n * width + 1 {
         return Err(Refusal::Short);
     }
-    if layer < 1 || layer >= n {
+    if !(1..n).contains(&layer) {
         return Err(Refusal::NoLayer);
     }
     Ok(())
@@ -26,7 +26,7 @@ pub(crate) fn check_place(n: usize, width: usize, len: usize, layer: usize) -> R
 pub(crate) fn check_node(count: usize, node: usize) -> Result<(), Refusal>
     ensures { MatchResult result (λ _. nodeCode count node ≡ 0) (λ e. nodeCode count node ≡ number_of e) }
 {
-    if node < 1 || node > count {
+    if !(1..=count).contains(&node) {
         return Err(Refusal::NoNode);
     }
     Ok(())

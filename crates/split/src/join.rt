@@ -1,39 +1,20 @@
 // Joining two nodes of a layer.
-ghost use Rattle.std.specs.Prelude.{◌≡◌, ℕ, ◌+◌, ◌-◌, ◌<◌, ◌≤◌, ◌||◌, [], ◌∷◌, ◌++◌, map, length, take, drop};
-ghost use Rattle.layers.specs.Flow.{apart_t, clash, pickT, dropAt};
+ghost use Rattle.std.specs.Prelude.{◌≡◌, ℕ, ◌+◌, ◌-◌, ◌<◌, ◌≤◌, [], ◌∷◌, ◌++◌, map, length, take, drop};
+ghost use Rattle.layers.specs.Flow.{clash, pickT, dropAt};
 ghost use Rattle.split.specs.Joined.{movedTo, movedNode, joinedNode, joinedLayer, joinedSecond};
 ghost use Rattle.layers.specs.Targets.{targets, atDoor};
 
 use layers::node::{Arcs, Node};
 
-// Whether there are two arcs, to different nodes.
-fn apart(s: u8, t: u8) -> bool
-    ensures { result ≡ apart_t s t }
-{
-    if s == 0 {
-        return false;
-    }
-    if t == 0 {
-        return false;
-    }
-    s != t
-}
-
-fn either(a: bool, b: bool) -> bool
-    ensures { result ≡ (a || b) }
-{
-    a || b
-}
-
 // Whether both nodes have an arc by one door, to different nodes.
 pub(crate) fn clashes<S: Copy, V: Copy>(x: &Node<S, V>, y: &Node<S, V>) -> bool
     ensures { result ≡ clash (targets x.now) (targets y.now) }
 {
-    let mut found = false;
-    for k in 0..16 {
-        found = either(found, apart(x.arcs.to[k], y.arcs.to[k]));
-    }
-    found
+    x.arcs
+        .to
+        .iter()
+        .zip(y.arcs.to.iter())
+        .any(|(s, t)| *s != 0 && *t != 0 && *s != *t)
 }
 
 // The number that has taken the place of t: hi became lo, and what came after hi has moved down.
@@ -43,9 +24,12 @@ fn moved_to(lo: u8, hi: u8, t: u8) -> u8
     ensures { (j : ℕ) → result ≡ atDoor (movedTo (lo - 1) (hi - 1)) j t }
 {
     if t == hi {
-        return lo;
+        lo
+    } else if t > hi {
+        t - 1
+    } else {
+        t
     }
-    if hi < t { t - 1 } else { t }
 }
 
 fn move_node<S: Copy, V: Copy>(x: &Node<S, V>, lo: u8, hi: u8) -> Node<S, V>
@@ -53,14 +37,10 @@ fn move_node<S: Copy, V: Copy>(x: &Node<S, V>, lo: u8, hi: u8) -> Node<S, V>
     requires lo_lt_hi { lo < hi }
     ensures { result ≡ movedNode (lo - 1) (hi - 1) x.now }
 {
-    let mut to = [0u8; 16];
-    for k in 0..16 {
-        to[k] = moved_to(lo, hi, x.arcs.to[k]);
-    }
-    let label = x.label;
+    let to = x.arcs.to.map(|t| moved_to(lo, hi, t));
     Node {
         arcs: Arcs { to },
-        label,
+        label: x.label,
     }
 }
 
@@ -69,16 +49,9 @@ fn move_layer<S: Copy, V: Copy>(us: &mut [Node<S, V>], lo: u8, hi: u8)
     requires lo_lt_hi { lo < hi }
     ensures { us.new ≡ map (movedNode (lo - 1) (hi - 1)) us.old }
 {
-    for a in 0..us.len() {
-        let x = us[a];
-        us[a] = move_node(&x, lo, hi);
+    for x in us.iter_mut() {
+        *x = move_node(x, lo, hi);
     }
-}
-
-fn pick(s: u8, t: u8) -> u8
-    ensures { result ≡ pickT s t }
-{
-    if s == 0 { t } else { s }
 }
 
 // A node with the out-arcs of both.
@@ -87,12 +60,15 @@ fn both<S: Copy, V: Copy>(x: &Node<S, V>, y: &Node<S, V>) -> Node<S, V>
 {
     let mut to = [0u8; 16];
     for k in 0..16 {
-        to[k] = pick(x.arcs.to[k], y.arcs.to[k]);
+        to[k] = if x.arcs.to[k] == 0 {
+            y.arcs.to[k]
+        } else {
+            x.arcs.to[k]
+        };
     }
-    let label = x.label;
     Node {
         arcs: Arcs { to },
-        label,
+        label: x.label,
     }
 }
 
@@ -102,9 +78,7 @@ fn take_out<S: Copy, V: Copy>(us: &mut [Node<S, V>], at: usize, blank: &Node<S, 
     ensures { us.new ≡ dropAt at us.old ++ blank.now ∷ [] }
 {
     let last = us.len() - 1;
-    for a in at..last {
-        us[a] = us[a + 1];
-    }
+    us.copy_within(at + 1.., at);
     us[last] = *blank;
 }
 
@@ -121,33 +95,6 @@ fn join_layer<S: Copy, V: Copy>(us: &mut [Node<S, V>], lo: usize, hi: usize, bla
     take_out(us, hi - 1, blank);
 }
 
-fn move_first<S: Copy, V: Copy>(nodes: &mut [Node<S, V>], w: usize, lo: u8, hi: u8)
-    requires w_in_bounds { w < length nodes.old }
-    requires one_le_lo { 1 ≤ lo }
-    requires lo_lt_hi { lo < hi }
-    ensures { nodes.new ≡ map (movedNode (lo - 1) (hi - 1)) (take w nodes.old) ++ drop w nodes.old }
-{
-    let us = &mut nodes[0..w];
-    move_layer(us, lo, hi);
-}
-
-fn join_first<S: Copy, V: Copy>(
-    nodes: &mut [Node<S, V>],
-    w: usize,
-    lo: usize,
-    hi: usize,
-    blank: &Node<S, V>,
-)
-    requires w_in_bounds { w < length nodes.old }
-    requires one_le_lo { 1 ≤ lo }
-    requires lo_lt_hi { lo < hi }
-    requires hi_le_w { hi ≤ w }
-    ensures { nodes.new ≡ joinedLayer (lo - 1) (hi - 1) (take w nodes.old) blank.now ++ drop w nodes.old }
-{
-    let us = &mut nodes[0..w];
-    join_layer(us, lo, hi, blank);
-}
-
 // Joins the nodes lo and hi of the second of the layers of w records.
 fn join_second<S: Copy, V: Copy>(
     nodes: &mut [Node<S, V>],
@@ -162,9 +109,9 @@ fn join_second<S: Copy, V: Copy>(
     requires hi_le_w { hi ≤ w }
     ensures { nodes.new ≡ joinedSecond w (lo - 1) (hi - 1) nodes.old blank.now }
 {
-    move_first(nodes, w, lo, hi);
-    let rest = &mut nodes[w..];
-    join_first(rest, w, lo as usize, hi as usize, blank);
+    let (us, rest) = nodes.split_at_mut(w);
+    move_layer(us, lo, hi);
+    join_layer(&mut rest[..w], lo as usize, hi as usize, blank);
 }
 
 // Joins the nodes lo and hi of the layer whose records begin at `at + w`.

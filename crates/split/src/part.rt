@@ -1,5 +1,5 @@
 // Parting a node, over a test of which in-arcs stay.
-ghost use Rattle.std.specs.Prelude.{◌≡◌, ℕ, ◌+◌, ◌-◌, ◌<◌, ◌≤◌, Bool, ◌++◌, map, length, take, drop, slice_index, slice_index_or, slice_set};
+ghost use Rattle.std.specs.Prelude.{◌≡◌, ℕ, ◌+◌, ◌-◌, ◌<◌, ◌≤◌, Bool, ◌++◌, map, length, take, drop, slice_index};
 ghost use Rattle.layers.specs.declared.node.Label.{Label as ALabel};
 ghost use Rattle.layers.specs.declared.node.Node.{Node as ANode};
 ghost use Rattle.split.specs.Parted.{partedTo, partedNode, partedSecond};
@@ -48,10 +48,9 @@ fn part_node<K: Test>(
     for k in 0..16 {
         to[k] = part_door(test, x, k, a, new);
     }
-    let label = x.label;
     Node {
         arcs: Arcs { to },
-        label,
+        label: x.label,
     }
 }
 
@@ -60,29 +59,9 @@ fn part_layer<K: Test>(test: &K, us: &mut [Node<K::State, K::Value>], a: u8, new
     requires one_le_new { 1 ≤ new }
     ensures { us.new ≡ map (partedNode (K.Test.keeps test.now) (a - 1) (new - 1)) us.old }
 {
-    for i in 0..us.len() {
-        let x = us[i];
-        us[i] = part_node(test, &x, a, new);
+    for x in us.iter_mut() {
+        *x = part_node(test, x, a, new);
     }
-}
-
-fn part_first<K: Test>(test: &K, nodes: &mut [Node<K::State, K::Value>], w: usize, a: u8, new: u8)
-    requires w_in_bounds { w < length nodes.old }
-    requires one_le_a { 1 ≤ a }
-    requires one_le_new { 1 ≤ new }
-    ensures { nodes.new ≡ map (partedNode (K.Test.keeps test.now) (a - 1) (new - 1)) (take w nodes.old) ++ drop w nodes.old }
-{
-    let us = &mut nodes[0..w];
-    part_layer(test, us, a, new);
-}
-
-fn copy_to<S: Copy, V: Copy>(nodes: &mut [Node<S, V>], from: usize, to: usize)
-    requires from_in_bounds { from < length nodes.old }
-    requires to_in_bounds { to < length nodes.old }
-    ensures { (z : ANode S V) → nodes.new ≡ slice_set nodes.old to (slice_index_or nodes.old from z) }
-{
-    let x = nodes[from];
-    nodes[to] = x;
 }
 
 // Parts node a of the second of the layers of w records, which has `count` nodes.
@@ -100,9 +79,9 @@ fn part_second<K: Test>(
     requires count_lt_w { count < w }
     ensures { (z : ANode (K.State) (K.Value)) → nodes.new ≡ partedSecond (K.Test.keeps test.now) w (a - 1) count nodes.old z }
 {
-    part_first(test, nodes, w, a, count + 1);
-    let rest = &mut nodes[w..];
-    copy_to(rest, a as usize - 1, count as usize);
+    let (us, vs) = nodes.split_at_mut(w);
+    part_layer(test, us, a, count + 1);
+    vs[count as usize] = vs[a as usize - 1];
 }
 
 // Parts node a of the layer whose records begin at `at + w`, which has `count` nodes and room for one more.

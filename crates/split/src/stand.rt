@@ -9,13 +9,7 @@ use layers::node::Node;
 fn count_nodes<S: Copy, V: Copy>(us: &[Node<S, V>]) -> usize
     ensures { result ≡ length (standing us.now) }
 {
-    for a in 0..us.len() {
-        let u = us[a];
-        if u.label.down.lasts == 0 {
-            return a;
-        }
-    }
-    us.len()
+    us.iter().take_while(|u| u.label.down.lasts != 0).count()
 }
 
 // The same of the w records at `at`.

@@ -1,6 +1,5 @@
-use Rattle.std.proofs.Common.{◌≡◌, ℕ, ◌-◌, ◌*◌, Bool, true, false, cond, ◌&&◌, List, length, take, sym, ap, ◌∙◌, subst, ap₂, arith}
+use Rattle.std.proofs.Common.{◌≡◌, ℕ, ◌-◌, ◌*◌, Bool, true, false, ◌&&◌, length, take, sym, ap, ◌∙◌, subst, ap₂, arith}
 use Rattle.std.proofs.lemmas.Bool.{cond-true, cond-false, and_parts, and_from, both_ways}
-use Rattle.layers.specs.declared.node.Node.{Node}
 use Rattle.layers.specs.Shape.{Shaped, Timely}
 use Rattle.layers.specs.Calls.{cut_at, fewer}
 use Rattle.labels.specs.Passes.{fits}

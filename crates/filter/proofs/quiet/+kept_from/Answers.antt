@@ -1,7 +1,6 @@
-use Rattle.std.proofs.Common.{◌≡◌, ℕ, suc, ◌+◌, ◌-◌, ◌*◌, ◌<◌, List, map, length, take, drop, sym, ap, ◌∙◌, ap₂, add-one, arith, rules}
-use Rattle.std.proofs.lemmas.List.{length-drop, take_rest}
+use Rattle.std.proofs.Common.{◌≡◌, ℕ, suc, ◌+◌, ◌-◌, ◌*◌, ◌<◌, ◌≤◌, List, map, length, take, drop, sym, ap, ◌∙◌, ap₂, add-one, arith}
+use Rattle.std.proofs.lemmas.List.{length-take-le}
 use Rattle.layers.specs.declared.node.Node.{Node}
-use Rattle.labels.specs.Passes.{part}
 use Rattle.labels.proofs.Rests.{one_more, one-fits, rest-fits}
 use Rattle.tidying.specs.Counted.{arcsWithin}
 use Rattle.filter.specs.Thinned.{after, thinnedNode, thinnedFrom}
@@ -9,61 +8,49 @@ use Rattle.filter.proofs.Kept.{arcs-none, kept_more}
 use Rattle.filter.proofs.Layering.{next-there}
 use Rattle.filter.proofs.quiet.+kept_from.Goals as goal
 
-pub returns-then-left-eq0 : goal.returns-then-left-eq0
-returns-then-left-eq0 g t c =
+pub returns-then-left-eq0-clause-many : goal.returns-then-left-eq0-clause-many
+returns-then-left-eq0-clause-many g t c tally =
     let none : c.args.left ≡ 0 = c.if-left-eq0.true in
-    record {
-      many = λ tally. sym (ap (λ (k : ℕ). arcsWithin (take (k * c.args.w) (thinnedFrom c.args.round.now (g.R.Rule.sense c.args.rule.now) tally c.args.w c.args.i c.args.left c.args.nodes.now))) none ∙ arcs-none c.args.w _);
-      few = omega arith;
-    }
+    sym (ap (λ (k : ℕ). arcsWithin (take (k * c.args.w) (thinnedFrom c.args.round.now (g.R.Rule.sense c.args.rule.now) tally c.args.w c.args.i c.args.left c.args.nodes.now))) none ∙ arcs-none c.args.w _)
 
-pub kept_in-here-requires : goal.kept_in-here-requires
-kept_in-here-requires g t c =
+pub split_at-requires : goal.split_at-requires
+split_at-requires g t c = let h : c.args.w < length c.args.nodes.now = one-fits c.args.left c.args.w _ c.if-left-eq0.false c.requires.w_in_bounds in omega arith
+
+pub slice_bounds-kept_in-end : goal.slice_bounds-kept_in-end
+slice_bounds-kept_in-end g t c =
     let there = next-there c.args.w c.args.left (length c.args.nodes.now) c.if-left-eq0.false c.requires.w_in_bounds in
-    let ne = c.if-left-eq0.false in
-    let whole = c.requires.counts_left in
-    record {
-      i_lt_n = omega arith;
-      m_in_bounds = omega (arith, there, c.next_count-m.ensures);
-      w_bound = c.requires.w_bound;
-    }
-
-pub offset_bounds-nodes-w : goal.offset_bounds-nodes-w
-offset_bounds-nodes-w g t c = let h : c.args.w < length c.args.nodes.now = one-fits c.args.left c.args.w _ c.if-left-eq0.false c.requires.w_in_bounds in search rules
-
-pub slice_bounds-rest-count : goal.slice_bounds-rest-count
-slice_bounds-rest-count g t c = let h : c.args.w < length c.args.nodes.now = one-fits c.args.left c.args.w _ c.if-left-eq0.false c.requires.w_in_bounds in search rules
-
-pub slice_bounds-rest-start : goal.slice_bounds-rest-start
-slice_bounds-rest-start g t c = let h : c.args.w < length c.args.nodes.now = one-fits c.args.left c.args.w _ c.if-left-eq0.false c.requires.w_in_bounds in search rules
+    let vs = c.split_at.result.1.now in
+    let fits : c.next_count-m.result ≤ length vs = omega (arith, there, c.next_count-m.ensures, c.split_at.ensures.back_len) in
+    sym (length-take-le c.next_count-m.result vs fits)
 
 pub kept_from-later-requires : goal.kept_from-later-requires
 kept_from-later-requires g t c κs within =
-    let xs = c.args.nodes.now in
-    let w = c.args.w in
     let ne = c.if-left-eq0.false in
-    let long : length (take (length xs - w) (drop w xs)) ≡ length xs - w = ap length (take_rest xs w) ∙ length-drop w xs in
     let whole = c.requires.counts_left in
-    (omega arith, (within.0, (within.1.0, (within.1.1, (omega arith, (omega (arith, long, rest-fits c.args.left w (length xs) ne c.requires.w_in_bounds), c.requires.w_bound))))))
+    let rest = rest-fits c.args.left c.args.w (length c.args.nodes.now) ne c.requires.w_in_bounds in
+    (omega arith, (within.0, (within.1.0, (within.1.1, (omega arith, (omega (arith, rest, c.split_at.ensures.back_len), c.requires.w_bound))))))
 
-pub returns : goal.returns
-returns g t c =
+pub returns-clause-many : goal.returns-clause-many
+returns-clause-many g t c tally =
+    let r = c.args.round.now in
+    let R = g.R.Rule.sense c.args.rule.now in
     let xs = c.args.nodes.now in
     let w = c.args.w in
     let i = c.args.i in
-    let left = c.args.left in
+    let left = c.args.left - 1 in
     let ne = c.if-left-eq0.false in
-    let both = one_more left w ne in
-    record {
-      many = λ tally.
-          let r = c.args.round.now in
-          let R = g.R.Rule.sense c.args.rule.now in
-          let h : w < length xs = one-fits left w (length xs) ne c.requires.w_in_bounds in
-          let here : c.kept_in-here.result ≡ arcsWithin (map (thinnedNode r R tally i (part w (after w (left - 1)) xs)) (take w xs)) =
-          c.kept_in-here.ensures.many tally ∙ ap (λ (m : ℕ). arcsWithin (map (thinnedNode r R tally i (part w m xs)) (take w xs))) c.next_count-m.ensures in
-          let later : c.kept_from-later.result ≡ arcsWithin (take ((left - 1) * w) (thinnedFrom r R tally w (suc i) (left - 1) (drop w xs))) =
-          c.kept_from-later.ensures.many tally
-          ∙ ap₂ (λ (k : ℕ) (us : List (Node g.row.R-State.Denot g.row.V.Denot)). arcsWithin (take ((left - 1) * w) (thinnedFrom r R tally w k (left - 1) us))) (add-one i) (take_rest xs w) in
-          ap₂ (λ (a b : ℕ). a + b) here later ∙ sym (kept_more r R tally w i left xs ne (omega arith));
-      few = omega (arith, both, c.kept_in-here.ensures.few, c.kept_from-later.ensures.few);
-    }
+    let h : w < length xs = one-fits c.args.left w (length xs) ne c.requires.w_in_bounds in
+    let parts = c.split_at.ensures in
+    let nexts : take c.next_count-m.result c.split_at.result.1.now ≡ take (after w left) (drop w xs) =
+    ap₂ (λ (m : ℕ) (vs : List (Node g.row.R-State.Denot g.row.V.Denot)). take m vs) c.next_count-m.ensures parts.back in
+    let here : c.kept_in-here.result ≡ arcsWithin (map (thinnedNode r R tally i (take (after w left) (drop w xs))) (take w xs)) =
+    c.kept_in-here.ensures.many tally ∙ ap₂ (λ (vs us : List (Node g.row.R-State.Denot g.row.V.Denot)). arcsWithin (map (thinnedNode r R tally i vs) us)) nexts parts.front in
+    let later : c.kept_from-later.result ≡ arcsWithin (take (left * w) (thinnedFrom r R tally w (suc i) left (drop w xs))) =
+    c.kept_from-later.ensures.many tally
+    ∙ ap₂ (λ (k : ℕ) (us : List (Node g.row.R-State.Denot g.row.V.Denot)). arcsWithin (take (left * w) (thinnedFrom r R tally w k left us))) (add-one i) parts.back in
+    ap₂ (λ (a b : ℕ). a + b) here later ∙ sym (kept_more r R tally w i c.args.left xs ne (omega arith))
+
+pub returns-clause-few : goal.returns-clause-few
+returns-clause-few g t c =
+    let both = one_more c.args.left c.args.w c.if-left-eq0.false in
+    omega (arith, both, c.kept_in-here.ensures.few, c.split_at.ensures.front_len, c.kept_from-later.ensures.few)

@@ -1,6 +1,5 @@
-use Rattle.std.proofs.Common.{◌≡◌, ℕ, ◌-◌, Bool, true, cond, List, length, sym, ap, ◌∙◌, subst, ap₂, arith}
+use Rattle.std.proofs.Common.{◌≡◌, ℕ, ◌-◌, true, length, sym, ap, ◌∙◌, subst, ap₂, arith}
 use Rattle.std.proofs.lemmas.Bool.{cond-true}
-use Rattle.layers.specs.declared.node.Node.{Node}
 use Rattle.layers.specs.Shape.{Shaped, Timely}
 use Rattle.layers.specs.Calls.{swept, fewer}
 use Rattle.labels.specs.Passes.{fits}

@@ -1,51 +1,21 @@
-use Rattle.std.proofs.Common.{◌≡◌, ◌+◌, ◌++◌, map, length, get_or, take, drop, set, sym, refl, ap, ◌∙◌, ap₂, append-nil, arith}
-use Rattle.std.proofs.lemmas.List.{take_all, drop_all, get_or_default}
+use Rattle.std.proofs.Common.{◌≤◌, ◌++◌, map, length, get_or, drop, set, ap, ◌∙◌, append-nil, arith}
+use Rattle.std.proofs.lemmas.List.{drop_all, take_all, get_or_default}
 use Rattle.std.proofs.lemmas.List.Edits.{map_over_more}
-use Rattle.labels.specs.Passes.{part, over}
-use Rattle.labels.proofs.Overs.{over_none, length_part}
-use Rattle.labels.proofs.Steps.{set-over, part-after-over, getD-in-over, length-mapped, getD-mapped}
-use Rattle.filter.specs.Thinned.{thinnedNode, thinnedLayer}
+use Rattle.filter.specs.Thinned.{thinnedNode}
 use Rattle.filter.proofs.thin.thin_layer.Goals as goal
 
-pub loop-a-init : goal.loop-a-init
-loop-a-init g c t = sym (over_none c.args.at c.args.width c.args.nodes.now (omega arith))
-
-pub loop-a-preserved : goal.loop-a-preserved
-loop-a-preserved g c t =
-    let E = c.args.nodes.now in
-    let ys = c.loop-a.nodes in
-    let at = c.args.at in
-    let w = c.args.width in
-    let next = c.args.next in
-    let n = c.args.count in
-    let a = c.loop-a.a in
-    let us = part at w E in
-    let g' = thinnedNode c.args.round.now (g.R.Rule.sense c.args.rule.now) t c.args.i in
-    let f = g' (part next n E) in
-    let ws = map f (take a us) ++ drop a us in
-    let x = c.thin_at-node.result in
-    let z = get_or us a x in
-    let long : length us ≡ w = length_part at w E (omega arith) in
-    let long' : length ws ≡ length us = length-mapped f us a (omega arith) in
-    let vs : part next n ys ≡ part next n E = ap (part next n) (c.loop-a.invariant t) ∙ part-after-over at ws E next n (omega arith) (omega arith) in
-    let here : get_or ys (at + a) z ≡ z =
-    ap (λ zs. get_or zs (at + a) z) (c.loop-a.invariant t) ∙ getD-in-over at a ws E z (omega arith) (omega arith) ∙ getD-mapped f us a z (omega arith) ∙ get_or_default us a z x (omega arith) in
-    let new : x ≡ f z = c.thin_at-node.ensures t z ∙ ap₂ (λ v u. g' v u) vs here in
-    let read : z ≡ get_or ws a z = sym (getD-mapped f us a z (omega arith) ∙ get_or_default us a z x (omega arith)) in
-    c.put.ensures
-    ∙ ap₂ (λ zs y. set zs (at + a) y) (c.loop-a.invariant t) new
-    ∙ set-over at a ws E (f z) (omega arith) (omega arith)
-    ∙ ap (λ zs. over at zs E) (map_over_more f us ws a z (omega arith) refl read)
+pub loop-u-preserved : goal.loop-u-preserved
+loop-u-preserved g c t =
+    let ys = c.loop-u.us in
+    let a = c.loop-u.u-index in
+    let f = thinnedNode c.args.round.now (g.R.Rule.sense c.args.rule.now) t c.args.i c.args.vs.now in
+    let x = get_or ys a c.u-item.result in
+    ap (set ys a) (c.thin_node.ensures t) ∙ map_over_more f c.args.us.now ys a x (omega arith) (c.loop-u.invariant t) (get_or_default ys a c.u-item.result x (omega arith))
 
 pub returns : goal.returns
-unfolding thinnedLayer
 returns g c t =
-    let E = c.args.nodes.now in
-    let at = c.args.at in
-    let w = c.args.width in
-    let us = part at w E in
-    let f = thinnedNode c.args.round.now (g.R.Rule.sense c.args.rule.now) t c.args.i (part c.args.next c.args.count E) in
-    let a = c.loop-a.a in
-    let long : length us ≡ w = length_part at w E (omega arith) in
-    c.loop-a.invariant t
-    ∙ ap (λ zs. over at zs E) (ap₂ (λ xs ys. map f xs ++ ys) (take_all a us (omega arith)) (drop_all a us (omega arith)) ∙ append-nil (map f us))
+    let us = c.args.us.now in
+    let a = c.loop-u.u-index in
+    let f = thinnedNode c.args.round.now (g.R.Rule.sense c.args.rule.now) t c.args.i c.args.vs.now in
+    let past : length us ≤ a = omega arith in
+    c.loop-u.invariant t ∙ ap (λ ys. map f ys ++ drop a us) (take_all a us past) ∙ ap (λ ys. map f us ++ ys) (drop_all a us past) ∙ append-nil (map f us)

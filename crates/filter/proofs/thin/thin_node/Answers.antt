@@ -7,7 +7,7 @@ use Rattle.filter.proofs.thin.thin_node.Goals as goal
 
 pub loop-k-preserved : goal.loop-k-preserved
 loop-k-preserved g c t =
-    let u = c.args.u in
+    let u = c.args.u.now in
     let k = c.loop-k.k in
     let f : ℕ → ℕ = byDoor (thinnedTo c.args.round.now (g.R.Rule.sense c.args.rule.now) t c.args.i c.args.vs.now u) u in
     ap (set c.loop-k.to k) (c.thin_door.ensures t) ∙ ap (λ ts. set ts k (f k)) (c.loop-k.invariant t) ∙ over-more f (replicate {A = ℕ} 16 0) k c.loop-k-test.true
@@ -15,7 +15,7 @@ loop-k-preserved g c t =
 pub returns : goal.returns
 unfolding thinnedNode
 returns g c t =
-    let u = c.args.u in
+    let u = c.args.u.now in
     let f = thinnedTo c.args.round.now (g.R.Rule.sense c.args.rule.now) t c.args.i c.args.vs.now u in
     let all : c.loop-k.k ≡ 16 = omega arith in
     ap (withTargets u) (c.loop-k.invariant t ∙ ap (written (byDoor f u)) all) ∙ redirect-made f u

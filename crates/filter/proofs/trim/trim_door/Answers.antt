@@ -1,4 +1,4 @@
-use Rattle.std.proofs.Common.{◌+◌, get_or, sym, ap, ◌∙◌}
+use Rattle.std.proofs.Common.{◌+◌, true, false, get_or, sym, ap}
 use Rattle.layers.specs.Targets.{atDoor}
 use Rattle.filter.specs.Trimmed.{trimmedTo}
 use Rattle.filter.proofs.Trims.{trim-here}
@@ -9,8 +9,14 @@ returns-then-t-eq0 g c q =
     let u = c.args.u.now in
     ap (atDoor (trimmedTo c.args.round.now q (g.T.Tally.sense c.args.tally.now) c.args.ceiling u) (c.args.k + 1)) (sym c.if-t-eq0.true)
 
-pub returns : goal.returns
-returns g c q =
+pub returns-then-too_dear : goal.returns-then-too_dear
+returns-then-too_dear g c q =
     let u = c.args.u.now in
     let k = c.args.k in
-    c.unless.ensures ∙ trim-here c.args.round.now q (g.T.Tally.sense c.args.tally.now) c.args.ceiling u (k + 1) (get_or u.arcs.to k 0) c.too_dear-gone.result c.if-t-eq0.false (c.too_dear-gone.ensures q)
+    trim-here c.args.round.now q (g.T.Tally.sense c.args.tally.now) c.args.ceiling u (k + 1) (get_or u.arcs.to k 0) true c.if-t-eq0.false (c.if-too_dear.ensures q)
+
+pub returns-else-too_dear : goal.returns-else-too_dear
+returns-else-too_dear g c q =
+    let u = c.args.u.now in
+    let k = c.args.k in
+    trim-here c.args.round.now q (g.T.Tally.sense c.args.tally.now) c.args.ceiling u (k + 1) (get_or u.arcs.to k 0) false c.if-t-eq0.false (c.if-too_dear.ensures q)

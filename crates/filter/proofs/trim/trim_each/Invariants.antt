@@ -3,7 +3,7 @@ use Rattle.rules.specs.Rules.{RuleSense}
 use Rattle.filter.specs.Trimmed.{trimmedNode}
 use Rattle.filter.proofs.trim.trim_each.Given as goal
 
-abbrev pub invariant-loop-p : goal.invariant-loop-p
-invariant-loop-p g l =
-    ((q : RuleSense g.row.S.Denot) → l.us ≡ map (trimmedNode l.round q (g.T.Tally.sense l.tally) l.ceiling) (take l.p l.initial.us) ++ drop l.p l.initial.us)
-    × (drop l.p l.us ≡ drop l.p l.initial.us)
+abbrev pub invariant-loop-u : goal.invariant-loop-u
+invariant-loop-u g l =
+    ((q : RuleSense g.row.S.Denot) → l.us ≡ map (trimmedNode l.round q (g.T.Tally.sense l.tally) l.ceiling) (take l.u-index l.initial.us) ++ drop l.u-index l.initial.us)
+    × (drop l.u-index l.us ≡ drop l.u-index l.initial.us)

@@ -7,19 +7,19 @@ use Rattle.split.specs.Agreed.{seen, met}
 use Rattle.split.proofs.Meets.{Seen, folded-take-more, met_all}
 use Rattle.split.proofs.agree.look_at.Goals as goal
 
-pub loop-a-preserved : goal.loop-a-preserved
-loop-a-preserved g c s =
+pub loop-u-preserved : goal.loop-u-preserved
+loop-u-preserved g c s =
     let r = c.args.round.now in
     let R = g.R.Rule.sense c.args.rule.now in
     let us = c.args.us.now in
-    let a = c.loop-a.a in
-    let x = c.index-us-a.result in
+    let a = c.loop-u.u-index in
+    let x = c.u-item.result in
     let F = fromNode r R s c.args.t in
     let got = fold (met r R s) (None, true) (arrivals r R s c.args.t (take a us)) in
     c.meet_node-all.ensures s
-    ∙ ap (λ p. fold (met r R s) p (F x)) (c.loop-a.invariant s)
-    ∙ ap (λ y. fold (met r R s) got (F y)) c.index-us-a.is
-    ∙ sym (folded-take-more (met r R s) F (None, true) us a x c.loop-a-test.true)
+    ∙ ap (λ p. fold (met r R s) p (F x)) (c.loop-u.invariant s)
+    ∙ ap (λ y. fold (met r R s) got (F y)) c.u-item.is
+    ∙ sym (folded-take-more (met r R s) F (None, true) us a x c.loop-u-test.true)
 
 pub returns : goal.returns
 returns g c =
@@ -27,7 +27,7 @@ returns g c =
     let R = g.R.Rule.sense c.args.rule.now in
     let us = c.args.us.now in
     let t = c.args.t in
-    let past : length us ≤ c.loop-a.a = omega arith in
-    let done : (s : TallySense g.row.V.Denot) → seen r R s c.loop-a.all ≡ (headO r R s (arrivals r R s t us), agreeing r R s (arrivals r R s t us)) =
-    λ s. c.loop-a.invariant s ∙ ap (λ xs. fold (met r R s) (None, true) (arrivals r R s t xs)) (take_all c.loop-a.a us past) ∙ met_all r R s (arrivals r R s t us) in
+    let past : length us ≤ c.loop-u.u-index = omega arith in
+    let done : (s : TallySense g.row.V.Denot) → seen r R s c.loop-u.all ≡ (headO r R s (arrivals r R s t us), agreeing r R s (arrivals r R s t us)) =
+    λ s. c.loop-u.invariant s ∙ ap (λ xs. fold (met r R s) (None, true) (arrivals r R s t xs)) (take_all c.loop-u.u-index us past) ∙ met_all r R s (arrivals r R s t us) in
     record { first = λ s. ap (λ (p : Seen r R s). p.0) (done s); agreed = λ s. ap (λ (p : Seen r R s). p.1) (done s) }

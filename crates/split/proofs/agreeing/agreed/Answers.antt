@@ -6,6 +6,7 @@ use Rattle.labels.proofs.Rooms.{room-facts}
 use Rattle.split.specs.Steps.{agreedLayers, agreedSteps}
 use Rattle.split.proofs.AgreedWords.{agreed-said}
 use Rattle.split.proofs.Doing.{layer-small, layer-within}
+use Rattle.split.proofs.Turns.{and-swap}
 use Rattle.split.proofs.agreeing.agreed.Goals as goal
 
 pub returns-then-not-has_room : goal.returns-then-not-has_room
@@ -27,8 +28,8 @@ overflow_mul-k g c =
     let small = layer-small c.args.round.now.n c.args.width c.loop-k.k c.args.round.now.most room.high (omega (arith, c.loop-k-test.true)) in
     omega arith
 
-pub layer_agreed-here-requires : goal.layer_agreed-here-requires
-layer_agreed-here-requires g c =
+pub layer_agreed-all-requires : goal.layer_agreed-all-requires
+layer_agreed-all-requires g c =
     let room = room-facts c.args.round.now.n c.args.width (length c.args.nodes.now) (sym c.if-not-has_room.ensures) in
     record {
       w_in_bounds = layer-within c.args.round.now.n c.args.width (length c.args.nodes.now) c.loop-k.k room.enough (omega (arith, c.loop-k-test.true));
@@ -40,8 +41,8 @@ unfolding agreedLayers
 loop-k-preserved g c s =
     let r = c.args.round.now in
     let R = g.R.Rule.sense c.args.rule.now in
-    c.also-all.ensures
-    ∙ ap₂ ◌&&◌ (c.layer_agreed-here.ensures s) (c.loop-k.invariant s)
+    and-swap c.loop-k.all c.layer_agreed-all.result
+    ∙ ap₂ ◌&&◌ (c.layer_agreed-all.ensures s) (c.loop-k.invariant s)
     ∙ ap (λ (k : ℕ). agreedLayers r R s c.args.width k c.args.nodes.now) (sym (add-one c.loop-k.k))
 
 pub returns : goal.returns

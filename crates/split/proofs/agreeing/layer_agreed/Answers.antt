@@ -1,7 +1,7 @@
 use Rattle.std.proofs.Common.{◌≡◌, ℕ, ◌+◌, ◌&&◌, sym, refl, ap, ◌∙◌, ap₂, add-one, arith}
 use Rattle.labels.specs.Passes.{part}
 use Rattle.split.specs.Steps.{countAt, agreedTo}
-use Rattle.split.proofs.Turns.{said}
+use Rattle.split.proofs.Turns.{and-swap, said}
 use Rattle.split.proofs.Stands.{count_most}
 use Rattle.split.proofs.agreeing.layer_agreed.Goals as goal
 
@@ -22,7 +22,7 @@ loop-b-preserved g c s =
     let R = g.R.Rule.sense c.args.rule.now in
     let us = part c.args.at c.args.w c.args.nodes.now in
     let b = c.loop-b.b in
-    c.also-all.ensures
+    and-swap c.loop-b.all c.look_in-got.result.agreed
     ∙ ap₂ ◌&&◌ (sym (said r R s c.args.at c.args.w b c.args.nodes.now (c.look_in-got.ensures.agreed s) refl)) (c.loop-b.invariant s)
     ∙ ap (λ (k : ℕ). agreedTo r R s k us) (sym (add-one b))
 

@@ -1,23 +1,16 @@
-use Rattle.std.proofs.Common.{◌≡◌, false, ◌||◌, get_or, fold, sym, ap, ◌∙◌, arith}
-use Rattle.std.specs.List.{range_with_len}
-use Rattle.layers.specs.Flow.{apart_t}
-use Rattle.labels.proofs.Folds.{folded-counting}
-use Rattle.split.proofs.Joins.{clashStep, clash-folded}
+use Rattle.std.proofs.Common.{◌≡◌, length, ◌∙◌, ap₂, arith, rules, tests}
+use Rattle.std.proofs.lemmas.Iterator.{YieldsList-from_slice, YieldsList-from_zip}
+use Rattle.std.proofs.lemmas.Iterator.Search.{any_from_yields_List}
+use Rattle.layers.specs.Flow.{clash}
+use Rattle.split.proofs.Joins.{apartPair, clash-zipped, all-targets}
 use Rattle.split.proofs.join.clashes.Goals as goal
-
-pub loop-k-preserved : goal.loop-k-preserved
-loop-k-preserved g c =
-    let x = c.args.x.now in
-    let y = c.args.y.now in
-    let k = c.loop-k.k in
-    c.either-found.ensures
-    ∙ ap (λ b. c.loop-k.found || b) c.apart.ensures
-    ∙ ap (λ b. b || apart_t (get_or x.arcs.to k 0) (get_or y.arcs.to k 0)) c.loop-k.invariant
-    ∙ sym (folded-counting (clashStep x y) false k)
 
 pub returns : goal.returns
 returns g c =
     let x = c.args.x.now in
     let y = c.args.y.now in
-    let all : c.loop-k.k ≡ 16 = omega arith in
-    c.loop-k.invariant ∙ ap (λ n. fold (clashStep x y) false (range_with_len 0 n)) all ∙ clash-folded x y
+    let long : length x.arcs.to ≡ 16 = omega arith in
+    let long' : length y.arcs.to ≡ 16 = omega arith in
+    any_from_yields_List apartPair c.any.new.self _ _ c.any.ensures.ran (YieldsList-from_zip (YieldsList-from_slice x.arcs.to cc) (YieldsList-from_slice y.arcs.to cc)) (λ p b q k. search (rules, tests))
+    ∙ clash-zipped x.arcs.to y.arcs.to
+    ∙ ap₂ clash (all-targets x long) (all-targets y long')

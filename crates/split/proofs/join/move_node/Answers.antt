@@ -1,20 +1,15 @@
-use Rattle.std.proofs.Common.{◌≡◌, ℕ, ◌+◌, ◌-◌, set, replicate, ap, ◌∙◌, arith}
+use Rattle.std.proofs.Common.{◌≡◌, ℕ, ◌-◌, ◌<◌, get_or, ap, ◌∙◌, rules}
+use Rattle.std.proofs.lemmas.List.FromFn.{fill_by_all}
 use Rattle.layers.specs.Targets.{withTargets}
 use Rattle.split.specs.Joined.{movedTo, movedNode}
-use Rattle.labels.proofs.Writing.{over-more}
-use Rattle.labels.proofs.Redirects.{byDoor, written, redirect-made}
+use Rattle.labels.proofs.Redirects.{byDoor, redirect-made}
 use Rattle.split.proofs.join.move_node.Goals as goal
-
-pub loop-k-preserved : goal.loop-k-preserved
-loop-k-preserved g c =
-    let k = c.loop-k.k in
-    let f : ℕ → ℕ = byDoor (movedTo (c.args.lo - 1) (c.args.hi - 1)) c.args.x.now in
-    ap (set c.loop-k.to k) (c.moved_to.ensures (k + 1)) ∙ ap (λ ts. set ts k (f k)) c.loop-k.invariant ∙ over-more f (replicate {A = ℕ} 16 0) k c.loop-k-test.true
 
 pub returns : goal.returns
 unfolding movedNode
 returns g c =
     let x = c.args.x.now in
     let f = movedTo (c.args.lo - 1) (c.args.hi - 1) in
-    let all : c.loop-k.k ≡ 16 = omega arith in
-    ap (withTargets x) (c.loop-k.invariant ∙ ap (written (byDoor f x)) all) ∙ redirect-made f x
+    let made = c.map-to.ensures.items in
+    let each : (k : ℕ) → k < 16 → get_or c.map-to.result k 0 ≡ byDoor f x k = λ k lt. let h = (made.at k 0 0 lt).2 in search rules in
+    ap (withTargets x) (fill_by_all (byDoor f x) c.map-to.result 16 0 made.long each) ∙ redirect-made f x
