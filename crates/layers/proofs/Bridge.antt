@@ -1,6 +1,7 @@
 -- What stands in records that were laid: their arcs can be read back, and the labels that stand are those worked out from the arcs.
 use Rattle.std.proofs.Common.{◌≡◌, ℕ, zero, suc, ◌+◌, ◌-◌, ◌*◌, ◌<◌, ◌≤◌, Bool, true, false, cond, not, ◌&&◌, eqb, List, [], ◌∷◌, ◌++◌, map, length, get_or, take, drop, Some, None, Option, sym, refl, ap, ◌∙◌, subst, ap₂, append_assoc, le_of_suc-le-suc, not-suc-le-zero, suc-mul, zero-mul, arith, length-append}
 use Rattle.std.proofs.lemmas.Bool.{ne_eqb}
+use Rattle.std.proofs.lemmas.List.{drop_at}
 use Rattle.doors.specs.Sets.{has}
 use Rattle.round.specs.declared.table.Round.{Round}
 use Rattle.rules.specs.Rules.{RuleLaws, RuleSense}
@@ -16,6 +17,7 @@ use Rattle.layers.proofs.Sets.{or_left, one-self, none_has}
 use Rattle.layers.proofs.Model.{sweeps, cuts, part_at, oneGroup, agreed, agrees, quiet, valueO}
 use Rattle.layers.proofs.Lively.{labels_full, ups-full}
 pub use Rattle.layers.specs.Flow.{Even}
+pub use Rattle.layers.proofs.Flows.{table-long}
 
 -- ---- tables
 take-table : {A : Type 0} (m : ℕ) (f : ℕ → A) (rest : List A) → take m (table m f ++ rest) ≡ table m f
@@ -37,10 +39,6 @@ table-ext (suc m) f g h = ap₂ (λ (x : _) (y : List _). x ∷ y) (h 0 (omega a
 table-back : {A : Type 0} (d : A) (xs : List A) → table (length xs) (λ k. get_or xs k d) ≡ xs
 table-back d [] = refl
 table-back d (x ∷ xs) = ap (λ (z : List _). x ∷ z) (table-back d xs)
-
-pub table-long : {A : Type 0} (k : ℕ) (f : ℕ → A) → length (table k f) ≡ k
-table-long zero f = refl
-table-long (suc k) f = ap suc (table-long k (λ m. f (suc m)))
 
 table-end : {A : Type 0} (m : ℕ) (f : ℕ → Option A) → get_or (table m f) m None ≡ None
 table-end zero f = refl
@@ -90,7 +88,7 @@ everyArc-cong f g i (nd ∷ L) h =
     (everyDoor-cong (f i) (g i) 1 nd (λ k b e. ap (λ (z : ℕ). f i z b) (omega arith) ∙ ap (λ (z : ℕ). f z (suc k) b) (omega arith) ∙ h 0 (suc k) b e ∙ ap (λ (z : ℕ). g z (suc k) b) (omega arith) ∙ ap (λ (z : ℕ). g i z b) (omega arith)))
     (everyArc-cong f g (suc i) L (λ a j b e. ap (λ (z : ℕ). f z j b) (omega arith) ∙ h (suc a) j b e ∙ ap (λ (z : ℕ). g z j b) (omega arith)))
 
-ups-end : (b : ℕ) → b ≡ 0 → get_or (ups []) b None ≡ Some noUp
+pub ups-end : (b : ℕ) → b ≡ 0 → get_or (ups []) b None ≡ Some noUp
 unfolding ups up
 ups-end b e = ap (λ (k : ℕ). get_or {A = Option Up} (Some noUp ∷ []) k None) e
 
@@ -134,7 +132,7 @@ module _ {S V : Type 0} (r : Round) (rule : RuleSense S) (tally : TallySense V) 
 
       once : (a : ℕ) (l : Lab r rule tally) → get_or (firsts r rule tally) a None ≡ Some l → eqb l.lasts 0 ≡ false
       once zero l e = let x : first r rule tally ≡ l = cc in subst (λ (y : Lab r rule tally). eqb y.lasts 0 ≡ false) x refl
-      once (suc a) l e = let z : ◌≡◌ {A = ℕ} 0 1 = cc in absurd (omega arith)
+      once (suc a) l e = absurd cc
 
   lasting-next : (labs : Labs) (L : Layer) (count : ℕ) → Lasting (labelsNext r rule tally labs L count)
   unfolding labelsNext arrive merge
@@ -340,12 +338,6 @@ module _ {S V : Type 0} (r : Round) (rule : RuleSense S) (tally : TallySense V) 
       let X = laidFrom r rule tally W (labelsNext r rule tally labs L (width Ls)) Ls in
       omega (arith, length-append (table W f') X, table-long W f', laid-long (labelsNext r rule tally labs L (width Ls)) Ls, suc-mul (length Ls) W)
 
-  drop-front : {A : Type 0} (k : ℕ) (xs ys : List A) → length xs ≡ k → drop k (xs ++ ys) ≡ ys
-  drop-front zero [] ys e = refl
-  drop-front zero (x ∷ xs) ys e = absurd (omega arith)
-  drop-front (suc k) [] ys e = absurd (omega arith)
-  drop-front (suc k) (x ∷ xs) ys e = drop-front k xs ys (omega arith)
-
   pub later-stays : (later : List (Node S V)) (Ls : Net) → length Ls ≡ r.n → drop (r.n * W + 1) (laid r rule tally W Ls ++ later) ≡ later
   unfolding laid
-  later-stays later Ls e = drop-front (r.n * W + 1) (laidFrom r rule tally W (firsts r rule tally) Ls) later (laid-long (firsts r rule tally) Ls ∙ ap (λ (k : ℕ). k * W + 1) e)
+  later-stays later Ls e = drop_at (laidFrom r rule tally W (firsts r rule tally) Ls) later (r.n * W + 1) (laid-long (firsts r rule tally) Ls ∙ ap (λ (k : ℕ). k * W + 1) e)

@@ -65,18 +65,6 @@ module _ {S V : Type 0} (r : Round) (rule : RuleSense S) (tally : TallySense V) 
   unfolding sweep
   sweep-fewer Ls = omega (arith, tidied-fewer (sweeps r rule tally 0 (firsts r rule tally) Ls), sweeps-fewer 0 (firsts r rule tally) Ls)
 
-  -- with more rounds allowed than there are arcs, the last sweep answered 0
-  pub swept-ends : (W k : ℕ) (Ls : Net) → countArcs Ls < k → (t : Net) × (swept r rule tally W k Ls ≡ sweep r rule tally t) × (countArcs (sweep r rule tally t) ≡ countArcs t)
-  unfolding swept
-  swept-ends W zero Ls h = absurd (not-suc-le-zero h)
-  swept-ends W (suc k) Ls h = go (eqb (countArcs (sweep r rule tally Ls)) (countArcs Ls)) refl (λ g. swept-ends W k (sweep r rule tally Ls) g)
-    where
-      go : (q : Bool) → eqb (countArcs (sweep r rule tally Ls)) (countArcs Ls) ≡ q
-          → (countArcs (sweep r rule tally Ls) < k → (t : Net) × (swept r rule tally W k (sweep r rule tally Ls) ≡ sweep r rule tally t) × (countArcs (sweep r rule tally t) ≡ countArcs t))
-          → (t : Net) × ((elim q [ true ↦ sweep r rule tally Ls | false ↦ swept r rule tally W k (sweep r rule tally Ls) ]) ≡ sweep r rule tally t) × (countArcs (sweep r rule tally t) ≡ countArcs t)
-      go true e f = (Ls, refl, eqb-true (countArcs (sweep r rule tally Ls)) (countArcs Ls) e)
-      go false e f = f (omega (arith, sweep-fewer Ls, eqb-false (countArcs (sweep r rule tally Ls)) (countArcs Ls) e))
-
 -- ---- tidying leaves a tied diagram as it is
 eachDoor-same : (f : ℕ → ℕ → ℕ) (j : ℕ) (ts : Outs) → ((k b : ℕ) → get_or ts k 0 ≡ suc b → f (j + k) b ≡ suc b) → eachDoor f j ts ≡ ts
 unfolding eachDoor

@@ -19,7 +19,7 @@ use Rattle.layers.specs.declared.node.Up.{Up}
 use Rattle.layers.specs.Flow.{table, Outs, Layer, Net, node, target, width, Path-from, tidy, tidied, Mark, marksNext, joinAt, final, everyDoor, everyArc, ins, gather}
 use Rattle.layers.specs.Labels.{one, leg, ups, Lab, first, arrive, merge, firsts, labelsNext, barred, opened, allDoors, agree, agreeAll, agreeing}
 use Rattle.layers.specs.Calls.{Call, EachCut, Sweep, Part, Join, Cut, Refine}
-use Rattle.layers.proofs.Flows.{Among, From, inside, ins-in, ins-from, next-some, next-within, next-at}
+use Rattle.layers.proofs.Flows.{Among, table-long, From, inside, ins-in, ins-from, next-some, next-within, next-at}
 use Rattle.layers.proofs.Sets.{or_left, or_right, one-self}
 use Rattle.layers.proofs.Ways.{in_split, clashing, trip-snoc, state-snoc, length-snoc, snoc-assoc, leg-one}
 use Rattle.layers.proofs.Model.{sweeps, sweep, cuts, cut, part_at, agreed, agrees, quiet, settles, settled, after, bound, valueO}
@@ -65,10 +65,6 @@ module _ {S V : Type 0} (r : Round) (rule : RuleSense S) (tally : TallySense V) 
   cuts-length c labs [] = refl
   cuts-length c labs (L ∷ Ls) = ap suc (cuts-length c (labelsNext r rule tally labs L (width Ls)) Ls)
 
-  pub table-length : {A : Type 0} (k : ℕ) (f : ℕ → A) → length (table k f) ≡ k
-  table-length zero f = refl
-  table-length (suc k) f = ap suc (table-length k (λ m. f (suc m)))
-
   abbrev pub Shape : Net → Type 0
   Shape Ls = Neat r.n Ls × (length Ls ≡ r.n)
 
@@ -88,7 +84,7 @@ module _ {S V : Type 0} (r : Round) (rule : RuleSense S) (tally : TallySense V) 
         (λ c Ls q s. (neat-tidied r.n (cuts r rule tally c (firsts r rule tally) Ls) (neat-cuts r.n r rule tally c (firsts r rule tally) Ls s.0), tidied-length (cuts r rule tally c (firsts r rule tally) Ls) ∙ cuts-length c (firsts r rule tally) Ls ∙ s.1))
         (λ d a Ls x y z s. (neat-part r.n r rule tally d a (firsts r rule tally) Ls s.0, part_length d a (firsts r rule tally) Ls ∙ s.1))
         (λ d lo hi Ls x y z s. (neat-join r.n d lo hi Ls s.0, join-length d lo hi Ls ∙ s.1))
-        cs (opened r rule tally) (any-cut cs) (neat-opened r rule tally, table-length r.n (λ i. allDoors r rule tally ∷ []))
+        cs (opened r rule tally) (any-cut cs) (neat-opened r rule tally, table-long r.n (λ i. allDoors r rule tally ∷ []))
 
 -- ---- tests that passed
 everyDoor-at : (f : ℕ → ℕ → Bool) (j : ℕ) (ts : Outs) (k m b : ℕ) → j + k ≡ m → everyDoor f j ts ≡ true → get_or ts k 0 ≡ suc b → f m b ≡ true
@@ -177,7 +173,7 @@ module _ {S V : Type 0} {Keeps : List ℕ → Type 0} {Stands : S → List ℕ �
 
   value-gather : (l : List (Lab r rule tally)) (m : Lab r rule tally) → gather (merge r rule tally) l ≡ Some m → Attained m.value l
   unfolding gather
-  value-gather [] m g = let z : ◌≡◌ {A = ℕ} 0 1 = cc in absurd (omega arith)
+  value-gather [] m g = absurd cc
   value-gather (y ∷ l) m g =
       let z : fold (merge r rule tally) y l ≡ m = cc in
       subst (λ (t : Lab r rule tally). Attained t.value (y ∷ l)) z (fold-value y (y ∷ l) l (y, inl refl, refl) (λ t i. inr i))
@@ -379,10 +375,10 @@ module _ {S V : Type 0} {Keeps : List ℕ → Type 0} {Stands : S → List ℕ �
         start : (a : ℕ) (l : Lab r rule tally) → get_or (firsts r rule tally) a None ≡ Some l → Reached D 0 a l
         start zero l f = let x : first r rule tally ≡ l = cc in
             subst (λ (y : Lab r rule tally). Reached D 0 0 y) x (record { way = []; leads = λ w q. q; sound = sound_none; exact = exact-first; worth = refl; long = refl })
-        start (suc a) l f = let z : ◌≡◌ {A = ℕ} 0 1 = cc in absurd (omega arith)
+        start (suc a) l f = absurd cc
 
         go : (x : Option (Lab r rule tally)) → final (arrive r rule tally) (merge r rule tally) (firsts r rule tally) D ≡ x → valueO r rule tally x ≡ Some v → (w : List ℕ) × Path-from D 0 w × (cost r tally w ≡ v)
-        go None f g = let z : ◌≡◌ {A = ℕ} 0 1 = cc in absurd (omega arith)
+        go None f g = absurd cc
         go (Some l) f g =
             let y : l.value ≡ v = cc in
             let c = attain 0 0 (firsts r rule tally) D l (omega arith) s neat start f in (c.0, c.1, c.2 ∙ y)

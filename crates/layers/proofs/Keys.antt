@@ -9,11 +9,10 @@ use Rattle.tallies.specs.Tallies.{TallySense}
 use Rattle.layers.specs.Flow.{Outs, Layer, Net, node, target, width, redirect, ins, Mark, marksNext, marksUp, flags, rank, compress, renumber, tidy, tidied, Tied}
 use Rattle.layers.specs.Labels.{one, leg, ups, Lab, first, firsts, arrive, merge, labelsNext, barred, agree, agreeAll, agreeing, headO, leaves}
 use Rattle.layers.proofs.Flows.{Among, has-arc, ins-from, next-some, gather-all, compress-at}
-use Rattle.layers.proofs.Ways.{clashing}
+use Rattle.layers.proofs.Ways.{length-snoc, clashing}
 use Rattle.layers.proofs.Model.{sweeps, sweep, part_at, agreed, agrees}
-use Rattle.layers.proofs.Shapes.{and_first}
 use Rattle.layers.proofs.Tied.{redirect-back, compress-back, renumber-back}
-use Rattle.layers.proofs.Ties.{more-back, length_more}
+use Rattle.layers.proofs.Ties.{more-back}
 
 -- ---- each arc of one diagram is an arc of another, where f and its like say which node a node was
 abbrev pub Sub : (ℕ → ℕ) → Net → Net → Type 0
@@ -117,7 +116,7 @@ module _ {S V : Type 0} (r : Round) (rule : RuleSense S) (tally : TallySense V) 
       before : (u j c : ℕ) → target (node (redirect f L) u) j ≡ suc c → target (node L u) j ≡ suc (g c)
       before u j c e =
           let s = redirect-back f L u j c e in
-          s.1 ∙ ap suc (go (eqb s.0 a && leaves r rule tally h (get_or labs u None) j) refl s.0 (t.0 u j s.0 s.1) (λ q. eqb-true s.0 a (and_first (eqb s.0 a) (leaves r rule tally h (get_or labs u None) j) q)) s.2)
+          s.1 ∙ ap suc (go (eqb s.0 a && leaves r rule tally h (get_or labs u None) j) refl s.0 (t.0 u j s.0 s.1) (λ q. eqb-true s.0 a (and_parts (eqb s.0 a) (leaves r rule tally h (get_or labs u None) j) q).0) s.2)
         where
           go : (q : Bool) {p : Bool} → p ≡ q → (b : ℕ) → b < length M → (p ≡ true → b ≡ a) → cond q (suc (length M)) (suc b) ≡ suc c → b ≡ g c
           go true w b k n e = let z : length M ≡ c = omega arith in n w ∙ sym g-new ∙ ap g z
@@ -125,7 +124,7 @@ module _ {S V : Type 0} (r : Round) (rule : RuleSense S) (tally : TallySense V) 
 
       behind : (c j b : ℕ) → target (node (M ++ (node M a ∷ [])) c) j ≡ suc b → target (node M (g c)) j ≡ suc b
       behind c j b e =
-          elim (more-back M (node M a) c (let z = has-arc (M ++ (node M a ∷ [])) c j b e in omega (arith, length_more M (node M a)))) [
+          elim (more-back M (node M a) c (let z = has-arc (M ++ (node M a ∷ [])) c j b e in omega (arith, length-snoc M (node M a)))) [
             | inl q ↦ ap (λ (x : ℕ). target (node M x) j) (g-old c q.0) ∙ ap (λ (nd : Outs). target nd j) (sym q.1) ∙ e
             | inr q ↦ ap (λ (x : ℕ). target (node M x) j) (ap g q.0 ∙ g-new) ∙ ap (λ (nd : Outs). target nd j) (sym q.1) ∙ e
           ]
@@ -243,7 +242,7 @@ module _ {S V : Type 0} {Keeps : List ℕ → Type 0} {Stands : S → List ℕ �
 
   pub fit-first : Fit (firsts r rule tally) (λ a. first r rule tally)
   fit-first zero l e = let z : first r rule tally ≡ l = cc in subst (Agree (first r rule tally)) z (agree-self (first r rule tally))
-  fit-first (suc a) l e = let z : ◌≡◌ {A = ℕ} 0 1 = cc in absurd (omega arith)
+  fit-first (suc a) l e = absurd cc
 
   module _ (labs : List (Option (Lab r rule tally))) (K K' : ℕ → Lab r rule tally) (fit : Fit labs K) (L : Layer) (on : (a j b : ℕ) → target (node L a) j ≡ suc b → Agree (arrive r rule tally (K a) j) (K' b)) where
     -- so does each arrival

@@ -13,9 +13,10 @@ use Rattle.layers.specs.Flow.{Outs, Layer, Net, node, target, width, Path-from, 
 use Rattle.layers.specs.Labels.{one, climb, mergeUp, noUp, ups, Lab, first, arrive, merge, firsts, labelsNext}
 use Rattle.layers.specs.Records.{orNoUp}
 use Rattle.layers.specs.LabelLaws.{Path-to, Leads-to, On-every, On-one, Exactly}
-use Rattle.layers.proofs.Flows.{Among, From, ins-from, next-some, next-at, gather-all}
+use Rattle.doors.proofs.Orders.{in_left}
+use Rattle.layers.proofs.Flows.{Among, Climbs, outs-from, map-some, From, ins-from, next-some, next-at, gather-all}
 use Rattle.layers.proofs.Sets.{or_left, or_right, or_split, and_left, and_right, one-self, one_only, none_has}
-use Rattle.layers.proofs.Ways.{in_split, in-fst, in-snd, length-snoc}
+use Rattle.layers.proofs.Ways.{in_split, in-snd, length-snoc}
 use Rattle.layers.proofs.Walk.{NeatLayer, Neat, path-up, Good, good-first, good-next}
 use Rattle.layers.proofs.Bridge.{Labs, labsAt}
 
@@ -59,7 +60,7 @@ at_front k = record { here = λ w. inl refl; stays = λ j w i. inr i; only = λ 
 at_back : (k : ℕ) → Longer k (λ w. w ++ (k ∷ []))
 at_back k = record {
   here = λ w. in-snd k w (k ∷ []) (inl refl);
-  stays = λ j w i. in-fst j w (k ∷ []) i;
+  stays = λ j w i. in_left w (k ∷ []) j i;
   only = λ j w i. elim (in_split j w (k ∷ []) i) [ inl x ↦ inr x | inr x ↦ elim x [ inl e ↦ inl e | inr y ↦ absurd y ] ];
 }
 
@@ -140,7 +141,7 @@ module _ {S V : Type 0} {Keeps : List ℕ → Type 0} {Stands : S → List ℕ �
         let x : first r rule tally ≡ l = cc in
         subst (λ (y : Lab r rule tally). Owed y.all y.some (Leads-to D 0 0)) x
         (record { way = ([], (refl, refl)); all-if = λ j f. absurd (f [] (refl, refl)); some-from = λ j g. absurd (none_has j g) })
-    owed-at zero h (suc a) l e = let z : ◌≡◌ {A = ℕ} 0 1 = cc in absurd (omega arith)
+    owed-at zero h (suc a) l e = absurd cc
     owed-at (suc d) h b m e =
         let L = get_or D d [] in
         let n = width (drop (suc d) D) in
@@ -185,47 +186,23 @@ module _ {S V : Type 0} {Keeps : List ℕ → Type 0} {Stands : S → List ℕ �
         (good-next r rule ruled tally tallied d (At d D) (get_or D d []) (width (drop (suc d) D)) (omega arith) (good-at tallied k s d (omega arith)) (neat-at r.n D d s h))
 
 -- ---- upward
-record Climbs (us : List (Option Up)) (j : ℕ) (ts : Outs) (x : Up) : Type 0 where
-  skip : ℕ
-  to : ℕ
-  label : Up
-  arc : get_or ts skip 0 ≡ suc to
-  labelled : get_or us to None ≡ Some label
-  is : x ≡ climb label (j + skip)
-
-outs-from : (us : List (Option Up)) (x : Up) (j : ℕ) (ts : Outs) → Among x (outs climb us j ts) → Climbs us j ts x
-unfolding outs
-outs-from us x j [] i = absurd i
-outs-from us x j (t ∷ ts) i = go t (read us t) refl i (λ h. outs-from us x (suc j) ts h)
-  where
-    later : (t : ℕ) → Climbs us (suc j) ts x → Climbs us j (t ∷ ts) x
-    later t c = record { skip = suc c.skip; to = c.to; label = c.label; arc = c.arc; labelled = c.labelled; is = c.is ∙ ap (climb c.label) (omega arith) }
-
-    go : (t : ℕ) (o : Option Up) → read us t ≡ o → Among x (consO climb j o (outs climb us (suc j) ts)) → (Among x (outs climb us (suc j) ts) → Climbs us (suc j) ts x) → Climbs us j (t ∷ ts) x
-    go t None e i f = later t (f i)
-    go zero (Some u) e i f = let z : ◌≡◌ {A = ℕ} 0 1 = cc in absurd (omega arith)
-    go (suc b) (Some u) e (inl h) f = record { skip = 0; to = b; label = u; arc = refl; labelled = e; is = h ∙ ap (climb u) (omega arith) }
-    go (suc b) (Some u) e (inr h) f = later (suc b) (f h)
-
 ups-node : (L : Layer) (Ls : Net) (a : ℕ) (u : Up) → get_or (ups (L ∷ Ls)) a None ≡ Some u → gather mergeUp (outs climb (ups Ls) 1 (node L a)) ≡ Some u
 unfolding ups up
-ups-node [] Ls a u e = let z : ◌≡◌ {A = ℕ} 0 1 = cc in absurd (omega arith)
-ups-node (nd ∷ L) Ls zero u e = e
-ups-node (nd ∷ L) Ls (suc a) u e = ups-node L Ls a u e
+ups-node L Ls a u e = map-some (λ nd. gather mergeUp (outs climb (ups Ls) 1 nd)) L a u e
 
 owed-up : (Ls : Net) (a : ℕ) (u : Up) → get_or (ups Ls) a None ≡ Some u → Owed u.allup u.someup (Path-from Ls a)
 owed-up [] zero u e =
     let x : noUp ≡ u = unfold ups up in cc in
     subst (λ (y : Up). Owed y.allup y.someup (Path-from [] 0)) x (record { way = ([], refl); all-if = λ j f. absurd (f [] refl); some-from = λ j g. absurd (none_has j g) })
-owed-up [] (suc a) u e = let z : ◌≡◌ {A = ℕ} 0 1 = unfold ups up in cc in absurd (omega arith)
+owed-up [] (suc a) u e = absurd (unfold ups up in cc)
 owed-up (L ∷ Ls) a u e =
     gather-all mergeUp (λ x. Owed x.allup x.someup (Path-from (L ∷ Ls) a))
     (λ x y p q. owed-merge x.allup x.someup y.allup y.someup (Path-from (L ∷ Ls) a) p q)
     (outs climb (ups Ls) 1 (node L a)) u
-    (λ x i. let c = outs-from (ups Ls) x 1 (node L a) i in each x c (owed-up Ls c.to c.label c.labelled))
+    (λ x i. let c = outs-from climb (ups Ls) x 1 (node L a) i in each x c (owed-up Ls c.to c.label c.labelled))
     (ups-node L Ls a u e)
   where
-    each : (x : Up) (c : Climbs (ups Ls) 1 (node L a) x) → Owed c.label.allup c.label.someup (Path-from Ls c.to) → Owed x.allup x.someup (Path-from (L ∷ Ls) a)
+    each : (x : Up) (c : Climbs climb (ups Ls) 1 (node L a) x) → Owed c.label.allup c.label.someup (Path-from Ls c.to) → Owed x.allup x.someup (Path-from (L ∷ Ls) a)
     each x c o =
         let k = suc c.skip in
         let is : x ≡ climb c.label k = c.is ∙ ap (climb c.label) (omega arith) in

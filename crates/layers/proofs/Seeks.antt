@@ -62,7 +62,7 @@ hits-one i (k ∷ w) (inr h) = go (eqb i k) (hits-one i w h)
     go false e = e
 
 one-hits : (i : ℕ) (w : List ℕ) → fold hit (i ∷ []) w ≡ [] → In i w
-one-hits i [] e = let z : ◌≡◌ {A = ℕ} 0 1 = cc in absurd (omega arith)
+one-hits i [] e = absurd cc
 one-hits i (k ∷ w) e = go (eqb i k) refl e (λ h. one-hits i w h)
   where
     go : (q : Bool) → eqb i k ≡ q → fold hit (cond q [] (i ∷ [])) w ≡ [] → (fold hit (i ∷ []) w ≡ [] → In i w) → In i (k ∷ w)
@@ -84,7 +84,7 @@ hits-two j i (k ∷ w) (inr h) = go (eqb j k) (hits-two j i w h)
     go false e = e
 
 two-hits : (j i : ℕ) (w : List ℕ) → fold hit (j ∷ i ∷ []) w ≡ [] → Ahead j i w
-two-hits j i [] e = let z : ◌≡◌ {A = ℕ} 0 1 = cc in absurd (omega arith)
+two-hits j i [] e = absurd cc
 two-hits j i (k ∷ w) e = go (eqb j k) refl e (λ h. two-hits j i w h)
   where
     go : (q : Bool) → eqb j k ≡ q → fold hit (cond q (i ∷ []) (j ∷ i ∷ [])) w ≡ [] → (fold hit (j ∷ i ∷ []) w ≡ [] → Ahead j i w) → Ahead j i (k ∷ w)

@@ -15,7 +15,7 @@ use Rattle.layers.specs.Records.{used, standing, layers, arcsIn, downsIn, upsIn,
 use Rattle.layers.specs.Calls.{nodes, arcs, layer, thinned, trimmed, relaid}
 use Rattle.layers.specs.Shape.{targetsOf, Written, Tidy, OneFirst, Ended, Shaped}
 use Rattle.layers.proofs.Flows.{Among}
-use Rattle.layers.proofs.Bridge.{Full, top, stood, table-long}
+use Rattle.layers.proofs.Bridge.{ups-end, Full, top, stood, table-long}
 use Rattle.layers.proofs.Counts.{tidied-same}
 use Rattle.layers.proofs.Tied.{tidied-tied, redirect-back, redirect-length}
 use Rattle.layers.proofs.Places.{end-at}
@@ -155,12 +155,8 @@ counted-arc (nd ∷ L) h = ⊎_elim
 
 -- ---- an arc to the end gives the end a label
 some-there : {A : Type 0} (xs : List A) (o : A → Option Up) (b : ℕ) (u : Up) → get_or (map o xs) b None ≡ Some u → 1 ≤ length xs
-some-there [] o b u e = let z : ◌≡◌ {A = ℕ} 0 1 = cc in absurd (omega arith)
+some-there [] o b u e = absurd cc
 some-there (x ∷ xs) o b u e = omega arith
-
-end-up : (b : ℕ) → b ≡ 0 → get_or (ups []) b None ≡ Some noUp
-unfolding ups up
-end-up b z = ap (λ (k : ℕ). get_or {A = Option Up} (Some noUp ∷ []) k None) z
 
 module _ {S V : Type 0} (r : Round) (rule : RuleSense S) (tally : TallySense V) (W : ℕ) (w : 1 ≤ W) where
   end-stands : (labs : List (Option (Lab r rule tally))) (L : Layer) (Ms : Net) → Tied (L ∷ Ms) → Full r rule tally W w labs (L ∷ Ms) → (a j b : ℕ) → target (node (get_or (L ∷ Ms) (length Ms) []) a) j ≡ suc b
@@ -168,7 +164,7 @@ module _ {S V : Type 0} (r : Round) (rule : RuleSense S) (tally : TallySense V) 
   end-stands labs L [] t f a j b e =
       let E = top r rule tally W w (labelsNext r rule tally labs L 1) [] in
       let z : b ≡ 0 = omega (arith, t a j b e) in
-      let lo = some-there E (λ x. Some x.label.up) b noUp (f.0.tops a j b e ∙ end-up b z) in
+      let lo = some-there E (λ x. Some x.label.up) b noUp (f.0.tops a j b e ∙ ups-end b z) in
       let hi = standing-short (place r rule tally [] (labelsNext r rule tally labs L 1) [] 0 ∷ []) in
       omega arith
   end-stands labs L (M ∷ Ms) t f a j b e = end-stands (labelsNext r rule tally labs L (length M)) M Ms t.3 f.1 a j b e

@@ -1,6 +1,7 @@
 -- Part and join keep every path; all calls keep the doors of arcs within the round's.
 use Rattle.std.proofs.Common.{◌≡◌, ℕ, zero, suc, ◌+◌, ◌-◌, ◌<◌, ◌≤◌, Bool, true, false, cond, not, ◌&&◌, eqb, ltb, List, [], ◌∷◌, ◌++◌, length, get_or, set, Some, None, Option, sym, refl, ap, ◌∙◌, subst, inl, inr, le_of_suc-le-suc, not-suc-le-zero, arith}
-use Rattle.std.proofs.lemmas.Bool.{ltb-true, ltb-false, eqb-true, eqb-false, or_parts}
+use Rattle.std.proofs.lemmas.Bool.{ltb-true, ltb-false, eqb-true, eqb-false, and_parts, or_parts}
+use Rattle.std.proofs.lemmas.List.{get_or_append_left, get_or_push, get_or-set_same, get_or-set_other}
 use Rattle.round.specs.declared.table.Round.{Round}
 use Rattle.rules.specs.Rules.{RuleSense}
 use Rattle.tallies.specs.Tallies.{TallySense}
@@ -10,19 +11,6 @@ use Rattle.layers.proofs.Flows.{among-split, redirect-arc, has-arc}
 use Rattle.layers.proofs.Ways.{clashing}
 use Rattle.layers.proofs.Model.{part_at, sweeps, cuts}
 use Rattle.layers.proofs.Walk.{NeatLayer, Neat}
-
-pub append-below : (M : Layer) (nd : Outs) (b : ℕ) → b < length M → node (M ++ (nd ∷ [])) b ≡ node M b
-append-below [] nd b h = absurd (not-suc-le-zero h)
-append-below (x ∷ M) nd zero h = refl
-append-below (x ∷ M) nd (suc b) h = append-below M nd b (le_of_suc-le-suc h)
-
-pub append-last : (M : Layer) (nd : Outs) → node (M ++ (nd ∷ [])) (length M) ≡ nd
-append-last [] nd = refl
-append-last (x ∷ M) nd = append-last M nd
-
-pub and_first : (p q : Bool) → (p && q) ≡ true → p ≡ true
-and_first true q e = refl
-and_first false q e = e
 
 -- ---- part
 module _ {S V : Type 0} (r : Round) (rule : RuleSense S) (tally : TallySense V) where
@@ -49,12 +37,12 @@ module _ {S V : Type 0} (r : Round) (rule : RuleSense S) (tally : TallySense V) 
       go true e = (
         length M,
         redirect-arc f L x j b p.1 ∙ ap (λ (z : Bool). cond z (suc (length M)) (suc b)) e,
-        (p.2.0, ap (λ (nd : Outs). target nd k) (append-last M (node M a)) ∙ ap (λ (z : ℕ). target (node M z) k) (sym (eqb-true b a (and_first (eqb b a) (leaves r rule tally h (get_or labs x None) j) e))) ∙ p.2.1, p.2.2),
+        (p.2.0, ap (λ (nd : Outs). target nd k) (get_or_push M (node M a) [] (length M) refl) ∙ ap (λ (z : ℕ). target (node M z) k) (sym (eqb-true b a (and_parts (eqb b a) (leaves r rule tally h (get_or labs x None) j) e).0)) ∙ p.2.1, p.2.2),
       )
       go false e = (
         b,
         redirect-arc f L x j b p.1 ∙ ap (λ (z : Bool). cond z (suc (length M)) (suc b)) e,
-        (p.2.0, ap (λ (nd : Outs). target nd k) (append-below M (node M a) b (has-arc M b k p.2.0 p.2.1)) ∙ p.2.1, p.2.2),
+        (p.2.0, ap (λ (nd : Outs). target nd k) (get_or_append_left M (node M a ∷ []) [] b (has-arc M b k p.2.0 p.2.1)) ∙ p.2.1, p.2.2),
       )
   part-keeps (suc d) a labs (L ∷ Ls) x [] p = absurd p
   part-keeps (suc d) a labs (L ∷ Ls) x (j ∷ w) p = (p.0, p.1, part-keeps d a (labelsNext r rule tally labs L (width Ls)) Ls p.0 w p.2)
@@ -74,18 +62,6 @@ drop-above zero b (x ∷ M) h = refl
 drop-above (suc i) b [] h = refl
 drop-above (suc i) zero (x ∷ M) h = absurd (not-suc-le-zero h)
 drop-above (suc i) (suc b) (x ∷ M) h = drop-above i b M (le_of_suc-le-suc h)
-
-pub set_here : (M : Layer) (i : ℕ) (v : Outs) → i < length M → node (set M i v) i ≡ v
-set_here [] i v h = absurd (not-suc-le-zero h)
-set_here (x ∷ M) zero v h = refl
-set_here (x ∷ M) (suc i) v h = set_here M i v (le_of_suc-le-suc h)
-
-pub set_there : (M : Layer) (i b : ℕ) (v : Outs) → ¬ (b ≡ i) → node (set M i v) b ≡ node M b
-set_there [] i b v h = refl
-set_there (x ∷ M) zero zero v h = absurd (h refl)
-set_there (x ∷ M) zero (suc b) v h = refl
-set_there (x ∷ M) (suc i) zero v h = refl
-set_there (x ∷ M) (suc i) (suc b) v h = set_there M i b v (λ e. h (ap suc e))
 
 pick-left : (s t c : ℕ) → s ≡ suc c → pickT s t ≡ suc c
 pick-left zero t c e = absurd (omega arith)
@@ -138,14 +114,14 @@ join-node M lo hi b k c lt inn nc e = go (eqb b hi) refl (ltb hi b) refl
 
     below : (q : Bool) → eqb b lo ≡ q → b < hi → target (node (dropAt hi X) b) k ≡ suc c
     below true f h = let s = eqb-true b lo f in
-        to b (drop-below hi b X h ∙ ap (λ (z : ℕ). node X z) s ∙ set_here M lo v (omega arith)) (target_left (node M lo) (node M hi) k c (ap (λ (z : ℕ). target (node M z) k) (sym s) ∙ e))
-    below false f h = ap (λ (nd : Outs). target nd k) (drop-below hi b X h ∙ set_there M lo b v (eqb-false b lo f)) ∙ e
+        to b (drop-below hi b X h ∙ ap (λ (z : ℕ). node X z) s ∙ get_or-set_same M lo v [] (omega arith)) (target_left (node M lo) (node M hi) k c (ap (λ (z : ℕ). target (node M z) k) (sym s) ∙ e))
+    below false f h = ap (λ (nd : Outs). target nd k) (drop-below hi b X h ∙ get_or-set_other M lo b v [] (eqb-false b lo f)) ∙ e
 
     go : (q : Bool) → eqb b hi ≡ q → (q' : Bool) → ltb hi b ≡ q' → target (node (dropAt hi X) (cond q lo (cond q' (b - 1) b))) k ≡ suc c
     go true f q' g = let s = eqb-true b hi f in
-        to lo (drop-below hi lo X lt ∙ set_here M lo v (omega arith)) (target_right (node M lo) (node M hi) k c nc (ap (λ (z : ℕ). target (node M z) k) (sym s) ∙ e))
+        to lo (drop-below hi lo X lt ∙ get_or-set_same M lo v [] (omega arith)) (target_right (node M lo) (node M hi) k c nc (ap (λ (z : ℕ). target (node M z) k) (sym s) ∙ e))
     go false f true g = let h = ltb-true hi b g in let z : suc (b - 1) ≡ b = omega arith in
-        ap (λ (nd : Outs). target nd k) (drop-above hi (b - 1) X (omega arith) ∙ ap (λ (y : ℕ). node X y) z ∙ set_there M lo b v (omega arith)) ∙ e
+        ap (λ (nd : Outs). target nd k) (drop-above hi (b - 1) X (omega arith) ∙ ap (λ (y : ℕ). node X y) z ∙ get_or-set_other M lo b v [] (omega arith)) ∙ e
     go false f false g = below (eqb b lo) refl (le b hi (eqb-false b hi f) g)
       where
         le : (x y : ℕ) → ¬ (x ≡ y) → ltb y x ≡ false → x < y

@@ -1,6 +1,7 @@
 -- Opening, part and join keep every node on a path.
 use Rattle.std.proofs.Common.{◌≡◌, ℕ, zero, suc, ◌+◌, ◌-◌, ◌<◌, ◌≤◌, Bool, true, false, cond, not, ◌&&◌, eqb, ltb, ◌⊎◌, List, [], ◌∷◌, ◌++◌, length, get_or, set, Some, None, Option, sym, refl, ap, ◌∙◌, subst, inl, inr, le_of_suc-le-suc, not-suc-le-zero, arith, length-append, length-set}
-use Rattle.std.proofs.lemmas.Bool.{ltb-true, ltb-false, eqb-true, lt-ltb, eq-eqb, ne_eqb, cases_lt, cases_eq}
+use Rattle.std.proofs.lemmas.Bool.{ltb-true, ltb-false, eqb-true, lt-ltb, eq-eqb, ne_eqb, cases_lt, cases_eq, and_cases}
+use Rattle.std.proofs.lemmas.List.{get_or_append_left, get_or_push, get_or-set_same, get_or-set_other}
 use Rattle.round.specs.declared.table.Round.{Round}
 use Rattle.rules.specs.Rules.{RuleSense}
 use Rattle.tallies.specs.Tallies.{TallySense}
@@ -8,9 +9,9 @@ use Rattle.layers.specs.Flow.{table, Outs, Layer, Net, node, target, redirect, i
 use Rattle.layers.specs.Labels.{Lab, arrive, labelsNext, agree, agreeAll, agreeing, leaves, headO, opened, allDoors}
 use Rattle.layers.specs.Calls.{partedAt}
 use Rattle.layers.proofs.Flows.{Among, redirect-arc, has-arc, table_at, From, ins-from}
-use Rattle.layers.proofs.Ways.{clashing}
+use Rattle.layers.proofs.Ways.{length-snoc, clashing}
 use Rattle.layers.proofs.Model.{part_at, oneGroup}
-use Rattle.layers.proofs.Shapes.{append-below, append-last, drop-below, drop-above, set_here, set_there, join-node}
+use Rattle.layers.proofs.Shapes.{drop-below, drop-above, join-node}
 use Rattle.layers.proofs.Tied.{redirect-back, redirect-length}
 
 -- ---- open
@@ -46,35 +47,32 @@ module _ {S V : Type 0} (r : Round) (rule : RuleSense S) (tally : TallySense V) 
       go (suc (suc k)) = (open-ranged, open-fed, open-led, go (suc k))
 
 -- ---- part
-pub length_more : (M : Layer) (nd : Outs) → length (M ++ (nd ∷ [])) ≡ suc (length M)
-length_more M nd = omega (arith, length-append M (nd ∷ []))
-
 -- the nodes of a layer with one more are those of the layer
 pub more-back : (M : Layer) (nd : Outs) (c : ℕ) → c < suc (length M) → ((c < length M) × (node (M ++ (nd ∷ [])) c ≡ node M c)) ⊎ ((c ≡ length M) × (node (M ++ (nd ∷ [])) c ≡ nd))
 more-back M nd c h = go (ltb c (length M)) refl
   where
     go : (q : Bool) → ltb c (length M) ≡ q → ((c < length M) × (node (M ++ (nd ∷ [])) c ≡ node M c)) ⊎ ((c ≡ length M) × (node (M ++ (nd ∷ [])) c ≡ nd))
-    go true e = let k = ltb-true c (length M) e in inl (k, append-below M nd c k)
+    go true e = let k = ltb-true c (length M) e in inl (k, get_or_append_left M (nd ∷ []) [] c k)
     go false e = let k : c ≡ length M = omega (arith, ltb-false c (length M) e) in
-        inr (k, ap (λ (z : ℕ). node (M ++ (nd ∷ [])) z) k ∙ append-last M nd)
+        inr (k, ap (λ (z : ℕ). node (M ++ (nd ∷ [])) z) k ∙ get_or_push M nd [] (length M) refl)
 
 module _ (M : Layer) (a : ℕ) (inn : a < length M) where
   more-ranged : (m : ℕ) → Ranged M m → Ranged (M ++ (node M a ∷ [])) m
   more-ranged m h c j b e =
-      elim (more-back M (node M a) c (let z = has-arc (M ++ (node M a ∷ [])) c j b e in omega (arith, length_more M (node M a)))) [
+      elim (more-back M (node M a) c (let z = has-arc (M ++ (node M a ∷ [])) c j b e in omega (arith, length-snoc M (node M a)))) [
         | inl q ↦ h c j b (ap (λ (nd : Outs). target nd j) (sym q.1) ∙ e)
         | inr q ↦ h a j b (ap (λ (nd : Outs). target nd j) (sym q.1) ∙ e)
       ]
 
   more-led : Led M → Led (M ++ (node M a ∷ []))
   more-led h c k =
-      elim (more-back M (node M a) c (omega (arith, length_more M (node M a)))) [
+      elim (more-back M (node M a) c (omega (arith, length-snoc M (node M a)))) [
         | inl q ↦ (let s = h c q.0 in (s.0, s.1, ap (λ (nd : Outs). target nd s.0) q.1 ∙ s.2))
         | inr q ↦ (let s = h a inn in (s.0, s.1, ap (λ (nd : Outs). target nd s.0) q.1 ∙ s.2))
       ]
 
   more-fed : (m : ℕ) → Fed M m → Fed (M ++ (node M a ∷ [])) m
-  more-fed m h b k = let s = h b k in (s.0, s.1, ap (λ (nd : Outs). target nd s.1) (append-below M (node M a) s.0 (has-arc M s.0 s.1 b s.2)) ∙ s.2)
+  more-fed m h b k = let s = h b k in (s.0, s.1, ap (λ (nd : Outs). target nd s.1) (get_or_append_left M (node M a ∷ []) [] s.0 (has-arc M s.0 s.1 b s.2)) ∙ s.2)
 
   more-tied : (Ls : Net) → Tied (M ∷ Ls) → Tied ((M ++ (node M a ∷ [])) ∷ Ls)
   more-tied [] t = more-ranged 1 t
@@ -85,14 +83,10 @@ module _ {S V : Type 0} (r : Round) (rule : RuleSense S) (self : (s : S) → rul
   unfolding agree
   agree-self x = rw (eq-eqb x.all x.all refl, eq-eqb x.some x.some refl, eq-eqb x.finish x.finish refl, eq-eqb x.lasts x.lasts refl) (self x.state)
 
-  and_no : (p q : Bool) → (p && q) ≡ false → (p ≡ false) ⊎ (q ≡ false)
-  and_no true q e = inr e
-  and_no false q e = inl refl
-
   odd-one : (x : Lab r rule tally) (l : List (Lab r rule tally)) → agreeAll r rule tally x l ≡ false → (y : Lab r rule tally) × Among y l × (agree r rule tally x y ≡ false)
   unfolding agreeAll
   odd-one x [] e = clashing e
-  odd-one x (y ∷ l) e = go (and_no (agree r rule tally x y) (agreeAll r rule tally x l) e) (λ h. odd-one x l h)
+  odd-one x (y ∷ l) e = go (and_cases (agree r rule tally x y) (agreeAll r rule tally x l) e) (λ h. odd-one x l h)
     where
       go : (agree r rule tally x y ≡ false) ⊎ (agreeAll r rule tally x l ≡ false) → (agreeAll r rule tally x l ≡ false → (z : Lab r rule tally) × Among z l × (agree r rule tally x z ≡ false)) → (z : Lab r rule tally) × Among z (y ∷ l) × (agree r rule tally x z ≡ false)
       go (inl h) f = (y, inl refl, h)
@@ -118,8 +112,8 @@ module _ {S V : Type 0} (r : Round) (rule : RuleSense S) (self : (s : S) → rul
         go (eqb q.0 a && leaves r rule tally h (get_or labs u None) j) q.0 k q.2
       where
         go : (t : Bool) (b : ℕ) → b < length M → cond t (suc (length M)) (suc b) ≡ suc c → c < length (M ++ (node M a ∷ []))
-        go true b k e = omega (arith, length_more M (node M a))
-        go false b k e = omega (arith, length_more M (node M a))
+        go true b k e = omega (arith, length-snoc M (node M a))
+        go false b k e = omega (arith, length-snoc M (node M a))
 
     moves-to : (u j b : ℕ) (q : Bool) → target (node L u) j ≡ suc b → (eqb b a && leaves r rule tally h (get_or labs u None) j) ≡ q → target (node (redirect f L) u) j ≡ cond q (suc (length M)) (suc b)
     moves-to u j b q e t = redirect-arc f L u j b e ∙ ap (λ (z : Bool). cond z (suc (length M)) (suc b)) t
@@ -143,7 +137,7 @@ module _ {S V : Type 0} (r : Round) (rule : RuleSense S) (self : (s : S) → rul
             (s.0, s.1, moves-to s.0 s.1 c false s.2 (ap (λ (z : Bool). z && leaves r rule tally h (get_or labs s.0 None) s.1) d))
         new false e q d =
             let w = ins-from (arrive r rule tally) a labs L two'.3 two'.4 in
-            let z : c ≡ length M = omega (arith, length_more M (node M a), ltb-false c (length M) e) in
+            let z : c ≡ length M = omega (arith, length-snoc M (node M a), ltb-false c (length M) e) in
             (w.source, w.door, moves-to w.source w.door a true w.arc (at_a two'.0 two'.3 two'.1 w ∙ ap not two'.5) ∙ ap suc (sym z))
 
     part-led : Led L → Led (redirect f L)
@@ -249,12 +243,12 @@ module _ (M : Layer) (lo hi : ℕ) (lt : lo < hi) (inn : hi < length M) (nc : cl
     where
       go : (c < hi) ⊎ (hi ≤ c) → (c ≡ lo) ⊎ (¬ (c ≡ lo)) → (a : ℕ) × (target (node M a) j ≡ suc b)
       go (inl k) (inl s) =
-          elim (target-back (node M lo) (node M hi) j b (ap (λ (nd : Outs). target nd j) (sym (drop-below hi c X k ∙ ap (λ (z : ℕ). node X z) s ∙ set_here M lo (bothOut (node M lo) (node M hi)) (omega arith))) ∙ e)) [
+          elim (target-back (node M lo) (node M hi) j b (ap (λ (nd : Outs). target nd j) (sym (drop-below hi c X k ∙ ap (λ (z : ℕ). node X z) s ∙ get_or-set_same M lo (bothOut (node M lo) (node M hi)) [] (omega arith))) ∙ e)) [
             | inl q ↦ (lo, q)
             | inr q ↦ (hi, q)
           ]
-      go (inl k) (inr s) = (c, ap (λ (nd : Outs). target nd j) (sym (drop-below hi c X k ∙ set_there M lo c (bothOut (node M lo) (node M hi)) s)) ∙ e)
-      go (inr k) s = (suc c, ap (λ (nd : Outs). target nd j) (sym (drop-above hi c X k ∙ set_there M lo (suc c) (bothOut (node M lo) (node M hi)) (omega arith))) ∙ e)
+      go (inl k) (inr s) = (c, ap (λ (nd : Outs). target nd j) (sym (drop-below hi c X k ∙ get_or-set_other M lo c (bothOut (node M lo) (node M hi)) [] s)) ∙ e)
+      go (inr k) s = (suc c, ap (λ (nd : Outs). target nd j) (sym (drop-above hi c X k ∙ get_or-set_other M lo (suc c) (bothOut (node M lo) (node M hi)) [] (omega arith))) ∙ e)
 
   join-ranged : (m : ℕ) → Ranged M m → Ranged M' m
   join-ranged m h c j b e = let q = back c j b e in h q.0 j b q.1

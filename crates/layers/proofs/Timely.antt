@@ -38,7 +38,7 @@ module _ {S V : Type 0} (r : Round) (rule : RuleSense S) (tally : TallySense V) 
   soon-first : Soon 0 (firsts r rule tally)
   unfolding Soon
   soon-first zero l e = let x : first r rule tally ≡ l = cc in subst (λ (y : Lab r rule tally). y.finish ≤ latest 0) x (omega arith)
-  soon-first (suc a) l e = let z : ◌≡◌ {A = ℕ} 0 1 = cc in absurd (omega arith)
+  soon-first (suc a) l e = absurd cc
 
   soon-next : (i : ℕ) (labs : List (Option (Lab r rule tally))) (L : Layer) (count : ℕ) → Soon i labs → Soon (suc i) (labelsNext r rule tally labs L count)
   unfolding Soon labelsNext arrive merge

@@ -2,8 +2,8 @@
 use Rattle.std.proofs.Common.{◌≡◌, ℕ, zero, suc, ◌+◌, ◌-◌, ◌<◌, ◌≤◌, Bool, true, false, cond, ◌||◌, ltb, List, [], ◌∷◌, ◌++◌, length, get_or, Some, None, Option, sym, refl, ap, ◌∙◌, subst, inl, inr, le_trans, le_of_suc-le-suc, not-suc-le-zero, arith}
 use lib.Bits.{bit_or}
 use lib.Count.{ones}
-use Rattle.std.proofs.lemmas.Bool.{le-ltb, ne_eqb}
-use Rattle.doors.proofs.Orders.{part-next, next-part}
+use Rattle.std.proofs.lemmas.Bool.{le-ltb, ne_eqb, false_from_ne_true}
+use Rattle.doors.proofs.Orders.{in_left, part-next, next-part}
 use Rattle.doors.specs.Orders.{Door, In, PartOrder}
 use Rattle.doors.specs.Sets.{has}
 use Rattle.round.proofs.Clocks.{clock-laws}
@@ -21,7 +21,7 @@ use Rattle.layers.specs.Flow.{Outs, Layer, Net, node, target, width, Path-from, 
 use Rattle.layers.specs.Labels.{one, leg, climb, mergeUp, noUp, ups, Lab, first, arrive, merge, firsts, labelsNext, barred}
 use Rattle.layers.proofs.Flows.{Among, redirect-arc, inside, has-arc, next-at, up_at, tidy-keeps, From, ins-from, next-some, gather-all}
 use Rattle.layers.proofs.Sets.{or_left, or_right, or_split, and_left, and_right, one-self, one_only, none_has, ones_in}
-use Rattle.layers.proofs.Ways.{in_split, in-fst, in-snd, part-tail, trip-snoc, van-snoc, length-snoc, snoc-assoc, TimelyFrom, timely-from, leg-le, leg-bound}
+use Rattle.layers.proofs.Ways.{in_split, in-snd, part-tail, trip-snoc, van-snoc, length-snoc, snoc-assoc, TimelyFrom, timely-from, leg-le, leg-bound}
 use Rattle.layers.proofs.Model.{sweeps, sweep}
 
 -- each node has no more targets than there are doors
@@ -50,10 +50,6 @@ pub neat-door : (r : Round) (L : Layer) → NeatLayer r.n L → (a j b : ℕ) �
 neat-door r L neat a zero b e = absurd (omega arith)
 neat-door r L neat a (suc k) b e =
     let h = door-at (node L a) k b e in let g = neat (node L a) (node-among L a (has-arc L a (suc k) b e)) in record { low = omega arith; high = omega arith }
-
-not_so : (b : Bool) → (b ≡ true → ⊥) → b ≡ false
-not_so true f = absurd (f refl)
-not_so false f = refl
 
 module _ {S V : Type 0} {Keeps : List ℕ → Type 0} {Stands : S → List ℕ → Type 0} {Allows : ℕ → V → Type 0} (r : Round) (rule : RuleSense S) (ruled : RuleLaws r.n rule Keeps Stands) (tally : TallySense V) (tallied : TallyLaws r.n tally Allows) where
   -- ---- an order under way
@@ -162,7 +158,7 @@ module _ {S V : Type 0} {Keeps : List ℕ → Type 0} {Stands : S → List ℕ �
       let s = (clock-laws r).bound (length p) (tripAfter r tally p).van.finish (drive r (tripAfter r tally p).van.last j) j t.soon dl in
       record {
         part = (told-next p j t d k n).part;
-        all = λ i h. elim (or_split l.all (one j) i h) [ inl x ↦ in-fst i p (j ∷ []) (f.all i x) | inr x ↦ in-snd i p (j ∷ []) (inl (one_only j i x)) ];
+        all = λ i h. elim (or_split l.all (one j) i h) [ inl x ↦ in_left p (j ∷ []) i (f.all i x) | inr x ↦ in-snd i p (j ∷ []) (inl (one_only j i x)) ];
         some = λ i h. elim (in_split i p (j ∷ []) h) [
           | inl x ↦ or_left l.some (one j) i (f.some i x)
           | inr x ↦ or_right l.some (one j) i (elim x [ inl y ↦ subst (λ (z : ℕ). has (one j) z ≡ true) (sym y) (one-self j) | inr y ↦ absurd y ])
@@ -182,7 +178,7 @@ module _ {S V : Type 0} {Keeps : List ℕ → Type 0} {Stands : S → List ℕ �
   pub good-first : Good 0 (firsts r rule tally)
   unfolding Good
   good-first zero l e = let x : first r rule tally ≡ l = cc in subst (λ (y : Lab r rule tally). (Allows 0 y.value) × (y.finish ≤ latest 0)) x (tallied.start-allowed, omega arith)
-  good-first (suc a) l e = let z : ◌≡◌ {A = ℕ} 0 1 = cc in absurd (omega arith)
+  good-first (suc a) l e = absurd cc
 
   lesser-fine : (k : ℕ) (a b : V) → Allows k a → Allows k b → Allows k (tally.lesser a b)
   lesser-fine k a b x y = subst (Allows k) (sym (tallied.lesser-is a b)) (go (tally.notAbove a b))
@@ -274,13 +270,13 @@ module _ {S V : Type 0} {Keeps : List ℕ → Type 0} {Stands : S → List ℕ �
       let facts = going-facts p w j g in
       or-none (has l.all j) (ltb (ones (bit_or l.some (one j))) (suc (length p))) (ltb (door r j).closes (finish r l.finish (leg r l.lasts j) j))
       (rule.bars l.state j) (has u.allup j) (ltb (ones (bit_or u.someup (one j))) (suc (length w)))
-      (not_so (has l.all j) (λ h. facts.1 (f.all j h)))
+      (false_from_ne_true (has l.all j) (λ h. facts.1 (f.all j h)))
       (le-ltb (ones (bit_or l.some (one j))) (suc (length p))
       (subst (λ (k : ℕ). k ≤ ones (bit_or l.some (one j))) (length-snoc p j) (ones_in r.n (bit_or l.some (one j)) (p ++ (j ∷ [])) a.part a.some)))
       (le-ltb (door r j).closes (finish r l.finish (leg r l.lasts j) j) (le_trans a.finish closing))
-      (not_so (rule.bars l.state j) (λ h. ruled.bars-breaks l.state p j (part-next r.n p j w g.part) f.state h
+      (false_from_ne_true (rule.bars l.state j) (λ h. ruled.bars-breaks l.state p j (part-next r.n p j w g.part) f.state h
       (ruled.keeps-front (p ++ (j ∷ [])) w (subst (PartOrder r.n) (sym (snoc-assoc p w j)) g.part) (subst Keeps (sym (snoc-assoc p w j)) g.keeps))))
-      (not_so (has u.allup j) (λ h. (part-tail r.n p (j ∷ w) g.part).1 (fu.all j h)))
+      (false_from_ne_true (has u.allup j) (λ h. (part-tail r.n p (j ∷ w) g.part).1 (fu.all j h)))
       (le-ltb (ones (bit_or u.someup (one j))) (suc (length w))
       (ones_in r.n (bit_or u.someup (one j)) (j ∷ w) (part-tail r.n p (j ∷ w) g.part) (climb-fits u j w fu).some))
     where
