@@ -127,11 +127,6 @@ ones-within a b h = within-upto a a b (le_refl a) h
 
 -- ---- the set of a list
 
-pub set-has : (w : List ℕ) (j : ℕ) → In j w → Has (setOf w) j
-set-has [] j h = absurd h
-set-has (x ∷ w) j h =
-    ⊎_elim (λ e. subst (λ (k : ℕ). Has (bit_or (setOf w) (2 ^ x)) k) (sym e) (has-added (setOf w) x)) (λ r. has_left (setOf w) (2 ^ x) j (set-has w j r)) h
-
 pub has-set : (w : List ℕ) (j : ℕ) → Has (setOf w) j → In j w
 has-set [] j h = has-none j h
 has-set (x ∷ w) j h = ⊎_elim inl (λ r. inr (has-set w j r)) (has_more (setOf w) x j h)

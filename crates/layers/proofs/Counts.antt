@@ -1,13 +1,12 @@
 -- A sweep adds no arc; so refine's last sweeps end with one that answers 0. A tied diagram is left as it is by tidying.
 use Rattle.std.proofs.Common.{◌≡◌, ℕ, zero, suc, ◌+◌, ◌-◌, ◌<◌, ◌≤◌, Bool, true, false, cond, not, ◌&&◌, eqb, List, [], ◌∷◌, length, get_or, Some, None, Option, sym, refl, ap, ◌∙◌, ap₂, le_of_suc-le-suc, not-suc-le-zero, arith}
-use Rattle.std.proofs.lemmas.Bool.{not-true, eqb-true, eqb-false, and_parts}
+use Rattle.std.proofs.lemmas.Bool.{false≢true, not-true, eqb-true, eqb-false, and_parts}
 use Rattle.round.specs.declared.table.Round.{Round}
 use Rattle.rules.specs.Rules.{RuleSense}
 use Rattle.tallies.specs.Tallies.{TallySense}
 use Rattle.layers.specs.Flow.{Outs, Layer, Net, node, target, width, eachDoor, eachNode, redirect, countDoors, countLayer, countArcs, everyDoor, everyArc, up, Mark, marksNext, marksUp, flags, rank, compress, renumber, tidy, tidied, Led, Tied}
 use Rattle.layers.specs.Labels.{Lab, firsts, labelsNext, barred, ups}
 use Rattle.layers.proofs.Flows.{has-arc, mark-next, flags-at, renumber-at}
-use Rattle.layers.proofs.Ways.{clashing}
 use Rattle.layers.proofs.Model.{sweeps, sweep, swept, settles, settled, agrees, quiet}
 use Rattle.layers.proofs.Exact.{everyArc-at}
 use Rattle.layers.proofs.Tied.{climbs}
@@ -88,19 +87,19 @@ redirect-same f L h = eachNode-same f 0 L (λ a j b e. ap (λ (z : ℕ). f z j b
 compress-all : (fs : List Bool) (L : Layer) → ((a : ℕ) → a < length L → get_or fs a false ≡ true) → compress fs L ≡ L
 unfolding compress
 compress-all [] [] h = refl
-compress-all [] (x ∷ L) h = clashing (sym (h 0 (omega arith)))
+compress-all [] (x ∷ L) h = absurd (false≢true (h 0 (omega arith)))
 compress-all (f ∷ fs) [] h = refl
 compress-all (true ∷ fs) (x ∷ L) h = ap (λ (y : Layer). x ∷ y) (compress-all fs L (λ a k. h (suc a) (omega arith)))
-compress-all (false ∷ fs) (x ∷ L) h = clashing (sym (h 0 (omega arith)))
+compress-all (false ∷ fs) (x ∷ L) h = absurd (false≢true (h 0 (omega arith)))
 
 rank-all : (fs : List Bool) (b : ℕ) → ((c : ℕ) → c < b → get_or fs c false ≡ true) → rank fs b ≡ b
 unfolding rank
 rank-all [] zero h = refl
-rank-all [] (suc b) h = clashing (sym (h 0 (omega arith)))
+rank-all [] (suc b) h = absurd (false≢true (h 0 (omega arith)))
 rank-all (true ∷ fs) zero h = refl
 rank-all (false ∷ fs) zero h = refl
 rank-all (true ∷ fs) (suc b) h = ap suc (rank-all fs b (λ c k. h (suc c) (omega arith)))
-rank-all (false ∷ fs) (suc b) h = clashing (sym (h 0 (omega arith)))
+rank-all (false ∷ fs) (suc b) h = absurd (false≢true (h 0 (omega arith)))
 
 end-up : (b : ℕ) → b < 1 → get_or (marksUp []) b None ≡ Some tt
 unfolding marksUp

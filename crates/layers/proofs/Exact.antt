@@ -2,7 +2,7 @@
 use Rattle.std.proofs.Common.{◌≡◌, ℕ, zero, suc, ◌+◌, ◌-◌, ◌<◌, ◌≤◌, Bool, true, false, cond, not, eqb, ltb, List, [], ◌∷◌, ◌++◌, length, get_or, Some, None, fold, Option, sym, refl, ap, ◌∙◌, subst, inl, inr, append-nil, not-suc-le-zero, arith}
 use lib.Bits.{bit_and, bit_or, and_self, or_self}
 use lib.Count.{ones}
-use Rattle.std.proofs.lemmas.Bool.{not-true, ltb-false, eqb-true, eqb-false, ne_eqb, and_parts, or_parts}
+use Rattle.std.proofs.lemmas.Bool.{true≢false, not-true, ltb-false, eqb-true, eqb-false, ne_eqb, and_parts, or_parts}
 use Rattle.doors.proofs.Orders.{each_none, each_more}
 use Rattle.doors.specs.Orders.{Door, In}
 use Rattle.doors.specs.Sets.{has}
@@ -21,7 +21,7 @@ use Rattle.layers.specs.Labels.{one, leg, ups, Lab, first, arrive, merge, firsts
 use Rattle.layers.specs.Calls.{Call, EachCut, Sweep, Part, Join, Cut, Refine}
 use Rattle.layers.proofs.Flows.{Among, table-long, From, inside, ins-in, ins-from, next-some, next-within, next-at}
 use Rattle.layers.proofs.Sets.{or_left, or_right, one-self}
-use Rattle.layers.proofs.Ways.{in_split, clashing, trip-snoc, state-snoc, length-snoc, snoc-assoc, leg-one}
+use Rattle.layers.proofs.Ways.{in_split, trip-snoc, state-snoc, length-snoc, snoc-assoc, leg-one}
 use Rattle.layers.proofs.Model.{sweeps, sweep, cuts, cut, part_at, agreed, agrees, quiet, settles, settled, after, bound, valueO}
 use Rattle.layers.proofs.Walk.{NeatLayer, Neat, neat-door, path-length, Told, told_none, told-next}
 use Rattle.layers.proofs.Shapes.{neat-tidied, neat-join, neat-part, neat-sweeps, neat-cuts}
@@ -211,7 +211,7 @@ module _ {S V : Type 0} {Keeps : List ℕ → Type 0} {Stands : S → List ℕ �
     pub free : rule.bars l.state j ≡ false
 
   clear : (i h j : ℕ) (l : Lab r rule tally) (u : Option Up) → barred r rule tally i h j (Some l) u ≡ false → Clear l j
-  clear i h j l None e = clashing e
+  clear i h j l None e = absurd (true≢false e)
   clear i h j l (Some u) e =
       let a = or_parts (has l.all j) _ e in
       let b = or_parts (ltb (ones (bit_or l.some (one j))) (suc i)) _ a.1 in
@@ -228,7 +228,7 @@ module _ {S V : Type 0} {Keeps : List ℕ → Type 0} {Stands : S → List ℕ �
   onward : (l : Lab r rule tally) (p : List ℕ) (j : ℕ) → length p < 16 → Door r.n j → Sound p → Exact l p → Clear l j → Onward l p j
   unfolding arrive
   onward l p j k d s e c =
-      let n : ¬ In j p = λ i. clashing (sym (e.all j i) ∙ c.new) in
+      let n : ¬ In j p = λ i. absurd (true≢false (sym (e.all j i) ∙ c.new)) in
       let z = trip-snoc r tally p j in
       let t = s.told in
       let g : leg r l.lasts j ≡ drive r (tripAfter r tally p).van.last j =

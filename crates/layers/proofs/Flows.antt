@@ -166,7 +166,7 @@ compress-at (false ∷ fs) (x ∷ xs) zero e = absurd cc
 compress-at (true ∷ fs) (x ∷ xs) (suc a) e = compress-at fs xs a e
 compress-at (false ∷ fs) (x ∷ xs) (suc a) e = compress-at fs xs a e
 
-rank-zero : (fs : List Bool) → rank fs 0 ≡ 0
+pub rank-zero : (fs : List Bool) → rank fs 0 ≡ 0
 unfolding rank
 rank-zero [] = refl
 rank-zero (true ∷ fs) = refl

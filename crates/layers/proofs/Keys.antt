@@ -1,7 +1,7 @@
 -- A key for each node of the first layers, such that every arc leads from key to key: so the in-arcs there agree, whichever arcs go, and however nodes are renumbered or parted.
 use Rattle.std.proofs.Common.{◌≡◌, ℕ, zero, suc, ◌<◌, ◌≤◌, Bool, true, false, cond, ◌&&◌, eqb, List, [], ◌∷◌, ◌++◌, length, get_or, Some, None, Option, sym, refl, ap, ◌∙◌, subst, inl, inr, arith}
 use lib.Bits.{bit_and, bit_or, and_self, or_self}
-use Rattle.std.proofs.lemmas.Bool.{eqb-true, eq-eqb, ne_eqb, and_parts}
+use Rattle.std.proofs.lemmas.Bool.{false≢true, eqb-true, eq-eqb, ne_eqb, and_parts}
 use Rattle.round.specs.declared.table.Round.{Round}
 use Rattle.round.specs.Clock.{finish}
 use Rattle.rules.specs.Rules.{RuleLaws, RuleSense}
@@ -9,7 +9,7 @@ use Rattle.tallies.specs.Tallies.{TallySense}
 use Rattle.layers.specs.Flow.{Outs, Layer, Net, node, target, width, redirect, ins, Mark, marksNext, marksUp, flags, rank, compress, renumber, tidy, tidied, Tied}
 use Rattle.layers.specs.Labels.{one, leg, ups, Lab, first, firsts, arrive, merge, labelsNext, barred, agree, agreeAll, agreeing, headO, leaves}
 use Rattle.layers.proofs.Flows.{Among, has-arc, ins-from, next-some, gather-all, compress-at}
-use Rattle.layers.proofs.Ways.{length-snoc, clashing}
+use Rattle.layers.proofs.Ways.{length-snoc}
 use Rattle.layers.proofs.Model.{sweeps, sweep, part_at, agreed, agrees}
 use Rattle.layers.proofs.Tied.{redirect-back, compress-back, renumber-back}
 use Rattle.layers.proofs.Ties.{more-back}
@@ -33,9 +33,9 @@ unrank (false ∷ fs) c = suc (unrank fs c)
 
 unrank-rank : (fs : List Bool) (b : ℕ) → get_or fs b false ≡ true → unrank fs (rank fs b) ≡ b
 unfolding rank unrank
-unrank-rank [] b e = clashing (sym e)
+unrank-rank [] b e = absurd (false≢true e)
 unrank-rank (true ∷ fs) zero e = refl
-unrank-rank (false ∷ fs) zero e = clashing (sym e)
+unrank-rank (false ∷ fs) zero e = absurd (false≢true e)
 unrank-rank (true ∷ fs) (suc b) e = ap suc (unrank-rank fs b e)
 unrank-rank (false ∷ fs) (suc b) e = ap suc (unrank-rank fs b e)
 

@@ -1,6 +1,6 @@
 -- The claim: first on the arcs, then on the records that a run leaves.
 use Rattle.std.proofs.Common.{◌≡◌, ℕ, ◌+◌, ◌*◌, ◌≤◌, Bool, true, false, ◌&&◌, eqb, List, [], ◌∷◌, ◌++◌, drop, Some, None, Option, sym, ap, ◌∙◌, subst, inl, inr, arith}
-use Rattle.std.proofs.lemmas.Bool.{both_ways, not-true, not-false}
+use Rattle.std.proofs.lemmas.Bool.{true≢false, both_ways, not-true, not-false}
 use Rattle.round.specs.declared.table.Round.{Round}
 use Rattle.rules.specs.Rules.{RuleLaws, RuleSense}
 use Rattle.tallies.specs.Tallies.{TallyLaws, TallySense}
@@ -12,7 +12,6 @@ use Rattle.layers.specs.Labels.{opened}
 use Rattle.layers.specs.Records.{laid}
 use Rattle.layers.specs.Calls.{Call, nodes, arcs, relaid, agreedAll, sweepAnswer, bound, must, settled}
 use Rattle.layers.specs.Claim.{IsPath, Must-means, Nothing-lost, Nothing-false, Sure, Kept, Worked-out, Settled-means}
-use Rattle.layers.proofs.Ways.{clashing}
 use Rattle.layers.proofs.Model.{after, bound as boundOf, must as mustOf, settled as settled_of}
 use Rattle.layers.proofs.Calls.{still, bound-below}
 use Rattle.layers.proofs.Seeks.{seen, sought, all_there, one-ahead}
@@ -54,7 +53,7 @@ module _ {S V : Type 0} {Keeps : List ℕ → Type 0} {Stands : S → List ℕ �
     must-yes = λ i j di dj ne e w o. let s = still r rule ruled tally tallied W w o.0 cs o.1 in
         elim (one-ahead i j w ne (all_there r.n w o.0.whole o.0.part i di) (all_there r.n w o.0.whole o.0.part j dj)) [
           | inl h ↦ h
-          | inr h ↦ clashing (sym (seen D j i w s.1 h) ∙ not-true (seeks D 0 (j ∷ i ∷ [])) (of-must i j true e))
+          | inr h ↦ absurd (true≢false (sym (seen D j i w s.1 h) ∙ not-true (seeks D 0 (j ∷ i ∷ [])) (of-must i j true e)))
         ];
   }
 

@@ -1,11 +1,10 @@
 -- Must: paths that have one door ahead of another.
 use Rattle.std.proofs.Common.{◌≡◌, ℕ, zero, suc, ◌+◌, ◌-◌, Bool, true, false, cond, eqb, ◌⊎◌, List, [], ◌∷◌, length, get_or, fold, sym, refl, ap, ◌∙◌, subst, inl, inr, arith}
-use Rattle.std.proofs.lemmas.Bool.{eqb-true, eqb-false, eq-eqb, and_parts, or_cases, or_left, or_right}
+use Rattle.std.proofs.lemmas.Bool.{false≢true, eqb-true, eqb-false, eq-eqb, and_parts, or_cases, or_left, or_right}
 use Rattle.doors.proofs.Sets.{part_length}
 use Rattle.doors.specs.Orders.{In, Door, PartOrder}
 use Rattle.layers.specs.Flow.{Outs, Net, node, Path-from, hit, isNil, anyDoor, seeks}
 use Rattle.layers.specs.Claim.{Ahead}
-use Rattle.layers.proofs.Ways.{clashing}
 
 any-in : (f : ℕ → ℕ → Bool) (j : ℕ) (ts : Outs) (k m b : ℕ) → j + k ≡ m → get_or ts k 0 ≡ suc b → f m b ≡ true → anyDoor f j ts ≡ true
 unfolding anyDoor
@@ -17,7 +16,7 @@ any-in f j (suc c ∷ ts) (suc k) m b h e t = or_right (f j c) (anyDoor f (suc j
 
 any-from : (f : ℕ → ℕ → Bool) (j : ℕ) (ts : Outs) → anyDoor f j ts ≡ true → (k : ℕ) × (b : ℕ) × (get_or ts k 0 ≡ suc b) × (f (j + k) b ≡ true)
 unfolding anyDoor
-any-from f j [] e = clashing (sym e)
+any-from f j [] e = absurd (false≢true e)
 any-from f j (zero ∷ ts) e = let q = any-from f (suc j) ts e in (suc q.0, q.1, q.2, ap (λ (x : ℕ). f x q.1) (omega arith) ∙ q.3)
 any-from f j (suc c ∷ ts) e = go (or_cases (f j c) (anyDoor f (suc j) ts) e) (λ h. any-from f (suc j) ts h)
   where
@@ -28,7 +27,7 @@ any-from f j (suc c ∷ ts) e = go (or_cases (f j c) (anyDoor f (suc j) ts) e) (
 
 nil_is : (gs : List ℕ) → isNil gs ≡ true → gs ≡ []
 nil_is [] e = refl
-nil_is (g ∷ gs) e = clashing (sym e)
+nil_is (g ∷ gs) e = absurd (false≢true e)
 
 seeks-in : (Ls : Net) (a : ℕ) (gs w : List ℕ) → Path-from Ls a w → fold hit gs w ≡ [] → seeks Ls a gs ≡ true
 unfolding seeks

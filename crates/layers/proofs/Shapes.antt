@@ -1,6 +1,6 @@
 -- Part and join keep every path; all calls keep the doors of arcs within the round's.
 use Rattle.std.proofs.Common.{◌≡◌, ℕ, zero, suc, ◌+◌, ◌-◌, ◌<◌, ◌≤◌, Bool, true, false, cond, not, ◌&&◌, eqb, ltb, List, [], ◌∷◌, ◌++◌, length, get_or, set, Some, None, Option, sym, refl, ap, ◌∙◌, subst, inl, inr, le_of_suc-le-suc, not-suc-le-zero, arith}
-use Rattle.std.proofs.lemmas.Bool.{ltb-true, ltb-false, eqb-true, eqb-false, and_parts, or_parts}
+use Rattle.std.proofs.lemmas.Bool.{true≢false, ltb-true, ltb-false, eqb-true, eqb-false, and_parts, or_parts}
 use Rattle.std.proofs.lemmas.List.{get_or_append_left, get_or_push, get_or-set_same, get_or-set_other}
 use Rattle.round.specs.declared.table.Round.{Round}
 use Rattle.rules.specs.Rules.{RuleSense}
@@ -8,7 +8,6 @@ use Rattle.tallies.specs.Tallies.{TallySense}
 use Rattle.layers.specs.Flow.{Outs, Layer, Net, node, target, width, Path-from, eachDoor, eachNode, redirect, Mark, marksNext, marksUp, flags, compress, renumber, tidy, tidied, pickT, bothOut, apart_t, clash, dropAt, moved, joinAt, ins}
 use Rattle.layers.specs.Labels.{Lab, arrive, labelsNext, leaves, headO, barred, dear, ups}
 use Rattle.layers.proofs.Flows.{among-split, redirect-arc, has-arc}
-use Rattle.layers.proofs.Ways.{clashing}
 use Rattle.layers.proofs.Model.{part_at, sweeps, cuts}
 use Rattle.layers.proofs.Walk.{NeatLayer, Neat}
 
@@ -74,7 +73,7 @@ pick-right (suc s) (suc t) c n e = go (eqb s t) refl n
   where
     go : (q : Bool) → eqb s t ≡ q → not q ≡ false → suc s ≡ suc c
     go true h m = let x = eqb-true s t h in omega arith
-    go false h m = clashing m
+    go false h m = absurd (true≢false m)
 
 both_left : (x y : Outs) (k c : ℕ) → get_or x k 0 ≡ suc c → get_or (bothOut x y) k 0 ≡ suc c
 unfolding bothOut

@@ -1,11 +1,10 @@
 -- After tidying, every node lies on a path.
 use Rattle.std.proofs.Common.{◌≡◌, ℕ, zero, suc, ◌+◌, ◌-◌, ◌<◌, Bool, true, false, cond, List, [], ◌∷◌, map, length, get_or, Some, None, Option, sym, refl, ap, ◌∙◌, subst, inl, inr, le_of_suc-le-suc, not-suc-le-zero, arith}
 use lib.ListN.{length-map}
-use Rattle.std.proofs.lemmas.Bool.{and_parts}
+use Rattle.std.proofs.lemmas.Bool.{false≢true, and_parts}
 use Rattle.std.proofs.lemmas.Option.{none-some}
 use Rattle.layers.specs.Flow.{Outs, Layer, Net, node, target, width, is_some, eachDoor, eachNode, redirect, ins, gather, read, consO, outs, up, Mark, marksNext, marksUp, flags, rank, compress, renumber, tidy, tidied, Ranged, Led, Tied}
 use Rattle.layers.proofs.Flows.{Among, gather-any, outs-from, Climbs, map-some, redirect-arc, has-arc, ins-from, next-some, up_at, mark-next, flags-at, compress-at, renumber-at}
-use Rattle.layers.proofs.Ways.{clashing}
 
 -- ---- redirecting, backwards
 eachDoor-back : (f : ℕ → ℕ → ℕ) (j : ℕ) (ts : Outs) (k m c : ℕ) → j + k ≡ m → get_or (eachDoor f j ts) k 0 ≡ suc c → (b : ℕ) × (get_or ts k 0 ≡ suc b) × (f m b ≡ suc c)
@@ -38,14 +37,14 @@ unfolding redirect
 redirect-length f L = eachNode-length f 0 L
 
 -- ---- flags
-some_of : (o : Option Mark) → is_some o ≡ true → o ≡ Some tt
-some_of None e = clashing (sym e)
+pub some_of : (o : Option Mark) → is_some o ≡ true → o ≡ Some tt
+some_of None e = absurd (false≢true e)
 some_of (Some tt) e = refl
 
-flags-back : (fr us : List (Option Mark)) (a : ℕ) → get_or (flags fr us) a false ≡ true → (get_or fr a None ≡ Some tt) × (get_or us a None ≡ Some tt)
+pub flags-back : (fr us : List (Option Mark)) (a : ℕ) → get_or (flags fr us) a false ≡ true → (get_or fr a None ≡ Some tt) × (get_or us a None ≡ Some tt)
 unfolding flags
-flags-back [] us a e = clashing (sym e)
-flags-back (x ∷ fr) [] a e = clashing (sym e)
+flags-back [] us a e = absurd (false≢true e)
+flags-back (x ∷ fr) [] a e = absurd (false≢true e)
 flags-back (x ∷ fr) (u ∷ us) zero e = let q = and_parts (is_some x) (is_some u) e in (some_of x q.0, some_of u q.1)
 flags-back (x ∷ fr) (u ∷ us) (suc a) e = flags-back fr us a e
 
@@ -61,10 +60,10 @@ ups-length (L ∷ Ls) = length-map L (λ nd. gather {A = Mark} (λ x y. tt) (out
 
 rank_lt : (fs : List Bool) (X : Layer) (b : ℕ) → get_or fs b false ≡ true → b < length X → rank fs b < length (compress fs X)
 unfolding rank compress
-rank_lt [] X b e h = clashing (sym e)
+rank_lt [] X b e h = absurd (false≢true e)
 rank_lt (f ∷ fs) [] b e h = absurd (not-suc-le-zero h)
 rank_lt (true ∷ fs) (x ∷ X) zero e h = omega arith
-rank_lt (false ∷ fs) (x ∷ X) zero e h = clashing (sym e)
+rank_lt (false ∷ fs) (x ∷ X) zero e h = absurd (false≢true e)
 rank_lt (true ∷ fs) (x ∷ X) (suc b) e h = let q = rank_lt fs X b e (le_of_suc-le-suc h) in omega arith
 rank_lt (false ∷ fs) (x ∷ X) (suc b) e h = rank_lt fs X b e (le_of_suc-le-suc h)
 

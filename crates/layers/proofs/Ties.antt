@@ -1,6 +1,6 @@
 -- Opening, part and join keep every node on a path.
 use Rattle.std.proofs.Common.{◌≡◌, ℕ, zero, suc, ◌+◌, ◌-◌, ◌<◌, ◌≤◌, Bool, true, false, cond, not, ◌&&◌, eqb, ltb, ◌⊎◌, List, [], ◌∷◌, ◌++◌, length, get_or, set, Some, None, Option, sym, refl, ap, ◌∙◌, subst, inl, inr, le_of_suc-le-suc, not-suc-le-zero, arith, length-append, length-set}
-use Rattle.std.proofs.lemmas.Bool.{ltb-true, ltb-false, eqb-true, lt-ltb, eq-eqb, ne_eqb, cases_lt, cases_eq, and_cases}
+use Rattle.std.proofs.lemmas.Bool.{true≢false, ltb-true, ltb-false, eqb-true, lt-ltb, eq-eqb, ne_eqb, cases_lt, cases_eq, and_cases}
 use Rattle.std.proofs.lemmas.List.{get_or_append_left, get_or_push, get_or-set_same, get_or-set_other}
 use Rattle.round.specs.declared.table.Round.{Round}
 use Rattle.rules.specs.Rules.{RuleSense}
@@ -9,7 +9,7 @@ use Rattle.layers.specs.Flow.{table, Outs, Layer, Net, node, target, redirect, i
 use Rattle.layers.specs.Labels.{Lab, arrive, labelsNext, agree, agreeAll, agreeing, leaves, headO, opened, allDoors}
 use Rattle.layers.specs.Calls.{partedAt}
 use Rattle.layers.proofs.Flows.{Among, redirect-arc, has-arc, table_at, From, ins-from}
-use Rattle.layers.proofs.Ways.{length-snoc, clashing}
+use Rattle.layers.proofs.Ways.{length-snoc}
 use Rattle.layers.proofs.Model.{part_at, oneGroup}
 use Rattle.layers.proofs.Shapes.{drop-below, drop-above, join-node}
 use Rattle.layers.proofs.Tied.{redirect-back, redirect-length}
@@ -85,18 +85,26 @@ module _ {S V : Type 0} (r : Round) (rule : RuleSense S) (self : (s : S) → rul
 
   odd-one : (x : Lab r rule tally) (l : List (Lab r rule tally)) → agreeAll r rule tally x l ≡ false → (y : Lab r rule tally) × Among y l × (agree r rule tally x y ≡ false)
   unfolding agreeAll
-  odd-one x [] e = clashing e
-  odd-one x (y ∷ l) e = go (and_cases (agree r rule tally x y) (agreeAll r rule tally x l) e) (λ h. odd-one x l h)
-    where
-      go : (agree r rule tally x y ≡ false) ⊎ (agreeAll r rule tally x l ≡ false) → (agreeAll r rule tally x l ≡ false → (z : Lab r rule tally) × Among z l × (agree r rule tally x z ≡ false)) → (z : Lab r rule tally) × Among z (y ∷ l) × (agree r rule tally x z ≡ false)
-      go (inl h) f = (y, inl refl, h)
-      go (inr h) f = let q = f h in (q.0, inr q.1, q.2)
+  odd-one x [] e = absurd (true≢false e)
+  odd-one x (y ∷ l) e =
+      elim (and_cases (agree r rule tally x y) (agreeAll r rule tally x l) e) [
+        | inl h ↦ (y, inl refl, h)
+        | inr h ↦ (let q = odd-one x l h in (q.0, inr q.1, q.2))
+      ]
 
   -- two groups: a first arrival, and one that disagrees with it
-  groups : (l : List (Lab r rule tally)) → agreeing r rule tally l ≡ false → (x : Lab r rule tally) × (headO r rule tally l ≡ Some x) × Among x l × (y : Lab r rule tally) × Among y l × (agree r rule tally x y ≡ false)
+  record Groups (l : List (Lab r rule tally)) : Type 0 where
+    one : Lab r rule tally
+    is_first : headO r rule tally l ≡ Some one
+    one_in : Among one l
+    other : Lab r rule tally
+    other_in : Among other l
+    differ : agree r rule tally one other ≡ false
+
+  groups : (l : List (Lab r rule tally)) → agreeing r rule tally l ≡ false → Groups l
   unfolding agreeing
-  groups [] e = clashing e
-  groups (x ∷ l) e = let q = odd-one x l e in (x, refl, inl refl, q.0, inr q.1, q.2)
+  groups [] e = absurd (true≢false e)
+  groups (x ∷ l) e = let q = odd-one x l e in record { one = x; is_first = refl; one_in = inl refl; other = q.0; other_in = inr q.1; differ = q.2 }
 
   module _ (a : ℕ) (labs : List (Option (Lab r rule tally))) (L M : Layer) (inn : a < length M) (two : agreeing r rule tally (ins (arrive r rule tally) a labs L) ≡ false) where
     abbrev h : Option (Lab r rule tally)
@@ -124,21 +132,21 @@ module _ {S V : Type 0} (r : Round) (rule : RuleSense S) (self : (s : S) → rul
     part-fed : Fed L (length M) → Fed (redirect f L) (length (M ++ (node M a ∷ [])))
     part-fed g c k = new (ltb c (length M)) refl (eqb c a) refl
       where
-        two' : (x : Lab r rule tally) × (h ≡ Some x) × Among x (ins (arrive r rule tally) a labs L) × (y : Lab r rule tally) × Among y (ins (arrive r rule tally) a labs L) × (agree r rule tally x y ≡ false)
+        two' : Groups (ins (arrive r rule tally) a labs L)
         two' = groups (ins (arrive r rule tally) a labs L) two
 
         new : (p : Bool) → ltb c (length M) ≡ p → (q : Bool) → eqb c a ≡ q → (u : ℕ) × (j : ℕ) × (target (node (redirect f L) u) j ≡ suc c)
         new true e true d =
-            let x = two'.0 in
-            let w = ins-from (arrive r rule tally) a labs L x two'.2 in
-            (w.source, w.door, moves-to w.source w.door a false w.arc (at_a x x two'.1 w ∙ ap not (agree-self x)) ∙ ap suc (sym (eqb-true c a d)))
+            let x = two'.one in
+            let w = ins-from (arrive r rule tally) a labs L x two'.one_in in
+            (w.source, w.door, moves-to w.source w.door a false w.arc (at_a x x two'.is_first w ∙ ap not (agree-self x)) ∙ ap suc (sym (eqb-true c a d)))
         new true e false d =
             let s = g c (ltb-true c (length M) e) in
             (s.0, s.1, moves-to s.0 s.1 c false s.2 (ap (λ (z : Bool). z && leaves r rule tally h (get_or labs s.0 None) s.1) d))
         new false e q d =
-            let w = ins-from (arrive r rule tally) a labs L two'.3 two'.4 in
+            let w = ins-from (arrive r rule tally) a labs L two'.other two'.other_in in
             let z : c ≡ length M = omega (arith, length-snoc M (node M a), ltb-false c (length M) e) in
-            (w.source, w.door, moves-to w.source w.door a true w.arc (at_a two'.0 two'.3 two'.1 w ∙ ap not two'.5) ∙ ap suc (sym z))
+            (w.source, w.door, moves-to w.source w.door a true w.arc (at_a two'.one two'.other two'.is_first w ∙ ap not two'.differ) ∙ ap suc (sym z))
 
     part-led : Led L → Led (redirect f L)
     part-led g u k =

@@ -41,7 +41,7 @@ node-among [] a h = absurd (not-suc-le-zero h)
 node-among (nd ∷ L) zero h = inl refl
 node-among (nd ∷ L) (suc a) h = inr (node-among L a (le_of_suc-le-suc h))
 
-door-at : (ts : Outs) (k b : ℕ) → get_or ts k 0 ≡ suc b → k < length ts
+pub door-at : (ts : Outs) (k b : ℕ) → get_or ts k 0 ≡ suc b → k < length ts
 door-at [] k b e = absurd (omega arith)
 door-at (t ∷ ts) zero b e = omega arith
 door-at (t ∷ ts) (suc k) b e = let h = door-at ts k b e in omega arith

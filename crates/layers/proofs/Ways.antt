@@ -61,10 +61,6 @@ timely-from r p (j ∷ w) h = (
   subst (λ (a : Van). TimelyFrom r a w) (van-snoc r p j) (timely-from r (p ++ (j ∷ [])) w (subst (Timely r) (sym (snoc-assoc p w j)) h)),
 )
 
--- ---- tests
-pub clashing : {X : Type 0} → true ≡ false → X
-clashing e = absurd cc
-
 -- ---- legs
 -- the places i, i + 1, .. , k of them, after what is known from those below
 abbrev legs : Round → ℕ → ℕ → ℕ → ℕ → Option ℕ → Option ℕ

@@ -1,6 +1,6 @@
 -- Refine that answers whole leaves a settled diagram: each layer that it has parted through has keys, and keeps them while later layers are swept and parted.
 use Rattle.std.proofs.Common.{◌≡◌, ℕ, zero, suc, ◌+◌, ◌-◌, ◌*◌, ◌<◌, ◌≤◌, Bool, true, false, cond, not, ◌&&◌, eqb, leb, ◌⊎◌, List, [], ◌∷◌, length, get_or, drop, Some, None, Option, sym, refl, ap, ◌∙◌, subst, inl, inr, not-suc-le-zero, arith}
-use Rattle.std.proofs.lemmas.Bool.{not-false, leb-true, leb-false, eqb-true, eqb-false, eq-eqb, cases_eq}
+use Rattle.std.proofs.lemmas.Bool.{true≢false, not-false, leb-true, leb-false, eqb-true, eqb-false, eq-eqb, cases_eq}
 use Rattle.round.specs.declared.table.Round.{Round}
 use Rattle.rules.specs.Rules.{RuleLaws, RuleSense}
 use Rattle.tallies.specs.Tallies.{TallySense}
@@ -11,7 +11,6 @@ use Rattle.layers.specs.Records.{orBlank}
 use Rattle.layers.specs.Calls.{Refine, refined, settled}
 use Rattle.layers.specs.Claim.{Whole-settles}
 use Rattle.layers.proofs.Flows.{Among, From, has-arc, ins-in, ins-from, next-some, next-at, gather-all}
-use Rattle.layers.proofs.Ways.{clashing}
 use Rattle.layers.proofs.Model.{sweep, part_at, oneGroup, count, swept, parted, refines, refine, act, after, settled as settled_of}
 use Rattle.layers.proofs.Calls.{either}
 use Rattle.layers.proofs.Counts.{sweep-fewer, settled-yes, settled-if}
@@ -142,7 +141,7 @@ module _ {S V : Type 0} {Keeps : List ℕ → Type 0} {Stands : S → List ℕ �
     parted-keyed (suc k) d a Ls u p q g =
         either Done (leb (count r rule tally (suc d) Ls) a) (false, Ls) _ (λ x e. through d Ls p q (λ b h. g b (omega (arith, leb-true (count r rule tally (suc d) Ls) a x)))) (λ x.
         either Done (oneGroup r rule tally (suc d - 1) a (firsts r rule tally) Ls) (parted r rule tally W k (suc d) (suc a) Ls) _ (λ y. parted-keyed k d (suc a) Ls (omega arith) p q (one_more (λ b. oneGroup r rule tally d b (firsts r rule tally) Ls ≡ true) a g (group true y))) (λ y.
-        either Done (leb W (count r rule tally (suc d) Ls)) (true, Ls) (parted r rule tally W k (suc d) (suc a) (P (suc d - 1))) (λ z e. clashing e) (λ z.
+        either Done (leb W (count r rule tally (suc d) Ls)) (true, Ls) (parted r rule tally W k (suc d) (suc a) (P (suc d - 1))) (λ z e. absurd (true≢false e)) (λ z.
         let inn = leb-false (count r rule tally (suc d) Ls) a x in
         subst (λ (m : ℕ). Done (parted r rule tally W k (suc d) (suc a) (P m))) (sym less)
         (parted-keyed k d (suc a) (P d) (omega arith) (proper-part r rule ruled.same_self tally W w d a Ls inn (leb-false W (count r rule tally (suc d) Ls) z) (group false y) p) (keyed-part r rule ruled tally d d a Ls p.tied q) (part-groups d a (firsts r rule tally) Ls inn g)))))

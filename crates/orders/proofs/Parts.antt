@@ -14,9 +14,6 @@ pub record Seen (n set : ℕ) (w : List ℕ) : Type 0 where
   pub has_in : (j : ℕ) → Has set j → In j w
   pub in-has : (j : ℕ) → In j w → Has set j
 
-pub seen_none : (n : ℕ) → Seen n 0 []
-seen_none n = record { part = tt; has_in = λ j h. absurd (has-none j h); in-has = λ j h. absurd h }
-
 seen_last : (n set : ℕ) (w : List ℕ) (j : ℕ) → Seen n set w → Door n j → (Has set j → ⊥) → Seen n (bit_or set (2 ^ j)) (w ++ j ∷ [])
 seen_last n set w j s d new = record {
   part = next-part n w j s.part d (λ h. new (s.in-has j h));

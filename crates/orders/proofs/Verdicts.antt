@@ -16,19 +16,6 @@ use Rattle.orders.specs.Allowed.{Allowed}
 use Rattle.orders.specs.Times.{yard, goes, vanAfter, finishOf, Timely}
 use Rattle.orders.specs.Verdicts.{verdictFrom, Fault, Judged}
 
-module _ {S : Type 0} (r : Round) (R : RuleSense S) (a : Van) (s : S) (w : List ℕ) (i : ℕ) where
-  next : i < length w → verdictFrom r R a s (drop i w) ≡ verdictFrom r R a s (get_or w i 0 ∷ drop (i + 1) w)
-  next h = ap (verdictFrom r R a s) (drop_more w i 0 h)
-
-  pub closes_at : i < length w → ltb (door r (get_or w i 0)).closes (goes r a (get_or w i 0)).finish ≡ true → verdictFrom r R a s (drop i w) ≡ is.Closes (get_or w i 0)
-  closes_at h e = next h ∙ cond-true _ _ _ e
-
-  pub breaks-at : i < length w → ltb (door r (get_or w i 0)).closes (goes r a (get_or w i 0)).finish ≡ false → R.bars s (get_or w i 0) ≡ true → verdictFrom r R a s (drop i w) ≡ is.Breaks (get_or w i 0)
-  breaks-at h e b = next h ∙ cond-false _ _ _ e ∙ cond-true _ _ _ b
-
-  pub goes_on : i < length w → ltb (door r (get_or w i 0)).closes (goes r a (get_or w i 0)).finish ≡ false → R.bars s (get_or w i 0) ≡ false → verdictFrom r R a s (drop i w) ≡ verdictFrom r R (goes r a (get_or w i 0)) (R.step s (get_or w i 0)) (drop (i + 1) w)
-  goes_on h e b = next h ∙ cond-false _ _ _ e ∙ cond-false _ _ _ b
-
 -- ---- the meaning
 
 module _ {S : Type 0} (r : Round) (R : RuleSense S) (Keeps : List ℕ → Type 0) (Stands : S → List ℕ → Type 0) (rule : RuleLaws r.n R Keeps Stands) where
