@@ -1,5 +1,5 @@
 -- Members, unions and sizes of sets of doors.
-use Rattle.std.proofs.Common.{◌≡◌, ℕ, zero, suc, ◌+◌, ◌-◌, ◌*◌, ◌/◌, ◌%◌, ◌^◌, ◌<◌, ◌≤◌, min, max, true, false, ◌⊎◌, List, [], ◌∷◌, ◌++◌, length, sym, refl, ap, ◌∙◌, subst, inl, inr, ⊎_elim, le_refl, pow-suc, div-one, one-add, arith, pow_pos, shr-shr}
+use Rattle.std.proofs.Common.{◌≡◌, ℕ, zero, suc, ◌+◌, ◌*◌, ◌/◌, ◌%◌, ◌^◌, ◌<◌, ◌≤◌, min, max, true, false, ◌⊎◌, List, [], ◌∷◌, length, sym, refl, ap, ◌∙◌, subst, inl, inr, ⊎_elim, le_refl, pow-suc, one-add, arith, pow_pos, shr-shr}
 use native.Mathlib.Nat.{div_self, zero-div}
 use lib.Bits.{bit_and, bit_or, and_step, or_step, and_shr, or_shr, or_zero_r, or_lt}
 use lib.Count.{ones, ones_step, ones-le}

@@ -4,7 +4,7 @@ use Rattle.std.proofs.lemmas.Bool.{ne_eqb}
 use Rattle.std.proofs.lemmas.List.{drop_at}
 use Rattle.doors.specs.Sets.{has}
 use Rattle.round.specs.declared.table.Round.{Round}
-use Rattle.rules.specs.Rules.{RuleLaws, RuleSense}
+use Rattle.rules.specs.Rules.{RuleSense}
 use Rattle.tallies.specs.Tallies.{TallySense}
 use Rattle.layers.specs.declared.node.Node.{Node}
 use Rattle.layers.specs.declared.node.Up.{Up}
@@ -116,7 +116,7 @@ module _ {S V : Type 0} (r : Round) (rule : RuleSense S) (tally : TallySense V) 
     pub lasting : Lasting labs
 
   lasting-if : (m j : ℕ) → has m j ≡ true → eqb m 0 ≡ false
-  lasting-if m j h = ne_eqb m 0 (λ e. none_has j (subst (λ (z : ℕ). has z j ≡ true) e h))
+  lasting-if m j h = ne_eqb m 0 (λ e. none_has j (rw (← e) h))
 
   filled-first : Filled (firsts r rule tally) 1
   filled-first = record {
@@ -131,7 +131,7 @@ module _ {S V : Type 0} (r : Round) (rule : RuleSense S) (tally : TallySense V) 
       one-there (suc a) h = absurd (not-suc-le-zero (le_of_suc-le-suc h))
 
       once : (a : ℕ) (l : Lab r rule tally) → get_or (firsts r rule tally) a None ≡ Some l → eqb l.lasts 0 ≡ false
-      once zero l e = let x : first r rule tally ≡ l = cc in subst (λ (y : Lab r rule tally). eqb y.lasts 0 ≡ false) x refl
+      once zero l e = let x : first r rule tally ≡ l = cc in rw (← x) refl
       once (suc a) l e = absurd cc
 
   lasting-next : (labs : Labs) (L : Layer) (count : ℕ) → Lasting (labelsNext r rule tally labs L count)

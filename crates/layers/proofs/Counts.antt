@@ -1,13 +1,13 @@
 -- A sweep adds no arc; so refine's last sweeps end with one that answers 0. A tied diagram is left as it is by tidying.
-use Rattle.std.proofs.Common.{◌≡◌, ℕ, zero, suc, ◌+◌, ◌-◌, ◌<◌, ◌≤◌, Bool, true, false, cond, not, ◌&&◌, eqb, List, [], ◌∷◌, length, get_or, Some, None, Option, sym, refl, ap, ◌∙◌, ap₂, le_of_suc-le-suc, not-suc-le-zero, arith}
-use Rattle.std.proofs.lemmas.Bool.{false≢true, not-true, eqb-true, eqb-false, and_parts}
+use Rattle.std.proofs.Common.{◌≡◌, ℕ, zero, suc, ◌+◌, ◌<◌, ◌≤◌, Bool, true, false, cond, not, ◌&&◌, List, [], ◌∷◌, length, get_or, Some, None, Option, refl, ap, ◌∙◌, ap₂, le_of_suc-le-suc, not-suc-le-zero, arith}
+use Rattle.std.proofs.lemmas.Bool.{false≢true, not-true, and_parts}
 use Rattle.round.specs.declared.table.Round.{Round}
 use Rattle.rules.specs.Rules.{RuleSense}
 use Rattle.tallies.specs.Tallies.{TallySense}
 use Rattle.layers.specs.Flow.{Outs, Layer, Net, node, target, width, eachDoor, eachNode, redirect, countDoors, countLayer, countArcs, everyDoor, everyArc, up, Mark, marksNext, marksUp, flags, rank, compress, renumber, tidy, tidied, Led, Tied}
 use Rattle.layers.specs.Labels.{Lab, firsts, labelsNext, barred, ups}
 use Rattle.layers.proofs.Flows.{has-arc, mark-next, flags-at, renumber-at}
-use Rattle.layers.proofs.Model.{sweeps, sweep, swept, settles, settled, agrees, quiet}
+use Rattle.layers.proofs.Model.{sweeps, sweep, settles, settled, agrees, quiet}
 use Rattle.layers.proofs.Exact.{everyArc-at}
 use Rattle.layers.proofs.Tied.{climbs}
 

@@ -1,5 +1,5 @@
 -- While settled answers yes, the labels are exact, so every path is an allowed order and the bound is the least cost.
-use Rattle.std.proofs.Common.{◌≡◌, ℕ, zero, suc, ◌+◌, ◌-◌, ◌<◌, ◌≤◌, Bool, true, false, cond, not, eqb, ltb, List, [], ◌∷◌, ◌++◌, length, get_or, Some, None, fold, Option, sym, refl, ap, ◌∙◌, subst, inl, inr, append-nil, not-suc-le-zero, arith}
+use Rattle.std.proofs.Common.{◌≡◌, ℕ, zero, suc, ◌+◌, ◌<◌, ◌≤◌, Bool, true, false, cond, not, eqb, ltb, List, [], ◌∷◌, ◌++◌, length, get_or, Some, None, fold, Option, sym, refl, ap, ◌∙◌, subst, inl, inr, append-nil, not-suc-le-zero, arith}
 use lib.Bits.{bit_and, bit_or, and_self, or_self}
 use lib.Count.{ones}
 use Rattle.std.proofs.lemmas.Bool.{true≢false, not-true, ltb-false, eqb-true, eqb-false, ne_eqb, and_parts, or_parts}
@@ -16,7 +16,7 @@ use Rattle.orders.specs.Costs.{Trip, cost, rides, tripAfter}
 use Rattle.orders.specs.Times.{finishOf, Timely}
 use Rattle.orders.specs.declared.van.Van.{Van}
 use Rattle.layers.specs.declared.node.Up.{Up}
-use Rattle.layers.specs.Flow.{table, Outs, Layer, Net, node, target, width, Path-from, tidy, tidied, Mark, marksNext, joinAt, final, everyDoor, everyArc, ins, gather}
+use Rattle.layers.specs.Flow.{Outs, Layer, Net, node, target, width, Path-from, tidy, tidied, Mark, marksNext, joinAt, final, everyDoor, everyArc, ins, gather}
 use Rattle.layers.specs.Labels.{one, leg, ups, Lab, first, arrive, merge, firsts, labelsNext, barred, opened, allDoors, agree, agreeAll, agreeing}
 use Rattle.layers.specs.Calls.{Call, EachCut, Sweep, Part, Join, Cut, Refine}
 use Rattle.layers.proofs.Flows.{Among, table-long, From, inside, ins-in, ins-from, next-some, next-within, next-at}
@@ -160,7 +160,7 @@ module _ {S V : Type 0} {Keeps : List ℕ → Type 0} {Stands : S → List ℕ �
   Attained v l = (x : Lab r rule tally) × Among x l × (x.value ≡ v)
 
   lesser-one : (a b : V) (l : List (Lab r rule tally)) → Attained a l → Attained b l → Attained (tally.lesser a b) l
-  lesser-one a b l p q = subst (λ (v : V). Attained v l) (sym (tallied.lesser-is a b)) (go (tally.notAbove a b))
+  lesser-one a b l p q = rw (tallied.lesser-is a b) (go (tally.notAbove a b))
     where
       go : (t : Bool) → Attained (cond t a b) l
       go true = p
@@ -176,7 +176,7 @@ module _ {S V : Type 0} {Keeps : List ℕ → Type 0} {Stands : S → List ℕ �
   value-gather [] m g = absurd cc
   value-gather (y ∷ l) m g =
       let z : fold (merge r rule tally) y l ≡ m = cc in
-      subst (λ (t : Lab r rule tally). Attained t.value (y ∷ l)) z (fold-value y (y ∷ l) l (y, inl refl, refl) (λ t i. inr i))
+      rw (← z) (fold-value y (y ∷ l) l (y, inl refl, refl) (λ t i. inr i))
 
   -- ---- exact labels
   pub record Sound (p : List ℕ) : Type 0 where
@@ -198,7 +198,7 @@ module _ {S V : Type 0} {Keeps : List ℕ → Type 0} {Stands : S → List ℕ �
 
   exact_same : (x y : Lab r rule tally) (p : List ℕ) → Same x y → Exact x p → Exact y p
   exact_same x y p s e = record {
-    all = λ j i. subst (λ (m : ℕ). has m j ≡ true) s.all (e.all j i);
+    all = λ j i. rw (← s.all) (e.all j i);
     finish = sym s.finish ∙ e.finish;
     lasts = sym s.lasts ∙ e.lasts;
     state = sym s.state ∙ e.state;
@@ -240,13 +240,13 @@ module _ {S V : Type 0} {Keeps : List ℕ → Type 0} {Stands : S → List ℕ �
       record {
         sound = record {
           keeps = ruled.clear-keeps p j (record { part = t.part; door = d; new = n }) s.keeps (ap (λ (x : S). rule.bars x j) (sym e.state) ∙ c.free);
-          timely = each_more _ p j s.timely (subst (λ (x : ℕ). x ≤ (door r j).closes) (sym v) c.early);
+          timely = each_more _ p j s.timely (rw v c.early);
           told = told-next r rule ruled tally tallied p j t d k n;
         };
         exact = record {
           all = λ i h. elim (in_split i p (j ∷ []) h) [
             | inl x ↦ or_left l.all (one j) i (e.all i x)
-            | inr x ↦ or_right l.all (one j) i (elim x [ inl y ↦ subst (λ (q : ℕ). has (one j) q ≡ true) (sym y) (one-self j) | inr y ↦ absurd y ])
+            | inr x ↦ or_right l.all (one j) i (elim x [ inl y ↦ rw y (one-self j) | inr y ↦ absurd y ])
           ];
           finish = f ∙ ap (λ (q : Trip V). q.van.finish) (sym z);
           lasts = ap (λ (q : Trip V). one q.van.last) (sym z);
@@ -327,9 +327,9 @@ module _ {S V : Type 0} {Keeps : List ℕ → Type 0} {Stands : S → List ℕ �
         (c : Reached (L ∷ Ls) k f.source f.label) → Onward f.label c.way f.door → Reached Ls (suc k) b x
     onto Ls L k labs b x f c on = record {
       way = c.way ++ (f.door ∷ []);
-      leads = λ w q. subst (λ (z : List ℕ). Path-from D 0 z) (sym (snoc-assoc c.way w f.door)) (c.leads (f.door ∷ w) (b, f.arc, q));
+      leads = λ w q. rw (snoc-assoc c.way w f.door) (c.leads (f.door ∷ w) (b, f.arc, q));
       sound = on.sound;
-      exact = subst (λ (z : Lab r rule tally). Exact z (c.way ++ (f.door ∷ []))) (sym f.is) on.exact;
+      exact = rw f.is on.exact;
       worth = ap (λ (z : Lab r rule tally). z.value) f.is ∙ on.worth c.worth;
       long = length-snoc c.way f.door ∙ ap suc c.long;
     }
@@ -374,7 +374,7 @@ module _ {S V : Type 0} {Keeps : List ℕ → Type 0} {Stands : S → List ℕ �
       where
         start : (a : ℕ) (l : Lab r rule tally) → get_or (firsts r rule tally) a None ≡ Some l → Reached D 0 a l
         start zero l f = let x : first r rule tally ≡ l = cc in
-            subst (λ (y : Lab r rule tally). Reached D 0 0 y) x (record { way = []; leads = λ w q. q; sound = sound_none; exact = exact-first; worth = refl; long = refl })
+            rw (← x) (record { way = []; leads = λ w q. q; sound = sound_none; exact = exact-first; worth = refl; long = refl })
         start (suc a) l f = absurd cc
 
         go : (x : Option (Lab r rule tally)) → final (arrive r rule tally) (merge r rule tally) (firsts r rule tally) D ≡ x → valueO r rule tally x ≡ Some v → (w : List ℕ) × Path-from D 0 w × (cost r tally w ≡ v)

@@ -1,5 +1,5 @@
 -- What flows along arcs, and what redirecting, tidying do to paths.
-use Rattle.std.proofs.Common.{◌≡◌, ℕ, zero, suc, ◌+◌, ◌-◌, ◌<◌, Bool, true, false, eqb, ◌⊎◌, List, [], ◌∷◌, ◌++◌, map, length, get_or, Some, None, fold, Option, sym, refl, ap, ◌∙◌, subst, inl, inr, le_of_suc-le-suc, not-suc-le-zero, arith}
+use Rattle.std.proofs.Common.{◌≡◌, ℕ, zero, suc, ◌+◌, ◌<◌, Bool, true, false, eqb, ◌⊎◌, List, [], ◌∷◌, ◌++◌, map, length, get_or, Some, None, fold, Option, refl, ap, ◌∙◌, subst, inl, inr, le_of_suc-le-suc, not-suc-le-zero, arith}
 use Rattle.std.proofs.lemmas.Bool.{eqb-true, eq-eqb}
 use Rattle.std.proofs.lemmas.List.{get_or-map}
 use Rattle.layers.specs.Flow.{table, Outs, Layer, Net, node, target, width, Path-from, eachDoor, eachNode, redirect, put, insDoor, ins, gather, next, read, consO, outs, up, Mark, marksNext, marksUp, flags, rank, compress, renumber, tidy, tidied}
@@ -87,7 +87,7 @@ module _ {A : Type 0} (arrive : A → ℕ → A) (merge : A → A → A) where
   ins-in b (Some l' ∷ labs) (nd ∷ L) zero zero l e g = absurd (omega arith)
   ins-in b (Some l' ∷ labs) (nd ∷ L) zero (suc k) l e g =
       let x : l' ≡ l = cc in
-      among-left (arrive l (suc k)) (insDoor arrive b l' 1 nd) (ins arrive b labs L) (subst (λ (z : A). Among (arrive z (suc k)) (insDoor arrive b l' 1 nd)) x (insDoor-in b l' 1 nd k (suc k) (omega arith) e))
+      among-left (arrive l (suc k)) (insDoor arrive b l' 1 nd) (ins arrive b labs L) (rw (← x) (insDoor-in b l' 1 nd k (suc k) (omega arith) e))
   ins-in b (Some l' ∷ labs) (nd ∷ L) (suc a) j l e g = among-right (arrive l j) (insDoor arrive b l' 1 nd) (ins arrive b labs L) (ins-in b labs L a j l e g)
 
 module _ {A : Type 0} (merge : A → A → A) (R : A → A → Type 0) (R-refl : (x : A) → R x x) (R-trans : (x y z : A) → R x y → R y z → R x z)
@@ -98,13 +98,13 @@ module _ {A : Type 0} (merge : A → A → A) (R : A → A → Type 0) (R-refl :
 
   fold-in : (z x : A) (xs : List A) → Among z xs → R z (fold merge x xs)
   fold-in z x [] i = absurd i
-  fold-in z x (y ∷ xs) (inl e) = R-trans z (merge x y) (fold merge (merge x y) xs) (subst (λ (t : A). R t (merge x y)) (sym e) (right x y)) (fold_start (merge x y) xs)
+  fold-in z x (y ∷ xs) (inl e) = R-trans z (merge x y) (fold merge (merge x y) xs) (rw e (right x y)) (fold_start (merge x y) xs)
   fold-in z x (y ∷ xs) (inr i) = fold-in z (merge x y) xs i
 
   pub gather-in : (z : A) (xs : List A) → Among z xs → (m : A) × (gather merge xs ≡ Some m) × R z m
   unfolding gather
   gather-in z [] i = absurd i
-  gather-in z (x ∷ xs) (inl e) = (fold merge x xs, refl, subst (λ (t : A). R t (fold merge x xs)) (sym e) (fold_start x xs))
+  gather-in z (x ∷ xs) (inl e) = (fold merge x xs, refl, rw e (fold_start x xs))
   gather-in z (x ∷ xs) (inr i) = (fold merge x xs, refl, fold-in z x xs i)
 
   -- what goes over an arc is below the label of its target
@@ -120,7 +120,7 @@ module _ {A : Type 0} (merge : A → A → A) (R : A → A → Type 0) (R-refl :
   outs-in climb us u j [] k m b h e g = absurd (omega arith)
   outs-in climb us u j (t ∷ ts) zero m b h e g =
       let x : read us t ≡ Some u = ap (read us) e ∙ g in let y : m ≡ j = omega arith in
-      subst (λ (o : Option A). Among (climb u m) (consO climb j o (outs climb us (suc j) ts))) (sym x) (inl (ap (climb u) y))
+      rw x (inl (ap (climb u) y))
   outs-in climb us u j (t ∷ ts) (suc k) m b h e g = more (read us t) (outs-in climb us u (suc j) ts k m b (omega arith) e g)
     where
       more : (o : Option A) → Among (climb u m) (outs climb us (suc j) ts) → Among (climb u m) (consO climb j o (outs climb us (suc j) ts))

@@ -1,19 +1,18 @@
 -- Records that have the shape of a diagram have arcs that a diagram may have, and arcs that are laid out anew have that shape.
-use Rattle.std.proofs.Common.{◌≡◌, ℕ, zero, suc, ◌+◌, ◌-◌, ◌*◌, ◌<◌, ◌≤◌, min, Bool, true, false, cond, List, [], ◌∷◌, ◌++◌, map, length, get_or, take, drop, Some, None, Option, sym, refl, ap, ◌∙◌, subst, ap₂, inl, inr, ⊎_elim, suc-mul, suc-add, zero-add, zero-mul, arith}
+use Rattle.std.proofs.Common.{◌≡◌, ℕ, zero, suc, ◌+◌, ◌-◌, ◌*◌, ◌<◌, ◌≤◌, Bool, true, false, cond, List, [], ◌∷◌, ◌++◌, map, length, get_or, take, drop, Some, None, Option, sym, refl, ap, ◌∙◌, subst, inl, inr, ⊎_elim, suc-mul, suc-add, zero-add, arith}
 use lib.ListN.{length-map}
 use Rattle.std.proofs.lemmas.List.{length-take, length-take-le}
 use Rattle.std.proofs.lemmas.Bool.{cases_lt}
 use Rattle.round.specs.declared.table.Round.{Round}
 use Rattle.rules.specs.Rules.{RuleSense}
 use Rattle.tallies.specs.Tallies.{TallySense}
-use Rattle.layers.specs.declared.node.Arcs.{Arcs}
 use Rattle.layers.specs.declared.node.Node.{Node}
-use Rattle.layers.specs.Flow.{table, Outs, Layer, Net, node, target, width, redirect, countDoors, countLayer, up, tidied, Ranged, Tied, Roomy}
+use Rattle.layers.specs.Flow.{table, Outs, Layer, Net, node, target, width, redirect, countDoors, countLayer, tidied, Ranged, Tied, Roomy}
 use Rattle.layers.specs.declared.node.Up.{Up}
-use Rattle.layers.specs.Labels.{Lab, firsts, labelsNext, noUp, ups, barred, dear}
-use Rattle.layers.specs.Records.{used, standing, layers, arcsIn, downsIn, upsIn, drawn, padded, arcsAt, laidArcs, arcsRead, place}
-use Rattle.layers.specs.Calls.{nodes, arcs, layer, thinned, trimmed, relaid}
-use Rattle.layers.specs.Shape.{targetsOf, Written, Tidy, OneFirst, Ended, Shaped}
+use Rattle.layers.specs.Labels.{Lab, firsts, labelsNext, noUp, barred, dear}
+use Rattle.layers.specs.Records.{used, standing, layers, arcsIn, downsIn, upsIn, drawn, arcsAt, laidArcs, arcsRead, place}
+use Rattle.layers.specs.Calls.{arcs, layer, thinned, trimmed, relaid}
+use Rattle.layers.specs.Shape.{targetsOf, Ended, Shaped}
 use Rattle.layers.proofs.Flows.{Among}
 use Rattle.layers.proofs.Bridge.{ups-end, Full, top, stood, table-long}
 use Rattle.layers.proofs.Counts.{tidied-same}
@@ -49,10 +48,10 @@ take-among (suc m) (suc k) (y ∷ xs) x h (inl e) = inl e
 take-among (suc m) (suc k) (y ∷ xs) x h (inr i) = inr (take-among m k xs x (omega arith) i)
 
 drop-among : {A : Type 0} (w m : ℕ) (xs : List A) (x : A) → Among x (take m (drop w xs)) → Among x (take (w + m) xs)
-drop-among zero m xs x i = subst (λ (k : ℕ). Among x (take k xs)) (sym (zero-add m)) i
+drop-among zero m xs x i = rw (zero-add m) i
 drop-among (suc w) zero [] x i = absurd i
 drop-among (suc w) (suc m) [] x i = absurd i
-drop-among (suc w) m (y ∷ xs) x i = subst (λ (k : ℕ). Among x (take k (y ∷ xs))) (sym (suc-add w m)) (inr (drop-among w m xs x i))
+drop-among (suc w) m (y ∷ xs) x i = rw (suc-add w m) (inr (drop-among w m xs x i))
 
 module _ {S V : Type 0} (n W : ℕ) where
   drawn-deep : (k : ℕ) (xs : List (Node S V)) → length (drawn n (layers W k xs)) ≡ k
@@ -93,7 +92,7 @@ module _ {S V : Type 0} (n W : ℕ) where
       let m = suc k * W + 1 in
       let e : W + m ≡ suc (suc k) * W + 1 = omega (arith, suc-mul (suc k) W) in (
         arcs-even (standing (take W xs)) h (λ x i. l x (take-among W (suc (suc k) * W + 1) xs x (omega (arith, e)) (standing-among (take W xs) x i))),
-        drawn-even (suc k) (drop W xs) h (λ x i. l x (subst (λ (q : ℕ). Among x (take q xs)) e (drop-among W m xs x i))),
+        drawn-even (suc k) (drop W xs) h (λ x i. l x (rw (← e) (drop-among W m xs x i))),
       )
 
 -- all of the laid arcs have sixteen targets

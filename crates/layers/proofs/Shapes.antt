@@ -1,5 +1,5 @@
 -- Part and join keep every path; all calls keep the doors of arcs within the round's.
-use Rattle.std.proofs.Common.{◌≡◌, ℕ, zero, suc, ◌+◌, ◌-◌, ◌<◌, ◌≤◌, Bool, true, false, cond, not, ◌&&◌, eqb, ltb, List, [], ◌∷◌, ◌++◌, length, get_or, set, Some, None, Option, sym, refl, ap, ◌∙◌, subst, inl, inr, le_of_suc-le-suc, not-suc-le-zero, arith}
+use Rattle.std.proofs.Common.{◌≡◌, ℕ, zero, suc, ◌-◌, ◌<◌, ◌≤◌, Bool, true, false, cond, not, ◌&&◌, eqb, ltb, List, [], ◌∷◌, ◌++◌, length, get_or, set, Some, None, Option, sym, refl, ap, ◌∙◌, inl, inr, le_of_suc-le-suc, not-suc-le-zero, arith}
 use Rattle.std.proofs.lemmas.Bool.{true≢false, ltb-true, ltb-false, eqb-true, eqb-false, and_parts, or_parts}
 use Rattle.std.proofs.lemmas.List.{get_or_append_left, get_or_push, get_or-set_same, get_or-set_other}
 use Rattle.round.specs.declared.table.Round.{Round}
@@ -172,7 +172,7 @@ module _ (n : ℕ) where
 
   neat-set : (L : Layer) (i : ℕ) (v : Outs) → length v ≤ n → NeatLayer n L → NeatLayer n (set L i v)
   neat-set [] i v g h nd k = absurd k
-  neat-set (x ∷ L) zero v g h nd (inl e) = subst (λ (y : Outs). length y ≤ n) (sym e) g
+  neat-set (x ∷ L) zero v g h nd (inl e) = rw e g
   neat-set (x ∷ L) zero v g h nd (inr k) = h nd (inr k)
   neat-set (x ∷ L) (suc i) v g h nd (inl e) = h nd (inl e)
   neat-set (x ∷ L) (suc i) v g h nd (inr k) = neat-set L i v g (λ y m. h y (inr m)) nd k
@@ -232,7 +232,7 @@ module _ (n : ℕ) where
     neat-part zero a labs (L ∷ M ∷ Ls) h = (
       neat-redirect (λ u j b. cond (eqb b a && leaves r rule tally (headO r rule tally (ins (arrive r rule tally) a labs L)) (get_or labs u None) j) (suc (length M)) (suc b)) L h.0,
       (
-        λ nd i. elim (among-split nd M (node M a ∷ []) i) [ inl x ↦ h.1.0 nd x | inr x ↦ elim x [ inl e ↦ subst (λ (y : Outs). length y ≤ n) (sym e) (neat-node M a h.1.0) | inr y ↦ absurd y ] ],
+        λ nd i. elim (among-split nd M (node M a ∷ []) i) [ inl x ↦ h.1.0 nd x | inr x ↦ elim x [ inl e ↦ rw e (neat-node M a h.1.0) | inr y ↦ absurd y ] ],
         h.1.1,
       ),
     )

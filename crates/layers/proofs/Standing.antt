@@ -1,5 +1,5 @@
 -- In a run with one rule and one tally, from opened records on, the labels that stand are those worked out from the arcs: each call on records is the call on arcs.
-use Rattle.std.proofs.Common.{◌≡◌, ℕ, zero, suc, ◌+◌, ◌-◌, ◌*◌, ◌<◌, ◌≤◌, min, max, Bool, true, false, cond, not, ◌&&◌, ◌||◌, eqb, ltb, leb, List, [], ◌∷◌, ◌++◌, length, get_or, drop, sym, refl, ap, ◌∙◌, subst, ap₂, arith}
+use Rattle.std.proofs.Common.{◌≡◌, ℕ, zero, suc, ◌+◌, ◌-◌, ◌*◌, ◌<◌, ◌≤◌, min, max, Bool, true, false, cond, not, ◌&&◌, ◌||◌, eqb, ltb, leb, List, [], ◌∷◌, ◌++◌, length, get_or, drop, sym, refl, ap, ◌∙◌, ap₂, arith}
 use Rattle.std.proofs.lemmas.Bool.{ltb-true, ltb-false, leb-true, leb-false, eqb-true, lt-ltb, le-leb, eq-eqb, ne_eqb, and_parts, or_parts}
 use Rattle.round.specs.declared.table.Round.{Round}
 use Rattle.rules.specs.Rules.{RuleSense}
@@ -7,7 +7,7 @@ use Rattle.tallies.specs.Tallies.{TallySense}
 use Rattle.layers.specs.declared.node.Node.{Node}
 use Rattle.layers.specs.Flow.{Net, node, countArcs, ins, tidied, clash, joinAt, seeks}
 use Rattle.layers.specs.Labels.{firsts, arrive, opened, agreeing}
-use Rattle.layers.specs.Records.{layers, arcsIn, downsIn, drawn, laid}
+use Rattle.layers.specs.Records.{arcsIn, downsIn, laid}
 use Rattle.layers.specs.Calls.{Call, Sweep, Part, Join, Cut, Refine, thinned, trimmed, arrivals, partedAt, nodes, arcs, layer, relaid, openedOn, fewer, swept, sweepAnswer, cut_at, partAnswer, split, joinAnswer, joined, splits, splitsAll, sweptOut, refined, does, run, bound, must, settled, agreedAll, quietFrom, valueIn, oneGroup as oneGroupIn, isFull, parted as partedIn, badNode as badNodeIn}
 use Rattle.layers.proofs.Model.{sweep, cut, oneGroup, part_at, count, done, refused, badLayer, badNode, part, join, unless, swept as untilQuiet, parted as partedArcs, refines, refine, act, after, agrees, settles, bound as boundOf, must as mustOf, settled as settled_of}
 use Rattle.layers.proofs.Counts.{sweep-fewer, settled-yes, settled-if}
@@ -162,7 +162,7 @@ module _ {S V : Type 0} (r : Round) (rule : RuleSense S) (self : (s : S) → rul
       go false e false f false g s t =
           let ei : suc (i - 1) ≡ i = omega arith in
           ap (splits r rule tally W k i (suc (suc a))) (split-X i (suc a) a Ls p lo hi (omega arith))
-          ∙ t (proper-part r rule self tally W w (i - 1) a Ls (subst (λ (k : ℕ). a < length (get_or Ls k [])) (sym ei) (leb-false (count r rule tally i Ls) a e)) (subst (λ (k : ℕ). length (get_or Ls k []) < W) (sym ei) (leb-false W (count r rule tally i Ls) g)) f p)
+          ∙ t (proper-part r rule self tally W w (i - 1) a Ls (rw ei (leb-false (count r rule tally i Ls) a e)) (rw ei (leb-false W (count r rule tally i Ls) g)) f p)
 
   splitsAll-X : (k i : ℕ) (Ls : Net) → Well Ls → 1 ≤ i → i + k ≤ r.n → splitsAll r rule tally W k i (X Ls) ≡ lift (refines r rule tally W k i Ls)
   unfolding splitsAll refines

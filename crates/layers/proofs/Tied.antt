@@ -1,10 +1,10 @@
 -- After tidying, every node lies on a path.
-use Rattle.std.proofs.Common.{◌≡◌, ℕ, zero, suc, ◌+◌, ◌-◌, ◌<◌, Bool, true, false, cond, List, [], ◌∷◌, map, length, get_or, Some, None, Option, sym, refl, ap, ◌∙◌, subst, inl, inr, le_of_suc-le-suc, not-suc-le-zero, arith}
+use Rattle.std.proofs.Common.{◌≡◌, ℕ, zero, suc, ◌+◌, ◌<◌, Bool, true, false, cond, List, [], ◌∷◌, length, get_or, Some, None, Option, sym, refl, ap, ◌∙◌, le_of_suc-le-suc, not-suc-le-zero, arith}
 use lib.ListN.{length-map}
 use Rattle.std.proofs.lemmas.Bool.{false≢true, and_parts}
 use Rattle.std.proofs.lemmas.Option.{none-some}
-use Rattle.layers.specs.Flow.{Outs, Layer, Net, node, target, width, is_some, eachDoor, eachNode, redirect, ins, gather, read, consO, outs, up, Mark, marksNext, marksUp, flags, rank, compress, renumber, tidy, tidied, Ranged, Led, Tied}
-use Rattle.layers.proofs.Flows.{Among, gather-any, outs-from, Climbs, map-some, redirect-arc, has-arc, ins-from, next-some, up_at, mark-next, flags-at, compress-at, renumber-at}
+use Rattle.layers.specs.Flow.{Outs, Layer, Net, node, target, width, is_some, eachDoor, eachNode, redirect, ins, gather, outs, up, Mark, marksNext, marksUp, flags, rank, compress, renumber, tidy, tidied, Ranged, Led, Tied}
+use Rattle.layers.proofs.Flows.{gather-any, outs-from, map-some, redirect-arc, has-arc, ins-from, next-some, up_at, mark-next, flags-at, compress-at, renumber-at}
 
 -- ---- redirecting, backwards
 eachDoor-back : (f : ℕ → ℕ → ℕ) (j : ℕ) (ts : Outs) (k m c : ℕ) → j + k ≡ m → get_or (eachDoor f j ts) k 0 ≡ suc c → (b : ℕ) × (get_or ts k 0 ≡ suc b) × (f m b ≡ suc c)
@@ -123,7 +123,7 @@ module _ (fr : List (Option Mark)) (L : Layer) (Ls : Net) where
       let q = redirect-back (λ a j b. renumber fs b) L a j c e in
       let h = renumber-back fs q.0 c q.2 in
       let w = flag-within q.0 h.0 in
-      subst (λ (z : ℕ). z < length (compress fs X)) h.1 (rank_lt fs X q.0 h.0 (omega arith))
+      rw (← h.1) (rank_lt fs X q.0 h.0 (omega arith))
 
   -- every node that is left is led to, from a node that is left
   fed_by : (X : Layer) (c : ℕ) → c < length (compress fs X) → (a : ℕ) × (j : ℕ) × (target (node RL a) j ≡ suc c) × (get_or fr a None ≡ Some tt) × (get_or (marksUp (L ∷ Ls)) a None ≡ Some tt)

@@ -37,7 +37,7 @@ module _ {S V : Type 0} (r : Round) (rule : RuleSense S) (tally : TallySense V) 
 
   soon-first : Soon 0 (firsts r rule tally)
   unfolding Soon
-  soon-first zero l e = let x : first r rule tally ≡ l = cc in subst (λ (y : Lab r rule tally). y.finish ≤ latest 0) x (omega arith)
+  soon-first zero l e = let x : first r rule tally ≡ l = cc in rw (← x) (omega arith)
   soon-first (suc a) l e = absurd cc
 
   soon-next : (i : ℕ) (labs : List (Option (Lab r rule tally))) (L : Layer) (count : ℕ) → Soon i labs → Soon (suc i) (labelsNext r rule tally labs L count)
@@ -49,8 +49,7 @@ module _ {S V : Type 0} (r : Round) (rule : RuleSense S) (tally : TallySense V) 
       each : (x : Lab r rule tally) → From (arrive r rule tally) b labs L x → x.finish ≤ latest (suc i)
       each x f =
           let l = f.label in
-          subst (λ (y : Lab r rule tally). y.finish ≤ latest (suc i)) (sym f.is)
-          ((clock-laws r).bound i l.finish (leg r l.lasts f.door) f.door (soon f.source l f.labelled) (leg-bound r l.lasts f.door))
+          rw f.is ((clock-laws r).bound i l.finish (leg r l.lasts f.door) f.door (soon f.source l f.labelled) (leg-bound r l.lasts f.door))
 
   -- a place of such a layer; a blank one has finish 0
   soon-place : (i : ℕ) (labs : List (Option (Lab r rule tally))) → i ≤ 15 → Soon i labs → (k : ℕ) → (orBlank r rule tally (get_or labs k None)).finish ≤ latest 15
@@ -68,7 +67,7 @@ module _ {S V : Type 0} (r : Round) (rule : RuleSense S) (tally : TallySense V) 
   laid-early : (W i : ℕ) (labs : List (Option (Lab r rule tally))) (Ls : Net) (later : List (Node S V)) → i + length Ls ≤ 16 → Soon i labs
       → All Early (take (length Ls * W) (laidFrom r rule tally W labs Ls ++ later))
   unfolding laidFrom
-  laid-early W i labs [] later h soon = subst (λ (c : ℕ). All Early (take c (laidFrom r rule tally W labs [] ++ later))) (sym (zero-mul W)) tt
+  laid-early W i labs [] later h soon = rw (zero-mul W) tt
   laid-early W i labs (L ∷ Ls) later h soon =
       let f = place r rule tally L labs (ups (L ∷ Ls)) in
       let X = laidFrom r rule tally W (labelsNext r rule tally labs L (width Ls)) Ls in

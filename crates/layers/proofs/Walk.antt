@@ -1,5 +1,5 @@
 -- A label on the way agrees with the beginning that leads to it; so no arc of an allowed order is swept or cut.
-use Rattle.std.proofs.Common.{◌≡◌, ℕ, zero, suc, ◌+◌, ◌-◌, ◌<◌, ◌≤◌, Bool, true, false, cond, ◌||◌, ltb, List, [], ◌∷◌, ◌++◌, length, get_or, Some, None, Option, sym, refl, ap, ◌∙◌, subst, inl, inr, le_trans, le_of_suc-le-suc, not-suc-le-zero, arith}
+use Rattle.std.proofs.Common.{◌≡◌, ℕ, zero, suc, ◌+◌, ◌<◌, ◌≤◌, Bool, true, false, cond, ◌||◌, ltb, List, [], ◌∷◌, ◌++◌, length, get_or, Some, None, Option, sym, refl, ap, ◌∙◌, subst, inl, inr, le_trans, le_of_suc-le-suc, not-suc-le-zero, arith}
 use lib.Bits.{bit_or}
 use lib.Count.{ones}
 use Rattle.std.proofs.lemmas.Bool.{le-ltb, ne_eqb, false_from_ne_true}
@@ -15,7 +15,6 @@ use Rattle.orders.proofs.Times.{trip-van}
 use Rattle.orders.specs.Allowed.{Allowed}
 use Rattle.orders.specs.Costs.{Trip, cost, rides, tripAfter}
 use Rattle.orders.specs.Times.{vanAfter}
-use Rattle.orders.specs.declared.van.Van.{Van}
 use Rattle.layers.specs.declared.node.Up.{Up}
 use Rattle.layers.specs.Flow.{Outs, Layer, Net, node, target, width, Path-from, ins, up}
 use Rattle.layers.specs.Labels.{one, leg, climb, mergeUp, noUp, ups, Lab, first, arrive, merge, firsts, labelsNext, barred}
@@ -63,7 +62,7 @@ module _ {S V : Type 0} {Keeps : List ℕ → Type 0} {Stands : S → List ℕ �
   going_next p w j g = record {
     part = subst (PartOrder r.n) (sym (snoc-assoc p w j)) g.part;
     keeps = subst (Keeps) (sym (snoc-assoc p w j)) g.keeps;
-    timely = subst (λ (a : Van). TimelyFrom r a w) (sym (van-snoc r p j)) g.timely.1;
+    timely = rw (van-snoc r p j) g.timely.1;
     total = omega (arith, length-snoc p j, g.total);
   }
 
@@ -92,14 +91,14 @@ module _ {S V : Type 0} {Keeps : List ℕ → Type 0} {Stands : S → List ℕ �
   fits-first = record { part = tt; all = λ j h. absurd (none_has j h); some = λ j i. absurd i; finish = omega arith; lasts = refl; state = ruled.start-stands; value = tallied.order-self tally.start }
 
   lesser-left : (a b : V) → tally.notAbove (tally.lesser a b) a ≡ true
-  lesser-left a b = subst (λ (v : V). tally.notAbove v a ≡ true) (sym (tallied.lesser-is a b)) (go (tally.notAbove a b) refl)
+  lesser-left a b = rw (tallied.lesser-is a b) (go (tally.notAbove a b) refl)
     where
       go : (q : Bool) → tally.notAbove a b ≡ q → tally.notAbove (cond q a b) a ≡ true
       go true e = tallied.order-self a
       go false e = tallied.order-total a b e
 
   lesser-right : (a b : V) → tally.notAbove (tally.lesser a b) b ≡ true
-  lesser-right a b = subst (λ (v : V). tally.notAbove v b ≡ true) (sym (tallied.lesser-is a b)) (go (tally.notAbove a b) refl)
+  lesser-right a b = rw (tallied.lesser-is a b) (go (tally.notAbove a b) refl)
     where
       go : (q : Bool) → tally.notAbove a b ≡ q → tally.notAbove (cond q a b) b ≡ true
       go true e = e
@@ -139,11 +138,11 @@ module _ {S V : Type 0} {Keeps : List ℕ → Type 0} {Stands : S → List ℕ �
       let s = (clock-laws r).bound (length p) (tripAfter r tally p).van.finish (drive r (tripAfter r tally p).van.last j) j t.soon le in
       record {
         part = next-part r.n p j t.part d f;
-        soon = subst (λ (z : Trip V). z.van.finish ≤ latest (length (p ++ (j ∷ [])))) (sym e) (subst (λ (k : ℕ). (rides r tally (tripAfter r tally p) j).van.finish ≤ latest k) (sym (length-snoc p j)) s);
+        soon = rw e (rw (length-snoc p j) s);
         fine = subst (λ (z : Trip V). Allows (length (p ++ (j ∷ []))) z.cost) (sym e)
             (subst (λ (z : ℕ). Allows z (rides r tally (tripAfter r tally p) j).cost) (sym (length-snoc p j))
             (tallied.step-allowed (length p) (cost r tally p) j (drive r (tripAfter r tally p).van.last j) (rides r tally (tripAfter r tally p) j).van.finish k d le (within (length p) _ k s) t.fine));
-        here = subst (λ (z : Trip V). z.van.last ≤ r.n) (sym e) d.high;
+        here = rw e d.high;
         last = λ i g h x. g (in-snd i p (j ∷ []) (inl (sym x ∙ ap (λ (z : Trip V). z.van.last) e)));
       }
 
@@ -161,10 +160,10 @@ module _ {S V : Type 0} {Keeps : List ℕ → Type 0} {Stands : S → List ℕ �
         all = λ i h. elim (or_split l.all (one j) i h) [ inl x ↦ in_left p (j ∷ []) i (f.all i x) | inr x ↦ in-snd i p (j ∷ []) (inl (one_only j i x)) ];
         some = λ i h. elim (in_split i p (j ∷ []) h) [
           | inl x ↦ or_left l.some (one j) i (f.some i x)
-          | inr x ↦ or_right l.some (one j) i (elim x [ inl y ↦ subst (λ (z : ℕ). has (one j) z ≡ true) (sym y) (one-self j) | inr y ↦ absurd y ])
+          | inr x ↦ or_right l.some (one j) i (elim x [ inl y ↦ rw y (one-self j) | inr y ↦ absurd y ])
         ];
-        finish = subst (λ (z : Trip V). finish r l.finish (leg r l.lasts j) j ≤ z.van.finish) (sym e) early;
-        lasts = subst (λ (z : Trip V). has (one j) z.van.last ≡ true) (sym e) (one-self j);
+        finish = rw e early;
+        lasts = rw e (one-self j);
         state = ruled.step-stands l.state p j (record { part = t.part; door = d; new = n }) f.state;
         value = subst (λ (z : Trip V). tally.notAbove (tally.step l.value j (leg r l.lasts j) (finish r l.finish (leg r l.lasts j) j)) z.cost ≡ true) (sym e)
             (tallied.step-rises (length p) l.value (cost r tally p) j (leg r l.lasts j) (drive r (tripAfter r tally p).van.last j) (finish r l.finish (leg r l.lasts j) j) (rides r tally (tripAfter r tally p) j).van.finish
@@ -177,7 +176,7 @@ module _ {S V : Type 0} {Keeps : List ℕ → Type 0} {Stands : S → List ℕ �
 
   pub good-first : Good 0 (firsts r rule tally)
   unfolding Good
-  good-first zero l e = let x : first r rule tally ≡ l = cc in subst (λ (y : Lab r rule tally). (Allows 0 y.value) × (y.finish ≤ latest 0)) x (tallied.start-allowed, omega arith)
+  good-first zero l e = let x : first r rule tally ≡ l = cc in rw (← x) (tallied.start-allowed, omega arith)
   good-first (suc a) l e = absurd cc
 
   lesser-fine : (k : ℕ) (a b : V) → Allows k a → Allows k b → Allows k (tally.lesser a b)
@@ -203,8 +202,7 @@ module _ {S V : Type 0} {Keeps : List ℕ → Type 0} {Stands : S → List ℕ �
           let lb = leg-bound r f.label.lasts f.door in
           let fin = finish r f.label.finish (leg r f.label.lasts f.door) f.door in
           let early : fin ≤ latest (suc k) = (clock-laws r).bound k f.label.finish (leg r f.label.lasts f.door) f.door g.1 lb in
-          subst (λ (y : Lab r rule tally). (Allows (suc k) y.value) × (y.finish ≤ latest (suc k))) (sym f.is)
-          (tallied.step-allowed k f.label.value f.door (leg r f.label.lasts f.door) fin h d lb (within k fin h early) g.0, early)
+          rw f.is (tallied.step-allowed k f.label.value f.door (leg r f.label.lasts f.door) fin h d lb (within k fin h early) g.0, early)
 
   -- ---- the label at a place fits the beginning p
   unfoldable pub At : List (Option (Lab r rule tally)) → ℕ → List ℕ → Type 0
@@ -229,7 +227,7 @@ pub record FitsUp (u : Up) (w : List ℕ) : Type 0 where
 climb-fits : (u : Up) (j : ℕ) (w : List ℕ) → FitsUp u w → FitsUp (climb u j) (j ∷ w)
 climb-fits u j w f = record {
   all = λ i h. elim (or_split u.allup (one j) i h) [ inl x ↦ inr (f.all i x) | inr x ↦ inl (one_only j i x) ];
-  some = λ i h. elim h [ inl e ↦ or_right u.someup (one j) i (subst (λ (z : ℕ). has (one j) z ≡ true) (sym e) (one-self j)) | inr x ↦ or_left u.someup (one j) i (f.some i x) ];
+  some = λ i h. elim h [ inl e ↦ or_right u.someup (one j) i (rw e (one-self j)) | inr x ↦ or_left u.someup (one j) i (f.some i x) ];
 }
 
 up_left : (x y : Up) (w : List ℕ) → FitsUp x w → FitsUp (mergeUp x y) w
@@ -272,7 +270,7 @@ module _ {S V : Type 0} {Keeps : List ℕ → Type 0} {Stands : S → List ℕ �
       (rule.bars l.state j) (has u.allup j) (ltb (ones (bit_or u.someup (one j))) (suc (length w)))
       (false_from_ne_true (has l.all j) (λ h. facts.1 (f.all j h)))
       (le-ltb (ones (bit_or l.some (one j))) (suc (length p))
-      (subst (λ (k : ℕ). k ≤ ones (bit_or l.some (one j))) (length-snoc p j) (ones_in r.n (bit_or l.some (one j)) (p ++ (j ∷ [])) a.part a.some)))
+      (rw (← (length-snoc p j)) (ones_in r.n (bit_or l.some (one j)) (p ++ (j ∷ [])) a.part a.some)))
       (le-ltb (door r j).closes (finish r l.finish (leg r l.lasts j) j) (le_trans a.finish closing))
       (false_from_ne_true (rule.bars l.state j) (λ h. ruled.bars-breaks l.state p j (part-next r.n p j w g.part) f.state h
       (ruled.keeps-front (p ++ (j ∷ [])) w (subst (PartOrder r.n) (sym (snoc-assoc p w j)) g.part) (subst Keeps (sym (snoc-assoc p w j)) g.keeps))))
@@ -281,7 +279,7 @@ module _ {S V : Type 0} {Keeps : List ℕ → Type 0} {Stands : S → List ℕ �
       (ones_in r.n (bit_or u.someup (one j)) (j ∷ w) (part-tail r.n p (j ∷ w) g.part) (climb-fits u j w fu).some))
     where
       closing : (tripAfter r tally (p ++ (j ∷ []))).van.finish ≤ (door r j).closes
-      closing = subst (λ (v : Van). v.finish ≤ (door r j).closes) (sym (van-snoc r p j) ∙ sym (trip-van r tally (p ++ (j ∷ [])))) g.timely.0
+      closing = rw (← (sym (van-snoc r p j) ∙ sym (trip-van r tally (p ++ (j ∷ []))))) g.timely.0
 
   pub sweeps-keep : (p w : List ℕ) (labs : List (Option (Lab r rule tally))) (Ls : Net) (a : ℕ) → Going r rule ruled tally tallied p w → Told r rule ruled tally tallied p → At r rule ruled tally tallied labs a p
       → Good r rule ruled tally tallied (length p) labs → Neat r.n Ls → Path-from Ls a w → Path-from (sweeps r rule tally (length p) labs Ls) a w
@@ -301,10 +299,10 @@ module _ {S V : Type 0} {Keeps : List ℕ → Type 0} {Stands : S → List ℕ �
       let good' = good-next r rule ruled tally tallied (length p) labs L (width Ls) facts.2 good neat.0 in
       let rest = sweeps-keep (p ++ (j ∷ [])) w (labelsNext r rule tally labs L (width Ls)) Ls b (going_next r rule ruled tally tallied p w j g)
       (told-next r rule ruled tally tallied p j t facts.0 facts.2 facts.1) next'
-      (subst (λ (k : ℕ). Good r rule ruled tally tallied k (labelsNext r rule tally labs L (width Ls))) (sym (length-snoc p j)) good') neat.1 q.2 in (
+      (rw (length-snoc p j) good') neat.1 q.2 in (
         b,
         redirect-arc (λ a j b. cond (barred r rule tally (length p) (suc (length Ls)) j (get_or labs a None) (get_or (ups Ls) b None)) 0 (suc b)) L a j b q.1 ∙ ap (λ (z : Bool). cond z 0 (suc b)) nb',
-        subst (λ (k : ℕ). Path-from (sweeps r rule tally k (labelsNext r rule tally labs L (width Ls)) Ls) b w) (length-snoc p j) rest,
+        rw (← (length-snoc p j)) rest,
       )
 
   -- an allowed order, not yet under way

@@ -58,7 +58,7 @@ pub timely-from : (r : Round) (p w : List ℕ) → Timely r (p ++ w) → TimelyF
 timely-from r p [] h = tt
 timely-from r p (j ∷ w) h = (
   subst (λ (a : Van). a.finish ≤ (door r j).closes) (van-snoc r p j) (h p j w refl),
-  subst (λ (a : Van). TimelyFrom r a w) (van-snoc r p j) (timely-from r (p ++ (j ∷ [])) w (subst (Timely r) (sym (snoc-assoc p w j)) h)),
+  rw (← (van-snoc r p j)) (timely-from r (p ++ (j ∷ [])) w (subst (Timely r) (sym (snoc-assoc p w j)) h)),
 )
 
 -- ---- legs
@@ -91,11 +91,9 @@ module _ (r : Round) (m j : ℕ) where
           → or_zero (legs r m j k (i + 1) (nearestIf (has m i && not (eqb i j)) o (drive r i j))) ≤ drive r t j
       go true e f =
           let s : i ≡ t = eqb-true i t e in
-          let x : (has m i && not (eqb i j)) ≡ true = subst (λ (y : ℕ). (has m y && not (eqb y j)) ≡ true) (sym s) (rw (h, g) refl) in
+          let x : (has m i && not (eqb i j)) ≡ true = rw s (rw (h, g) refl) in
           let y = near o (drive r i j) in
-          subst (λ (b : Bool). or_zero (legs r m j k (i + 1) (nearestIf b o (drive r i j))) ≤ drive r t j) (sym x)
-          (subst (λ (p : Option ℕ). or_zero (legs r m j k (i + 1) p) ≤ drive r t j) (sym y.1)
-          (legs-below k (i + 1) y.0 (drive r t j) (subst (λ (z : ℕ). y.0 ≤ drive r z j) s y.2)))
+          rw x (rw y.1 (legs-below k (i + 1) y.0 (drive r t j) (rw (← s) y.2)))
       go false e f = f (differ i t a e)
         where
           differ : (x y : ℕ) → x ≤ y → eqb x y ≡ false → x + 1 ≤ y
@@ -140,7 +138,7 @@ module _ (r : Round) (t j : ℕ) where
           → legs r (one t) j k (i + 1) (nearestIf (has (one t) i && not (eqb i j)) None (drive r i j)) ≡ Some (drive r t j)
       go true e f =
           let s : i ≡ t = eqb-true i t e in
-          let x : (has (one t) i && not (eqb i j)) ≡ true = subst (λ (y : ℕ). (has (one t) y && not (eqb y j)) ≡ true) (sym s) (rw (one-self t, g) refl) in
+          let x : (has (one t) i && not (eqb i j)) ≡ true = rw s (rw (one-self t, g) refl) in
           ap (λ (b : Bool). legs r (one t) j k (i + 1) (nearestIf b None (drive r i j))) x ∙ ap (λ (y : ℕ). legs r (one t) j k (i + 1) (Some (drive r y j))) s ∙ legs-stay k (i + 1)
       go false e f =
           let x : (has (one t) i && not (eqb i j)) ≡ false = off (has (one t) i) refl in

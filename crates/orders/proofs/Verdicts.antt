@@ -1,6 +1,5 @@
 -- A verdict, door by door, and what it means.
-use Rattle.std.proofs.Common.{◌≡◌, ℕ, ◌+◌, ◌<◌, ◌≤◌, Bool, true, false, cond, ltb, ◌⊎◌, List, [], ◌∷◌, ◌++◌, length, get_or, drop, fold, sym, refl, ap, ◌∙◌, subst, inl, inr, ⊎_elim, append_assoc, append-nil, arith}
-use Rattle.std.proofs.lemmas.List.{drop_more}
+use Rattle.std.proofs.Common.{◌≡◌, ℕ, ◌≤◌, true, false, ltb, List, [], ◌∷◌, ◌++◌, length, sym, refl, ap, ◌∙◌, subst, ⊎_elim, append_assoc, append-nil, arith}
 use Rattle.std.proofs.lemmas.List.Sums.{fold_push}
 use Rattle.std.proofs.lemmas.Bool.{cases_Bool, cond-true, cond-false, ltb-true, ltb-false}
 use Rattle.doors.specs.Orders.{PartOrder, Next}
@@ -10,11 +9,9 @@ use Rattle.round.specs.Clock.{door}
 use Rattle.rules.specs.Rules.{RuleSense, RuleLaws, state_of}
 use Rattle.rules.proofs.States.{state-stands}
 use Rattle.orders.specs.declared.van.Van.{Van}
-use Rattle.orders.specs.declared.verdict.Verdict.{Verdict}
 use Rattle.orders.specs.declared.verdict.Verdict.TheVariants as is
-use Rattle.orders.specs.Allowed.{Allowed}
 use Rattle.orders.specs.Times.{yard, goes, vanAfter, finishOf, Timely}
-use Rattle.orders.specs.Verdicts.{verdictFrom, Fault, Judged}
+use Rattle.orders.specs.Verdicts.{verdictFrom, Judged}
 
 -- ---- the meaning
 

@@ -1,10 +1,7 @@
-use Rattle.std.proofs.Common.{◌≡◌, ℕ, ◌+◌, ◌<◌, ◌≤◌, true, false, ltb, List, [], get_or, take, drop, sym, ap, ◌∙◌, subst, arith}
-use Rattle.std.proofs.lemmas.List.{drop_all}
-use Rattle.round.specs.Clock.{latest, door}
+use Rattle.std.proofs.Common.{◌≤◌, sym, subst}
+use Rattle.round.specs.Clock.{latest}
 use Rattle.orders.specs.declared.van.Van.{Van}
-use Rattle.orders.specs.Times.{yard, goes, vanAfter}
-use Rattle.orders.specs.Verdicts.{verdictFrom}
-use Rattle.orders.proofs.Times.{soon, van-next}
+use Rattle.orders.proofs.Times.{soon}
 use Rattle.orders.proofs.order.Order.first_fault.Goals as goal
 
 pub goes-van-requires : goal.goes-van-requires
