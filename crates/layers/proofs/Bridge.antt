@@ -98,8 +98,7 @@ stand-table zero zero f h on off = refl
 stand-table zero (suc m) f h on off = absurd (not-suc-le-zero h)
 stand-table (suc W) zero f h on off = ap (λ (q : Bool). cond q (f 0 ∷ standing (table W (λ k. f (suc k)))) []) (off (omega arith))
 stand-table (suc W) (suc m) f h on off =
-    ap (λ (q : Bool). cond q (f 0 ∷ standing (table W (λ k. f (suc k)))) []) (on 0 (omega arith))
-    ∙ ap (λ (z : List (Node _ _)). f 0 ∷ z) (stand-table W m (λ k. f (suc k)) (le_of_suc-le-suc h) (λ k q. on (suc k) (omega arith)) (λ q. off (omega arith)))
+    rw (on 0 (omega arith)) (ap (λ (z : List (Node _ _)). f 0 ∷ z) (stand-table W m (λ k. f (suc k)) (le_of_suc-le-suc h) (λ k q. on (suc k) (omega arith)) (λ q. off (omega arith))))
 
 module _ {S V : Type 0} (r : Round) (rule : RuleSense S) (tally : TallySense V) (W : ℕ) (w : 1 ≤ W) where
   abbrev pub Labs : Type 0
@@ -183,13 +182,13 @@ module _ {S V : Type 0} (r : Round) (rule : RuleSense S) (tally : TallySense V) 
   row-downs labs L Ls f =
       map-table (λ (x : Node S V). Some x.label.down) (length L) (place r rule tally L labs (ups (L ∷ Ls)))
       ∙ table-ext (length L) _ (λ k. get_or labs k None) (λ k h. let x = f.filled.there k h in ap (λ (o : Option (Lab r rule tally)). Some (orBlank r rule tally o)) x.1 ∙ sym x.1)
-      ∙ ap (λ (m : ℕ). table m (λ k. get_or labs k None)) (sym f.filled.long) ∙ table-back None labs
+      ∙ rw (← f.filled.long) (table-back None labs)
 
   -- the end's node
   end-top : (labs : Labs) (l : Lab r rule tally) → get_or labs 0 None ≡ Some l → eqb l.lasts 0 ≡ false → top labs [] ≡ record { arcs = record { to = padded [] }; label = record { down = l; up = noUp } } ∷ []
   end-top labs l e q =
       let P : Option (Lab r rule tally) → Node S V = λ o. record { arcs = record { to = padded [] }; label = record { down = orBlank r rule tally o; up = noUp } } in
-      ap (λ (o : Option (Lab r rule tally)). standing (P o ∷ [])) e ∙ ap (λ (z : Bool). cond (not z) (P (Some l) ∷ []) []) q
+      rw e (ap (λ (z : Bool). cond (not z) (P (Some l) ∷ []) []) q)
 
   tops-end : (labs : Labs) (L : Layer) → Filled labs (length L) → Tied (L ∷ []) → (a j b : ℕ) → target (node L a) j ≡ suc b → get_or (upsIn (top (labelsNext r rule tally labs L 1) [])) b None ≡ get_or (ups []) b None
   unfolding labelsNext
@@ -221,7 +220,7 @@ module _ {S V : Type 0} (r : Round) (rule : RuleSense S) (tally : TallySense V) 
   -- ---- reading the records
   one-row : (labs : Labs) (L : Layer) (Ls : Net) → Fit labs L Ls → standing (table W (place r rule tally L labs (ups (L ∷ Ls)))) ≡ top labs (L ∷ Ls)
   one-row labs L Ls f = stand-table W (length L) (place r rule tally L labs (ups (L ∷ Ls))) f.room
-      (λ k h. let x = f.filled.there k h in ap (λ (o : Option (Lab r rule tally)). not (eqb (orBlank r rule tally o).lasts 0)) x.1 ∙ ap not (f.filled.lasting k x.0 x.1))
+      (λ k h. let x = f.filled.there k h in rw x.1 (ap not (f.filled.lasting k x.0 x.1)))
       (λ h. ap (λ (o : Option (Lab r rule tally)). not (eqb (orBlank r rule tally o).lasts 0)) f.filled.beyond)
 
   pub layers-laid : (later : List (Node S V)) (labs : Labs) (Ls : Net) → Full labs Ls → layers W (length Ls) (laidFrom r rule tally W labs Ls ++ later) ≡ stood labs Ls

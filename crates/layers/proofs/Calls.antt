@@ -178,7 +178,7 @@ module _ {S V : Type 0} {Keeps : List ℕ → Type 0} {Stands : S → List ℕ �
       → (l : Lab r rule tally) × (final (arrive r rule tally) (merge r rule tally) labs Ls ≡ Some l) × (tally.notAbove l.value (cost r tally (p ++ w)) ≡ true)
   unfolding final At labelsNext
   final-fits p [] labs [] a g t at good neat q =
-      (at.0, ap (λ (x : ℕ). get_or labs x None) (sym q) ∙ at.1, tallied.order-chain _ (cost r tally p) _ at.2.value (cost-rises p [] g t))
+      (at.0, rw (← q) at.1, tallied.order-chain _ (cost r tally p) _ at.2.value (cost-rises p [] g t))
   final-fits p (j ∷ w) labs [] a g t at good neat q = absurd q
   final-fits p [] labs (L ∷ Ls) a g t at good neat q = absurd q
   final-fits p (j ∷ w) labs (L ∷ Ls) a g t at good neat q =

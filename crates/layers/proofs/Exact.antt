@@ -239,7 +239,7 @@ module _ {S V : Type 0} {Keeps : List ℕ → Type 0} {Stands : S → List ℕ �
       ap (λ (a : Van). a.finish) (sym (trip-van r tally (p ++ (j ∷ [])))) ∙ ap (λ (q : Trip V). q.van.finish) z ∙ sym f in
       record {
         sound = record {
-          keeps = ruled.clear-keeps p j (record { part = t.part; door = d; new = n }) s.keeps (ap (λ (x : S). rule.bars x j) (sym e.state) ∙ c.free);
+          keeps = ruled.clear-keeps p j (record { part = t.part; door = d; new = n }) s.keeps (rw (← e.state) c.free);
           timely = each_more _ p j s.timely (rw v c.early);
           told = told-next r rule ruled tally tallied p j t d k n;
         };
@@ -263,9 +263,8 @@ module _ {S V : Type 0} {Keeps : List ℕ → Type 0} {Stands : S → List ℕ �
       → target (node L a) j ≡ suc b → get_or labs a None ≡ Some l → Clear l j
   unfolding settles quiet
   settles-arc i labs L Ls a j b l s e g =
-      clear i (suc (length Ls)) j l (get_or (ups Ls) b None) (ap (λ (o : Option (Lab r rule tally)). barred r rule tally i (suc (length Ls)) j o (get_or (ups Ls) b None)) (sym g)
-      ∙ not-true _ (everyArc-at (λ a j b. not (barred r rule tally i (suc (length Ls)) j (get_or labs a None) (get_or (ups Ls) b None))) 0 L a a j b (omega arith)
-      (and_parts _ _ (and_parts (agrees r rule tally labs (L ∷ Ls)) (quiet r rule tally i labs (L ∷ Ls)) s).1).0 e))
+      clear i (suc (length Ls)) j l (get_or (ups Ls) b None) (rw (← g) (not-true _ (everyArc-at (λ a j b. not (barred r rule tally i (suc (length Ls)) j (get_or labs a None) (get_or (ups Ls) b None))) 0 L a a j b (omega arith)
+      (and_parts _ _ (and_parts (agrees r rule tally labs (L ∷ Ls)) (quiet r rule tally i labs (L ∷ Ls)) s).1).0 e)))
 
   agreed-at : (labs : List (Option (Lab r rule tally))) (L : Layer) (k b : ℕ) → agreed r rule tally labs L k ≡ true → b < k → agreeing r rule tally (ins (arrive r rule tally) b labs L) ≡ true
   unfolding agreed
@@ -273,7 +272,7 @@ module _ {S V : Type 0} {Keeps : List ℕ → Type 0} {Stands : S → List ℕ �
   agreed-at labs L (suc k) b e h = go (eqb b k) refl (λ g. agreed-at labs L k b (and_parts _ _ e).1 g)
     where
       go : (q : Bool) → eqb b k ≡ q → (b < k → agreeing r rule tally (ins (arrive r rule tally) b labs L) ≡ true) → agreeing r rule tally (ins (arrive r rule tally) b labs L) ≡ true
-      go true f g = ap (λ (x : ℕ). agreeing r rule tally (ins (arrive r rule tally) x labs L)) (eqb-true b k f) ∙ (and_parts _ _ e).0
+      go true f g = rw (eqb-true b k f) ((and_parts _ _ e).0)
       go false f g = g (omega (arith, eqb-false b k f))
 
   settles-next : (i : ℕ) (labs : List (Option (Lab r rule tally))) (L M : Layer) (Ls : Net) → settles r rule tally i labs (L ∷ M ∷ Ls) ≡ true
@@ -330,7 +329,7 @@ module _ {S V : Type 0} {Keeps : List ℕ → Type 0} {Stands : S → List ℕ �
       leads = λ w q. rw (snoc-assoc c.way w f.door) (c.leads (f.door ∷ w) (b, f.arc, q));
       sound = on.sound;
       exact = rw f.is on.exact;
-      worth = ap (λ (z : Lab r rule tally). z.value) f.is ∙ on.worth c.worth;
+      worth = rw f.is (on.worth c.worth);
       long = length-snoc c.way f.door ∙ ap suc c.long;
     }
 

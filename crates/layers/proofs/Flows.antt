@@ -189,8 +189,7 @@ tidy-from fr (L ∷ Ls) a (j ∷ w) g p =
     let here = flags-at fr (marksUp (L ∷ Ls)) a g (mark-up (L ∷ Ls) a (j ∷ w) p) in
     let there = flags-at fr' (marksUp Ls) b g' (mark-up Ls b w p.2) in (
       rank fs b,
-      ap (λ (nd : Outs). target nd j) (compress-at (flags fr (marksUp (L ∷ Ls))) (redirect (λ x y c. renumber fs c) L) a here)
-          ∙ redirect-arc (λ x y c. renumber fs c) L a j b p.1 ∙ renumber-at fs b there,
+      rw (compress-at (flags fr (marksUp (L ∷ Ls))) (redirect (λ x y c. renumber fs c) L) a here) (redirect-arc (λ x y c. renumber fs c) L a j b p.1 ∙ renumber-at fs b there),
       tidy-from fr' Ls b w g' p.2,
     )
 

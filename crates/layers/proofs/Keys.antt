@@ -50,7 +50,7 @@ was-node : (gs : List Bool) (X : Layer) (c j b : ℕ) → target (node (compress
 was-node gs X c j b e =
     let q = compress-back gs X c (has-arc (compress gs X) c j b e) in
     let z : unrank gs c ≡ q.0 = ap (unrank gs) (sym q.2) ∙ unrank-rank gs q.0 q.1 in
-    ap (λ (x : ℕ). target (node X x) j) z ∙ ap (λ (nd : Outs). target nd j) (sym (compress-at gs X q.0 q.1)) ∙ ap (λ (x : ℕ). target (node (compress gs X) x) j) q.2 ∙ e
+    rw (z, ← (compress-at gs X q.0 q.1), q.2) e
 
 sub-tidy : (fr : List (Option Mark)) (Ls : Net) → Sub (unrank (flags fr (marksUp Ls))) (tidy fr Ls) Ls
 unfolding tidy
@@ -125,8 +125,8 @@ module _ {S V : Type 0} (r : Round) (rule : RuleSense S) (tally : TallySense V) 
       behind : (c j b : ℕ) → target (node (M ++ (node M a ∷ [])) c) j ≡ suc b → target (node M (g c)) j ≡ suc b
       behind c j b e =
           elim (more-back M (node M a) c (let z = has-arc (M ++ (node M a ∷ [])) c j b e in omega (arith, length-snoc M (node M a)))) [
-            | inl q ↦ ap (λ (x : ℕ). target (node M x) j) (g-old c q.0) ∙ ap (λ (nd : Outs). target nd j) (sym q.1) ∙ e
-            | inr q ↦ ap (λ (x : ℕ). target (node M x) j) (ap g q.0 ∙ g-new) ∙ ap (λ (nd : Outs). target nd j) (sym q.1) ∙ e
+            | inl q ↦ rw ((g-old c q.0), ← q.1) e
+            | inr q ↦ rw ((ap g q.0 ∙ g-new), ← q.1) e
           ]
   sub_part (suc d) a labs (L ∷ Ls) t = (λ b. b, λ x j b e. e, sub_part d a (labelsNext r rule tally labs L (width Ls)) Ls (tied-tail L Ls t))
 
@@ -176,7 +176,7 @@ module _ {S V : Type 0} {Keeps : List ℕ → Type 0} {Stands : S → List ℕ �
   agree-arrive x y j p = record {
     all = ap (λ (t : ℕ). bit_or t (one j)) p.all;
     some = ap (λ (t : ℕ). bit_or t (one j)) p.some;
-    finish = ap (λ (t : ℕ). finish r t (leg r x.lasts j) j) p.finish ∙ ap (λ (t : ℕ). finish r y.finish (leg r t j) j) p.lasts;
+    finish = rw p.finish (ap (λ (t : ℕ). finish r y.finish (leg r t j) j) p.lasts);
     lasts = refl;
     state = ap (λ (t : S). rule.step t j) p.state;
   }

@@ -59,7 +59,7 @@ module _ {S V : Type 0} {Keeps : List ℕ → Type 0} {Stands : S → List ℕ �
       let k : a < length L = omega (arith, table-long (length L) F) in
       let x = f.0.filled.there a k in
       let e = table_at (length L) a F other k in
-      record { inner = k; label = x.0; labelled = x.1; down = ap (λ (y : Node S V). y.label.down) e ∙ ap (orBlank r rule tally) x.1; up = ap (λ (y : Node S V). y.label.up) e }
+      record { inner = k; label = x.0; labelled = x.1; down = rw e (ap (orBlank r rule tally) x.1); up = ap (λ (y : Node S V). y.label.up) e }
 
   -- the same in layer d
   full_at : (d : ℕ) (labs : Labs r rule tally W w1) (Ls : Net) → d ≤ length Ls → Full r rule tally W w1 labs Ls → Full r rule tally W w1 (labsAt r rule tally W w1 d labs Ls) (drop d Ls)
@@ -104,7 +104,7 @@ module _ {S V : Type 0} {Keeps : List ℕ → Type 0} {Stands : S → List ℕ �
         ap (λ (N : List (List (Node S V))). get_or N i []) (nodes-X r rule ruled.same_self tally W w1 later D p) ∙ stood-top i (firsts r rule tally) D h' in
         let f = full_at i (firsts r rule tally) D h' (full r rule ruled.same_self tally W w1 later D p) in
         let s = top-at labs (drop i D) a other f (rw (← e) k) in
-        rw (arcs-X r rule ruled.same_self tally W w1 later D p) (rw e (labelled later D p neat i a (get_or (top r rule tally W w1 labs (drop i D)) a other) h' s))
+        rw ((arcs-X r rule ruled.same_self tally W w1 later D p), e) (labelled later D p neat i a (get_or (top r rule tally W w1 labs (drop i D)) a other) h' s)
 
 pub labels-mean : {S V : Type 0} {Keeps : List ℕ → Type 0} {Stands : S → List ℕ → Type 0} {Allows : ℕ → V → Type 0} (A B : ℕ → Type 0) (rule : RuleSense S) (tally : TallySense V)
     → ((n : ℕ) → A n → RuleLaws n rule Keeps Stands) → ((n : ℕ) → B n → TallyLaws n tally Allows) → Labels-mean A rule B tally Allows

@@ -88,7 +88,7 @@ path-push : (D : Net) (x a k b : ℕ) (p : List ℕ) → Path-to D x p a → tar
 path-push [] x a zero b [] q e = absurd (omega arith)
 path-push [] x a (suc k) b [] q e = absurd (omega arith)
 path-push [] x a k b (j ∷ p) q e = absurd q
-path-push (L ∷ Ls) x a k b [] q e = (b, ap (λ (z : ℕ). target (node L z) k) q ∙ e, refl)
+path-push (L ∷ Ls) x a k b [] q e = (b, rw q e, refl)
 path-push (L ∷ Ls) x a k b (j ∷ p) q e = (q.0, q.1, path-push Ls q.0 a k b p q.2 e)
 
 -- the last arc of a path
@@ -172,7 +172,7 @@ module _ {S V : Type 0} {Keeps : List ℕ → Type 0} {Stands : S → List ℕ �
         (λ x y w f. record { all_in = λ j h. f.all_in j (and_right x.all y.all j h); in_some = λ j i. or_right x.some y.some j (f.in_some j i) })
         (arrive r rule tally) (At d D) L n s.source s.door b x.0 s.arc x.1 (ranged-at D d t h s.source s.door b s.arc) in (
           y.0,
-          ap (λ (z : Labs r rule tally W w1). get_or z b None) (labs-step d (firsts r rule tally) D h) ∙ y.1,
+          rw (labs-step d (firsts r rule tally) D h) y.1,
           y.2 w (subst (Tells (bit_or x.0.all (one s.door)) (bit_or x.0.some (one s.door))) (sym s.is) (tells-step x.0.all x.0.some s.door (λ w. w ++ (s.door ∷ [])) s.before (at_back s.door) x.2)),
         )
 

@@ -33,7 +33,7 @@ module _ (n : ℕ) where
   even-each : (f : ℕ → ℕ → ℕ → ℕ) (c : ℕ) (L : Layer) → EvenLayer n L → EvenLayer n (eachNode f c L)
   unfolding eachNode
   even-each f c [] h nd i = absurd i
-  even-each f c (x ∷ L) h nd (inl e) = ap (λ (y : Outs). length y) e ∙ eachDoor-length (f c) 1 x ∙ h x (inl refl)
+  even-each f c (x ∷ L) h nd (inl e) = rw e (eachDoor-length (f c) 1 x ∙ h x (inl refl))
   even-each f c (x ∷ L) h nd (inr i) = even-each f (suc c) L (λ y k. h y (inr k)) nd i
 
   pub even-redirect : (f : ℕ → ℕ → ℕ → ℕ) (L : Layer) → EvenLayer n L → EvenLayer n (redirect f L)
@@ -50,7 +50,7 @@ module _ (n : ℕ) where
 
   even-set : (L : Layer) (i : ℕ) (v : Outs) → length v ≡ n → EvenLayer n L → EvenLayer n (set L i v)
   even-set [] i v g h nd k = absurd k
-  even-set (x ∷ L) zero v g h nd (inl e) = ap (λ (y : Outs). length y) e ∙ g
+  even-set (x ∷ L) zero v g h nd (inl e) = rw e g
   even-set (x ∷ L) zero v g h nd (inr k) = h nd (inr k)
   even-set (x ∷ L) (suc i) v g h nd (inl e) = h nd (inl e)
   even-set (x ∷ L) (suc i) v g h nd (inr k) = even-set L i v g (λ y m. h y (inr m)) nd k
@@ -139,7 +139,7 @@ module _ {S V : Type 0} (r : Round) (rule : RuleSense S) (tally : TallySense V) 
   even-part zero a labs (L ∷ M ∷ Ls) k h = (
     (
       even-redirect r.n _ L h.0,
-      ((λ nd i. elim (among-split nd M (node M a ∷ []) i) [ inl x ↦ h.1.0 nd x | inr x ↦ elim x [ inl e ↦ ap (λ (y : Outs). length y) e ∙ h.1.0 (node M a) (node-among M a k) | inr y ↦ absurd y ] ]), h.1.1),
+      ((λ nd i. elim (among-split nd M (node M a ∷ []) i) [ inl x ↦ h.1.0 nd x | inr x ↦ elim x [ inl e ↦ rw e (h.1.0 (node M a) (node-among M a k)) | inr y ↦ absurd y ] ]), h.1.1),
     ),
     simp redirect-length,
   )
@@ -160,7 +160,7 @@ module _ {S V : Type 0} (r : Round) (rule : RuleSense S) (tally : TallySense V) 
 
       evens : (k : ℕ) → EvenIn r.n (table k (λ i. allDoors r rule tally ∷ []))
       evens zero = tt
-      evens (suc k) = (λ nd i. elim i [ inl e ↦ ap (λ (y : Outs). length y) e ∙ table-long r.n (λ m. 1) | inr x ↦ absurd x ], evens k)
+      evens (suc k) = (λ nd i. elim i [ inl e ↦ rw e (table-long r.n (λ m. 1)) | inr x ↦ absurd x ], evens k)
 
   pub proper-tidied : (Ls : Net) → length Ls ≡ r.n → width Ls ≡ 1 → EvenIn r.n Ls → Roomy W Ls → Proper r.n W (tidied Ls)
   proper-tidied Ls a b c d = record { deep = tidied-length Ls ∙ a; one-first = first-tidied Ls ∙ b; even = even-tidied r.n Ls c; roomy = roomy-tidied W Ls d; tied = tidied-tied Ls }
@@ -188,7 +188,7 @@ module _ {S V : Type 0} (r : Round) (rule : RuleSense S) (tally : TallySense V) 
   parted-even zero a labs (L ∷ M ∷ Ls) k h = (
     (
       even-redirect r.n _ L h.0,
-      ((λ nd i. elim (among-split nd M (node M a ∷ []) i) [ inl x ↦ h.1.0 nd x | inr x ↦ elim x [ inl e ↦ ap (λ (y : Outs). length y) e ∙ h.1.0 (node M a) (node-among M a k) | inr y ↦ absurd y ] ]), h.1.1),
+      ((λ nd i. elim (among-split nd M (node M a ∷ []) i) [ inl x ↦ h.1.0 nd x | inr x ↦ elim x [ inl e ↦ rw e (h.1.0 (node M a) (node-among M a k)) | inr y ↦ absurd y ] ]), h.1.1),
     ),
     simp redirect-length,
   )

@@ -53,7 +53,7 @@ hits-nil (k ∷ w) = hits-nil w
 
 hits-one : (i : ℕ) (w : List ℕ) → In i w → fold hit (i ∷ []) w ≡ []
 hits-one i [] h = absurd h
-hits-one i (k ∷ w) (inl e) = ap (λ (q : Bool). fold hit (cond q [] (i ∷ [])) w) (eq-eqb i k e) ∙ hits-nil w
+hits-one i (k ∷ w) (inl e) = rw (eq-eqb i k e) (hits-nil w)
 hits-one i (k ∷ w) (inr h) = go (eqb i k) (hits-one i w h)
   where
     go : (q : Bool) → fold hit (i ∷ []) w ≡ [] → fold hit (cond q [] (i ∷ [])) w ≡ []
@@ -75,7 +75,7 @@ ahead_in j i (k ∷ w) (inr h) = inr (ahead_in j i w h)
 
 hits-two : (j i : ℕ) (w : List ℕ) → Ahead j i w → fold hit (j ∷ i ∷ []) w ≡ []
 hits-two j i [] h = absurd h
-hits-two j i (k ∷ w) (inl h) = ap (λ (q : Bool). fold hit (cond q (i ∷ []) (j ∷ i ∷ [])) w) (eq-eqb j k h.0) ∙ hits-one i w h.1
+hits-two j i (k ∷ w) (inl h) = rw (eq-eqb j k h.0) (hits-one i w h.1)
 hits-two j i (k ∷ w) (inr h) = go (eqb j k) (hits-two j i w h)
   where
     go : (q : Bool) → fold hit (j ∷ i ∷ []) w ≡ [] → fold hit (cond q (i ∷ []) (j ∷ i ∷ [])) w ≡ []

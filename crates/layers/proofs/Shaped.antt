@@ -173,8 +173,7 @@ module _ {S V : Type 0} (r : Round) (rule : RuleSense S) (tally : TallySense V) 
   end_of (L ∷ Ms) n d h t f a j b e =
       let z : n - 1 ≡ length Ms = omega arith in
       let y : n ≡ suc (length Ms) = sym d in
-      ap (λ (k : ℕ). length (get_or (stood r rule tally W w (firsts r rule tally) (L ∷ Ms)) k [])) y
-      ∙ end-stands (firsts r rule tally) L Ms t f a j b (ap (λ (k : ℕ). target (node (get_or (L ∷ Ms) k []) a) j) (sym z) ∙ e)
+      rw y (end-stands (firsts r rule tally) L Ms t f a j b (rw (← z) e))
 
 -- ---- the end's place is in use if an arc leads to it
 pub ended-one : {S V : Type 0} (n W : ℕ) (xs : List (Node S V)) → Ended n W xs → (a j b : ℕ) → target (node (get_or (arcs n W xs) (n - 1) []) a) j ≡ suc b → length (layer n W n xs) ≡ 1
@@ -193,8 +192,7 @@ module _ {S V : Type 0} (r : Round) (rule : RuleSense S) (tally : TallySense V) 
   stands-at-end : (a j b : ℕ) → target (node (get_or (arcs r.n W (relaid r rule tally W xs Ls)) (r.n - 1) []) a) j ≡ suc b → length (layer r.n W r.n (relaid r rule tally W xs Ls)) ≡ 1
   unfolding relaid
   stands-at-end a j b e =
-      ap (λ (N : List (List (Node S V))). length (get_or N r.n [])) (nodes-laid r rule tally W w (drop (r.n * W + 1) xs) Ls p)
-      ∙ end_of r rule tally W w Ls r.n p.deep r.one p.tied (full r rule tally W w (drop (r.n * W + 1) xs) Ls p) a j b (ap (λ (M : Net). target (node (get_or M (r.n - 1) []) a) j) (sym arcs-relaid) ∙ e)
+      rw (nodes-laid r rule tally W w (drop (r.n * W + 1) xs) Ls p) (end_of r rule tally W w Ls r.n p.deep r.one p.tied (full r rule tally W w (drop (r.n * W + 1) xs) Ls p) a j b (rw (← arcs-relaid) e))
 
   ended' : Ended r.n W (relaid r rule tally W xs Ls)
   ended' =

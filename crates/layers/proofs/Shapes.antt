@@ -36,12 +36,12 @@ module _ {S V : Type 0} (r : Round) (rule : RuleSense S) (tally : TallySense V) 
       go true e = (
         length M,
         redirect-arc f L x j b p.1 ∙ ap (λ (z : Bool). cond z (suc (length M)) (suc b)) e,
-        (p.2.0, ap (λ (nd : Outs). target nd k) (get_or_push M (node M a) [] (length M) refl) ∙ ap (λ (z : ℕ). target (node M z) k) (sym (eqb-true b a (and_parts (eqb b a) (leaves r rule tally h (get_or labs x None) j) e).0)) ∙ p.2.1, p.2.2),
+        (p.2.0, rw ((get_or_push M (node M a) [] (length M) refl), ← (eqb-true b a (and_parts (eqb b a) (leaves r rule tally h (get_or labs x None) j) e).0)) p.2.1, p.2.2),
       )
       go false e = (
         b,
         redirect-arc f L x j b p.1 ∙ ap (λ (z : Bool). cond z (suc (length M)) (suc b)) e,
-        (p.2.0, ap (λ (nd : Outs). target nd k) (get_or_append_left M (node M a ∷ []) [] b (has-arc M b k p.2.0 p.2.1)) ∙ p.2.1, p.2.2),
+        (p.2.0, rw (get_or_append_left M (node M a ∷ []) [] b (has-arc M b k p.2.0 p.2.1)) p.2.1, p.2.2),
       )
   part-keeps (suc d) a labs (L ∷ Ls) x [] p = absurd p
   part-keeps (suc d) a labs (L ∷ Ls) x (j ∷ w) p = (p.0, p.1, part-keeps d a (labelsNext r rule tally labs L (width Ls)) Ls p.0 w p.2)
@@ -109,16 +109,16 @@ join-node M lo hi b k c lt inn nc e = go (eqb b hi) refl (ltb hi b) refl
     X = set M lo v
 
     to : (z : ℕ) → node (dropAt hi X) z ≡ v → target v k ≡ suc c → target (node (dropAt hi X) z) k ≡ suc c
-    to z f g = ap (λ (nd : Outs). target nd k) f ∙ g
+    to z f g = rw f g
 
     below : (q : Bool) → eqb b lo ≡ q → b < hi → target (node (dropAt hi X) b) k ≡ suc c
     below true f h = let s = eqb-true b lo f in
-        to b (drop-below hi b X h ∙ ap (λ (z : ℕ). node X z) s ∙ get_or-set_same M lo v [] (omega arith)) (target_left (node M lo) (node M hi) k c (ap (λ (z : ℕ). target (node M z) k) (sym s) ∙ e))
-    below false f h = ap (λ (nd : Outs). target nd k) (drop-below hi b X h ∙ get_or-set_other M lo b v [] (eqb-false b lo f)) ∙ e
+        to b (drop-below hi b X h ∙ rw s (get_or-set_same M lo v [] (omega arith))) (target_left (node M lo) (node M hi) k c (rw (← s) e))
+    below false f h = rw (drop-below hi b X h ∙ get_or-set_other M lo b v [] (eqb-false b lo f)) e
 
     go : (q : Bool) → eqb b hi ≡ q → (q' : Bool) → ltb hi b ≡ q' → target (node (dropAt hi X) (cond q lo (cond q' (b - 1) b))) k ≡ suc c
     go true f q' g = let s = eqb-true b hi f in
-        to lo (drop-below hi lo X lt ∙ get_or-set_same M lo v [] (omega arith)) (target_right (node M lo) (node M hi) k c nc (ap (λ (z : ℕ). target (node M z) k) (sym s) ∙ e))
+        to lo (drop-below hi lo X lt ∙ get_or-set_same M lo v [] (omega arith)) (target_right (node M lo) (node M hi) k c nc (rw (← s) e))
     go false f true g = let h = ltb-true hi b g in let z : suc (b - 1) ≡ b = omega arith in
         ap (λ (nd : Outs). target nd k) (drop-above hi (b - 1) X (omega arith) ∙ ap (λ (y : ℕ). node X y) z ∙ get_or-set_other M lo b v [] (omega arith)) ∙ e
     go false f false g = below (eqb b lo) refl (le b hi (eqb-false b hi f) g)

@@ -154,7 +154,7 @@ module _ (fr : List (Option Mark)) (L : Layer) (Ls : Net) where
 ranged-compress : (gs : List Bool) (X : Layer) (m : ℕ) → Ranged X m → Ranged (compress gs X) m
 ranged-compress gs X m h c j b e =
     let q = compress-back gs X c (has-arc (compress gs X) c j b e) in
-    h q.0 j b (ap (λ (nd : Outs). target nd j) (sym (compress-at gs X q.0 q.1)) ∙ ap (λ (z : ℕ). target (node (compress gs X) z) j) q.2 ∙ e)
+    h q.0 j b (rw (← (compress-at gs X q.0 q.1), q.2) e)
 
 ranged-end : (fr : List (Option Mark)) (L : Layer) → Ranged (RL fr L []) 1
 ranged-end fr L a j c e =
@@ -181,7 +181,7 @@ tidy-tied fr (L ∷ M ∷ Ls) =
     let n = redirect-length (λ a j b. renumber (fs fr2 M Ls) b) M in (
       ranged-compress gs (RL fr L (M ∷ Ls)) (length (compress (fs fr L (M ∷ Ls)) X)) (arcs-lead fr L (M ∷ Ls) X n),
       (λ c h. let q = fed_by fr L (M ∷ Ls) X c h in
-          (rank gs q.0, q.1, ap (λ (nd : Outs). target nd q.1) (compress-at gs (RL fr L (M ∷ Ls)) q.0 (flags-at fr (marksUp (L ∷ M ∷ Ls)) q.0 q.3 q.4)) ∙ q.2)),
+          (rank gs q.0, q.1, rw (compress-at gs (RL fr L (M ∷ Ls)) q.0 (flags-at fr (marksUp (L ∷ M ∷ Ls)) q.0 q.3 q.4)) q.2)),
       leads-on fr2 M Ls,
       tidy-tied fr2 (M ∷ Ls),
     )

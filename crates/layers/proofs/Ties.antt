@@ -54,25 +54,25 @@ more-back M nd c h = go (ltb c (length M)) refl
     go : (q : Bool) → ltb c (length M) ≡ q → ((c < length M) × (node (M ++ (nd ∷ [])) c ≡ node M c)) ⊎ ((c ≡ length M) × (node (M ++ (nd ∷ [])) c ≡ nd))
     go true e = let k = ltb-true c (length M) e in inl (k, get_or_append_left M (nd ∷ []) [] c k)
     go false e = let k : c ≡ length M = omega (arith, ltb-false c (length M) e) in
-        inr (k, ap (λ (z : ℕ). node (M ++ (nd ∷ [])) z) k ∙ get_or_push M nd [] (length M) refl)
+        inr (k, rw k (get_or_push M nd [] (length M) refl))
 
 module _ (M : Layer) (a : ℕ) (inn : a < length M) where
   more-ranged : (m : ℕ) → Ranged M m → Ranged (M ++ (node M a ∷ [])) m
   more-ranged m h c j b e =
       elim (more-back M (node M a) c (let z = has-arc (M ++ (node M a ∷ [])) c j b e in omega (arith, length-snoc M (node M a)))) [
-        | inl q ↦ h c j b (ap (λ (nd : Outs). target nd j) (sym q.1) ∙ e)
-        | inr q ↦ h a j b (ap (λ (nd : Outs). target nd j) (sym q.1) ∙ e)
+        | inl q ↦ h c j b (rw (← q.1) e)
+        | inr q ↦ h a j b (rw (← q.1) e)
       ]
 
   more-led : Led M → Led (M ++ (node M a ∷ []))
   more-led h c k =
       elim (more-back M (node M a) c (omega (arith, length-snoc M (node M a)))) [
-        | inl q ↦ (let s = h c q.0 in (s.0, s.1, ap (λ (nd : Outs). target nd s.0) q.1 ∙ s.2))
-        | inr q ↦ (let s = h a inn in (s.0, s.1, ap (λ (nd : Outs). target nd s.0) q.1 ∙ s.2))
+        | inl q ↦ (let s = h c q.0 in (s.0, s.1, rw q.1 s.2))
+        | inr q ↦ (let s = h a inn in (s.0, s.1, rw q.1 s.2))
       ]
 
   more-fed : (m : ℕ) → Fed M m → Fed (M ++ (node M a ∷ [])) m
-  more-fed m h b k = let s = h b k in (s.0, s.1, ap (λ (nd : Outs). target nd s.1) (get_or_append_left M (node M a ∷ []) [] s.0 (has-arc M s.0 s.1 b s.2)) ∙ s.2)
+  more-fed m h b k = let s = h b k in (s.0, s.1, rw (get_or_append_left M (node M a ∷ []) [] s.0 (has-arc M s.0 s.1 b s.2)) s.2)
 
   more-tied : (Ls : Net) → Tied (M ∷ Ls) → Tied ((M ++ (node M a ∷ [])) ∷ Ls)
   more-tied [] t = more-ranged 1 t
@@ -221,7 +221,7 @@ target-back x y (suc k) b e = both-back x y k b e
 
 moved-below : (lo hi c : ℕ) → c < hi → moved lo hi c ≡ c
 unfolding moved
-moved-below lo hi c h = ap (λ (q : Bool). cond q lo (cond (ltb hi c) (c - 1) c)) (ne_eqb c hi (omega arith)) ∙ go (ltb hi c) refl
+moved-below lo hi c h = rw (ne_eqb c hi (omega arith)) (go (ltb hi c) refl)
   where
     go : (q : Bool) → ltb hi c ≡ q → cond q (c - 1) c ≡ c
     go true e = let z = ltb-true hi c e in absurd (omega arith)
@@ -229,8 +229,7 @@ moved-below lo hi c h = ap (λ (q : Bool). cond q lo (cond (ltb hi c) (c - 1) c)
 
 moved-above : (lo hi c : ℕ) → hi ≤ c → moved lo hi (suc c) ≡ c
 unfolding moved
-moved-above lo hi c h = ap (λ (q : Bool). cond q lo (cond (ltb hi (suc c)) (suc c - 1) (suc c))) (ne_eqb (suc c) hi (omega arith))
-    ∙ ap (λ (q : Bool). cond q (suc c - 1) (suc c)) (lt-ltb hi (suc c) (omega arith)) ∙ omega arith
+moved-above lo hi c h = rw ((ne_eqb (suc c) hi (omega arith)), (lt-ltb hi (suc c) (omega arith))) (omega arith)
 
 moved_at : (lo hi : ℕ) → moved lo hi hi ≡ lo
 unfolding moved
@@ -255,8 +254,8 @@ module _ (M : Layer) (lo hi : ℕ) (lt : lo < hi) (inn : hi < length M) (nc : cl
             | inl q ↦ (lo, q)
             | inr q ↦ (hi, q)
           ]
-      go (inl k) (inr s) = (c, ap (λ (nd : Outs). target nd j) (sym (drop-below hi c X k ∙ get_or-set_other M lo c (bothOut (node M lo) (node M hi)) [] s)) ∙ e)
-      go (inr k) s = (suc c, ap (λ (nd : Outs). target nd j) (sym (drop-above hi c X k ∙ get_or-set_other M lo (suc c) (bothOut (node M lo) (node M hi)) [] (omega arith))) ∙ e)
+      go (inl k) (inr s) = (c, rw (← (drop-below hi c X k ∙ get_or-set_other M lo c (bothOut (node M lo) (node M hi)) [] s)) e)
+      go (inr k) s = (suc c, rw (← (drop-above hi c X k ∙ get_or-set_other M lo (suc c) (bothOut (node M lo) (node M hi)) [] (omega arith))) e)
 
   join-ranged : (m : ℕ) → Ranged M m → Ranged M' m
   join-ranged m h c j b e = let q = back c j b e in h q.0 j b q.1

@@ -19,7 +19,7 @@ use Rattle.layers.proofs.Ways.{leg-bound}
 -- ---- lists
 take_past : {A : Type 0} (m k : ℕ) (f : ℕ → A) (xs : List A) → take (m + k) (table m f ++ xs) ≡ table m f ++ take k xs
 take_past zero k f xs = ap (λ (c : ℕ). take c xs) (zero-add k)
-take_past (suc m) k f xs = ap (λ (c : ℕ). take c (f 0 ∷ table m (λ i. f (suc i)) ++ xs)) (suc-add m k) ∙ ap (λ (l : List _). f 0 ∷ l) (take_past m k (λ i. f (suc i)) xs)
+take_past (suc m) k f xs = rw (suc-add m k) (ap (λ (l : List _). f 0 ∷ l) (take_past m k (λ i. f (suc i)) xs))
 
 all-table : {A : Type 0} (P : A → Type 0) (m : ℕ) (f : ℕ → A) → ((k : ℕ) → P (f k)) → All P (table m f)
 all-table P zero f h = tt

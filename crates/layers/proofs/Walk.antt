@@ -138,7 +138,7 @@ module _ {S V : Type 0} {Keeps : List ℕ → Type 0} {Stands : S → List ℕ �
       let s = (clock-laws r).bound (length p) (tripAfter r tally p).van.finish (drive r (tripAfter r tally p).van.last j) j t.soon le in
       record {
         part = next-part r.n p j t.part d f;
-        soon = rw e (rw (length-snoc p j) s);
+        soon = rw (e, (length-snoc p j)) s;
         fine = subst (λ (z : Trip V). Allows (length (p ++ (j ∷ []))) z.cost) (sym e)
             (subst (λ (z : ℕ). Allows z (rides r tally (tripAfter r tally p) j).cost) (sym (length-snoc p j))
             (tallied.step-allowed (length p) (cost r tally p) j (drive r (tripAfter r tally p).van.last j) (rides r tally (tripAfter r tally p) j).van.finish k d le (within (length p) _ k s) t.fine));

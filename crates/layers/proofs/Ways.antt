@@ -91,9 +91,9 @@ module _ (r : Round) (m j : ℕ) where
           → or_zero (legs r m j k (i + 1) (nearestIf (has m i && not (eqb i j)) o (drive r i j))) ≤ drive r t j
       go true e f =
           let s : i ≡ t = eqb-true i t e in
-          let x : (has m i && not (eqb i j)) ≡ true = rw s (rw (h, g) refl) in
+          let x : (has m i && not (eqb i j)) ≡ true = rw (s, h, g) refl in
           let y = near o (drive r i j) in
-          rw x (rw y.1 (legs-below k (i + 1) y.0 (drive r t j) (rw (← s) y.2)))
+          rw (x, y.1) (legs-below k (i + 1) y.0 (drive r t j) (rw (← s) y.2))
       go false e f = f (differ i t a e)
         where
           differ : (x y : ℕ) → x ≤ y → eqb x y ≡ false → x + 1 ≤ y
@@ -138,11 +138,11 @@ module _ (r : Round) (t j : ℕ) where
           → legs r (one t) j k (i + 1) (nearestIf (has (one t) i && not (eqb i j)) None (drive r i j)) ≡ Some (drive r t j)
       go true e f =
           let s : i ≡ t = eqb-true i t e in
-          let x : (has (one t) i && not (eqb i j)) ≡ true = rw s (rw (one-self t, g) refl) in
+          let x : (has (one t) i && not (eqb i j)) ≡ true = rw (s, one-self t, g) refl in
           ap (λ (b : Bool). legs r (one t) j k (i + 1) (nearestIf b None (drive r i j))) x ∙ ap (λ (y : ℕ). legs r (one t) j k (i + 1) (Some (drive r y j))) s ∙ legs-stay k (i + 1)
       go false e f =
           let x : (has (one t) i && not (eqb i j)) ≡ false = off (has (one t) i) refl in
-          ap (λ (b : Bool). legs r (one t) j k (i + 1) (nearestIf b None (drive r i j))) x ∙ f (omega (arith, eqb-false i t e))
+          rw x (f (omega (arith, eqb-false i t e)))
         where
           off : (q : Bool) → has (one t) i ≡ q → (q && not (eqb i j)) ≡ false
           off true h = absurd (eqb-false i t e (one_only t i h))

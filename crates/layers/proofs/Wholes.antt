@@ -63,9 +63,8 @@ module _ {S V : Type 0} {Keeps : List ℕ → Type 0} {Stands : S → List ℕ �
             let z : c ≡ b = omega arith in record {
               here = rw w.is (ins-in (arrive r rule tally) (merge r rule tally) b labs L w.source w.door w.label (e ∙ ap suc z) w.labelled);
               stays = λ n x m. not-false (agree r rule tally x y)
-                  (ap (λ (v : Lab r rule tally). not (agree r rule tally x v)) w.is
-                  ∙ sym (rw (eq-eqb c a (z ∙ n), m, w.labelled) refl)
-                  ∙ t);
+                  (rw w.is (sym (rw (eq-eqb c a (z ∙ n), m, w.labelled) refl)
+                  ∙ t));
             }
 
     head_of : (l : List (Lab r rule tally)) (y : Lab r rule tally) → Among y l → (x : Lab r rule tally) × (headO r rule tally l ≡ Some x)
