@@ -1,5 +1,5 @@
 -- What stands in records that were laid: their arcs can be read back, and the labels that stand are those worked out from the arcs.
-use Rattle.std.proofs.Common.{◌≡◌, ℕ, zero, suc, ◌+◌, ◌-◌, ◌*◌, ◌<◌, ◌≤◌, Bool, true, false, cond, not, ◌&&◌, eqb, List, [], ◌∷◌, ◌++◌, map, length, get_or, take, drop, Some, None, Option, sym, refl, ap, ◌∙◌, subst, ap₂, append_assoc, le_of_suc-le-suc, not-suc-le-zero, suc-mul, zero-mul, arith, length-append}
+use Rattle.std.proofs.Common.{◌≡◌, ℕ, zero, suc, ◌+◌, ◌-◌, ◌*◌, ◌<◌, ◌≤◌, Bool, true, false, cond, not, ◌&&◌, eqb, List, [], ◌∷◌, ◌++◌, map, length, get_or, take, drop, Some, None, Option, sym, refl, ap, ◌∙◌, ap₂, append_assoc, le_of_suc-le-suc, not-suc-le-zero, suc-mul, zero-mul, arith, length-append}
 use Rattle.std.proofs.lemmas.Bool.{ne_eqb}
 use Rattle.std.proofs.lemmas.List.{drop_at}
 use Rattle.doors.specs.Sets.{has}
@@ -215,7 +215,7 @@ module _ {S V : Type 0} (r : Round) (rule : RuleSense S) (tally : TallySense V) 
   )
 
   pub full-first : (L : Layer) (Ls : Net) → length L ≡ 1 → Tied (L ∷ Ls) → Roomy W (L ∷ Ls) → Even r.n (L ∷ Ls) → Full (firsts r rule tally) (L ∷ Ls)
-  full-first L Ls e t room even = full_from (firsts r rule tally) L Ls (subst (Filled (firsts r rule tally)) (sym e) filled-first) t room even
+  full-first L Ls e t room even = full_from (firsts r rule tally) L Ls (rw e filled-first) t room even
 
   -- ---- reading the records
   one-row : (labs : Labs) (L : Layer) (Ls : Net) → Fit labs L Ls → standing (table W (place r rule tally L labs (ups (L ∷ Ls)))) ≡ top labs (L ∷ Ls)

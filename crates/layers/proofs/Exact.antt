@@ -1,5 +1,5 @@
 -- While settled answers yes, the labels are exact, so every path is an allowed order and the bound is the least cost.
-use Rattle.std.proofs.Common.{◌≡◌, ℕ, zero, suc, ◌+◌, ◌<◌, ◌≤◌, Bool, true, false, cond, not, eqb, ltb, List, [], ◌∷◌, ◌++◌, length, get_or, Some, None, fold, Option, sym, refl, ap, ◌∙◌, subst, inl, inr, append-nil, not-suc-le-zero, arith}
+use Rattle.std.proofs.Common.{◌≡◌, ℕ, zero, suc, ◌+◌, ◌<◌, ◌≤◌, Bool, true, false, cond, not, eqb, ltb, List, [], ◌∷◌, ◌++◌, length, get_or, Some, None, fold, Option, sym, refl, ap, ◌∙◌, inl, inr, append-nil, not-suc-le-zero, arith}
 use lib.Bits.{bit_and, bit_or, and_self, or_self}
 use lib.Count.{ones}
 use Rattle.std.proofs.lemmas.Bool.{true≢false, not-true, ltb-false, eqb-true, eqb-false, ne_eqb, and_parts, or_parts}
@@ -139,7 +139,7 @@ module _ {S V : Type 0} {Keeps : List ℕ → Type 0} {Stands : S → List ℕ �
   same-all : (x : Lab r rule tally) (l : List (Lab r rule tally)) → agreeAll r rule tally x l ≡ true → (y : Lab r rule tally) → Among y l → Same x y
   unfolding agreeAll
   same-all x [] e y i = absurd i
-  same-all x (z ∷ l) e y (inl f) = subst (Same x) (sym f) (same-agree x z (and_parts (agree r rule tally x z) (agreeAll r rule tally x l) e).0)
+  same-all x (z ∷ l) e y (inl f) = rw f (same-agree x z (and_parts (agree r rule tally x z) (agreeAll r rule tally x l) e).0)
   same-all x (z ∷ l) e y (inr i) = same-all x l (and_parts (agree r rule tally x z) (agreeAll r rule tally x l) e).1 y i
 
   same_fold : (x y : Lab r rule tally) (l : List (Lab r rule tally)) → Same x y → ((z : Lab r rule tally) → Among z l → Same x z) → Same x (fold (merge r rule tally) y l)
@@ -153,7 +153,7 @@ module _ {S V : Type 0} {Keeps : List ℕ → Type 0} {Stands : S → List ℕ �
       let each : (z : Lab r rule tally) → Among z l → Same y z = same-all y l e in
       let whole : Same y (fold (merge r rule tally) y l) = same_fold y y l (same_self y) each in
       let z : fold (merge r rule tally) y l ≡ m = cc in
-      subst (Same x) z (same_back y x (fold (merge r rule tally) y l) (elim i [ inl f ↦ subst (Same y) (sym f) (same_self y) | inr h ↦ each x h ]) whole)
+      rw (← z) (same_back y x (fold (merge r rule tally) y l) (elim i [ inl f ↦ rw f (same_self y) | inr h ↦ each x h ]) whole)
 
   -- the value gathered is that of some arrival
   abbrev Attained : V → List (Lab r rule tally) → Type 0
@@ -287,7 +287,7 @@ module _ {S V : Type 0} {Keeps : List ℕ → Type 0} {Stands : S → List ℕ �
   pub paths-sound : (i : ℕ) (p w : List ℕ) (labs : List (Option (Lab r rule tally))) (Ls : Net) (a : ℕ) (l : Lab r rule tally) → length p + length Ls ≡ r.n → settles r rule tally i labs Ls ≡ true
       → get_or labs a None ≡ Some l → Exact l p → Sound p → Neat r.n Ls → Path-from Ls a w → Sound (p ++ w)
   unfolding labelsNext
-  paths-sound i p [] labs [] a l t s g e o neat q = subst Sound (sym (append-nil p)) o
+  paths-sound i p [] labs [] a l t s g e o neat q = rw (append-nil p) o
   paths-sound i p (j ∷ w) labs [] a l t s g e o neat q = absurd q
   paths-sound i p [] labs (L ∷ Ls) a l t s g e o neat q = absurd q
   paths-sound i p (j ∷ []) labs (L ∷ []) a l t s g e o neat q =
@@ -301,8 +301,7 @@ module _ {S V : Type 0} {Keeps : List ℕ → Type 0} {Stands : S → List ℕ �
       let sn = settles-next i labs L M Ls s in
       let same = same-gather (ins (arrive r rule tally) b labs L) n.0 (arrive r rule tally l j) (agreed-at labs L (length M) b sn.0 h)
       (next-some (arrive r rule tally) (merge r rule tally) labs L (length M) b n.0 n.1) (ins-in (arrive r rule tally) (merge r rule tally) b labs L a j l q.1 g) in
-      subst Sound (snoc-assoc p w j)
-      (paths-sound (suc i) (p ++ (j ∷ [])) w (labelsNext r rule tally labs L (length M)) (M ∷ Ls) b n.0 (omega (arith, length-snoc p j)) sn.1 n.1
+      rw (← (snoc-assoc p w j)) (paths-sound (suc i) (p ++ (j ∷ [])) w (labelsNext r rule tally labs L (length M)) (M ∷ Ls) b n.0 (omega (arith, length-snoc p j)) sn.1 n.1
       (exact_same (arrive r rule tally l j) n.0 (p ++ (j ∷ [])) same on.exact) on.sound neat.1 q.2)
 
   pub paths-allowed : (D : Net) (w : List ℕ) → length D ≡ r.n → Neat r.n D → settled r rule tally D ≡ true → Path-from D 0 w → Allowed r Keeps w

@@ -1,5 +1,5 @@
 -- What flows along arcs, and what redirecting, tidying do to paths.
-use Rattle.std.proofs.Common.{◌≡◌, ℕ, zero, suc, ◌+◌, ◌<◌, Bool, true, false, eqb, ◌⊎◌, List, [], ◌∷◌, ◌++◌, map, length, get_or, Some, None, fold, Option, refl, ap, ◌∙◌, subst, inl, inr, le_of_suc-le-suc, not-suc-le-zero, arith}
+use Rattle.std.proofs.Common.{◌≡◌, ℕ, zero, suc, ◌+◌, ◌<◌, Bool, true, false, eqb, ◌⊎◌, List, [], ◌∷◌, ◌++◌, map, length, get_or, Some, None, fold, Option, refl, ap, ◌∙◌, inl, inr, le_of_suc-le-suc, not-suc-le-zero, arith}
 use Rattle.std.proofs.lemmas.Bool.{eqb-true, eq-eqb}
 use Rattle.std.proofs.lemmas.List.{get_or-map}
 use Rattle.layers.specs.Flow.{table, Outs, Layer, Net, node, target, width, Path-from, eachDoor, eachNode, redirect, put, insDoor, ins, gather, next, read, consO, outs, up, Mark, marksNext, marksUp, flags, rank, compress, renumber, tidy, tidied}
@@ -268,7 +268,7 @@ pub gather-all : {A : Type 0} (merge : A → A → A) (P : A → Type 0) → ((x
     → (l : List A) (m : A) → ((x : A) → Among x l → P x) → gather merge l ≡ Some m → P m
 unfolding gather
 gather-all merge P keep [] m f e = absurd cc
-gather-all {A} merge P keep (x ∷ xs) m f e = let y : fold merge x xs ≡ m = cc in subst P y (go x xs (f x (inl refl)) (λ z i. f z (inr i)))
+gather-all {A} merge P keep (x ∷ xs) m f e = let y : fold merge x xs ≡ m = cc in rw (← y) (go x xs (f x (inl refl)) (λ z i. f z (inr i)))
   where
     go : (y : A) (ys : List A) → P y → ((z : A) → Among z ys → P z) → P (fold merge y ys)
     go y [] p g = p

@@ -1,12 +1,12 @@
 -- A key for each node of the first layers, such that every arc leads from key to key: so the in-arcs there agree, whichever arcs go, and however nodes are renumbered or parted.
-use Rattle.std.proofs.Common.{◌≡◌, ℕ, zero, suc, ◌<◌, ◌≤◌, Bool, true, false, cond, ◌&&◌, eqb, List, [], ◌∷◌, ◌++◌, length, get_or, Some, None, Option, sym, refl, ap, ◌∙◌, subst, inl, inr, arith}
+use Rattle.std.proofs.Common.{◌≡◌, ℕ, zero, suc, ◌<◌, ◌≤◌, Bool, true, false, cond, ◌&&◌, eqb, List, [], ◌∷◌, ◌++◌, length, get_or, Some, None, Option, sym, refl, ap, ◌∙◌, inl, inr, arith}
 use lib.Bits.{bit_and, bit_or, and_self, or_self}
 use Rattle.std.proofs.lemmas.Bool.{false≢true, eqb-true, eq-eqb, ne_eqb, and_parts}
 use Rattle.round.specs.declared.table.Round.{Round}
 use Rattle.round.specs.Clock.{finish}
 use Rattle.rules.specs.Rules.{RuleLaws, RuleSense}
 use Rattle.tallies.specs.Tallies.{TallySense}
-use Rattle.layers.specs.Flow.{Outs, Layer, Net, node, target, width, redirect, ins, Mark, marksNext, marksUp, flags, rank, compress, renumber, tidy, tidied, Tied}
+use Rattle.layers.specs.Flow.{Layer, Net, node, target, width, redirect, ins, Mark, marksNext, marksUp, flags, rank, compress, renumber, tidy, tidied, Tied}
 use Rattle.layers.specs.Labels.{one, leg, ups, Lab, first, firsts, arrive, merge, labelsNext, barred, agree, agreeAll, agreeing, headO, leaves}
 use Rattle.layers.proofs.Flows.{Among, has-arc, ins-from, next-some, gather-all, compress-at}
 use Rattle.layers.proofs.Ways.{length-snoc}
@@ -185,7 +185,7 @@ module _ {S V : Type 0} {Keeps : List ℕ → Type 0} {Stands : S → List ℕ �
   all_yes : (x : Lab r rule tally) (l : List (Lab r rule tally)) → agreeAll r rule tally x l ≡ true → (y : Lab r rule tally) → Among y l → Agree x y
   unfolding agreeAll
   all_yes x [] e y i = absurd i
-  all_yes x (z ∷ l) e y (inl f) = subst (Agree x) (sym f) (agree-yes x z (and_parts (agree r rule tally x z) (agreeAll r rule tally x l) e).0)
+  all_yes x (z ∷ l) e y (inl f) = rw f (agree-yes x z (and_parts (agree r rule tally x z) (agreeAll r rule tally x l) e).0)
   all_yes x (z ∷ l) e y (inr i) = all_yes x l (and_parts (agree r rule tally x z) (agreeAll r rule tally x l) e).1 y i
 
   yes-all : (x : Lab r rule tally) (l : List (Lab r rule tally)) → ((y : Lab r rule tally) → Among y l → Agree x y) → agreeAll r rule tally x l ≡ true
@@ -199,7 +199,7 @@ module _ {S V : Type 0} {Keeps : List ℕ → Type 0} {Stands : S → List ℕ �
   pairs (x ∷ l) e y z i k = agree-back x y z (one_of y i) (one_of z k)
     where
       one_of : (t : Lab r rule tally) → Among t (x ∷ l) → Agree x t
-      one_of t (inl f) = subst (Agree x) (sym f) (agree-self x)
+      one_of t (inl f) = rw f (agree-self x)
       one_of t (inr m) = all_yes x l e t m
 
   pub by-pairs : (l : List (Lab r rule tally)) → ((y z : Lab r rule tally) → Among y l → Among z l → Agree y z) → agreeing r rule tally l ≡ true
@@ -241,7 +241,7 @@ module _ {S V : Type 0} {Keeps : List ℕ → Type 0} {Stands : S → List ℕ �
   Fit labs K = (a : ℕ) (l : Lab r rule tally) → get_or labs a None ≡ Some l → Agree (K a) l
 
   pub fit-first : Fit (firsts r rule tally) (λ a. first r rule tally)
-  fit-first zero l e = let z : first r rule tally ≡ l = cc in subst (Agree (first r rule tally)) z (agree-self (first r rule tally))
+  fit-first zero l e = let z : first r rule tally ≡ l = cc in rw (← z) (agree-self (first r rule tally))
   fit-first (suc a) l e = absurd cc
 
   module _ (labs : List (Option (Lab r rule tally))) (K K' : ℕ → Lab r rule tally) (fit : Fit labs K) (L : Layer) (on : (a j b : ℕ) → target (node L a) j ≡ suc b → Agree (arrive r rule tally (K a) j) (K' b)) where
@@ -250,7 +250,7 @@ module _ {S V : Type 0} {Keeps : List ℕ → Type 0} {Stands : S → List ℕ �
     arrival-fits b x i =
         let f = ins-from (arrive r rule tally) b labs L x i in
         let p = agree-arrive (K f.source) f.label f.door (fit f.source f.label f.labelled) in
-        subst (Agree (K' b)) (sym f.is) (agree-back (arrive r rule tally (K f.source) f.door) (K' b) (arrive r rule tally f.label f.door) (on f.source f.door b f.arc) p)
+        rw f.is (agree-back (arrive r rule tally (K f.source) f.door) (K' b) (arrive r rule tally f.label f.door) (on f.source f.door b f.arc) p)
 
     pub fit_next : (count : ℕ) → Fit (labelsNext r rule tally labs L count) K'
     unfolding labelsNext

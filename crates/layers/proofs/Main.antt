@@ -10,7 +10,7 @@ use Rattle.layers.specs.Flow.{Net, Path-from, seeks}
 use Rattle.layers.specs.Labels.{opened}
 use Rattle.layers.specs.Records.{laid}
 use Rattle.layers.specs.Calls.{Call, arcs, relaid, bound, must, settled}
-use Rattle.layers.specs.Claim.{IsPath, Must-means, Nothing-lost, Nothing-false, Sure, Kept, Worked-out, Settled-means}
+use Rattle.layers.specs.Claim.{IsPath, Must-means, Nothing-lost, Nothing-false, Kept, Worked-out, Settled-means}
 use Rattle.layers.proofs.Model.{after, bound as boundOf, must as mustOf, settled as settled_of}
 use Rattle.layers.proofs.Calls.{still, bound-below}
 use Rattle.layers.proofs.Seeks.{seen, sought, all_there, one-ahead}
@@ -74,8 +74,7 @@ pub kept : {S V : Type 0} {Keeps : List ℕ → Type 0} {Stands : S → List ℕ
     → ((n : ℕ) → A n → RuleLaws n rule Keeps Stands) → ((n : ℕ) → B n → TallyLaws n tally Allows) → Kept A rule Keeps B tally
 kept {Keeps} A B rule tally ruled tallied r e f W a b lent cs =
     let x = ruled r.n e in let y = tallied r.n f in let l = drop (r.n * W + 1) lent in
-    subst (Sure r rule Keeps tally W cs) (sym (run-opened r rule x.same_self tally W a lent cs))
-    (record { nothing-lost = none-lost r rule x tally y W a l cs; nothing_false = none-false r rule x tally y W a l cs })
+    rw (run-opened r rule x.same_self tally W a lent cs) (record { nothing-lost = none-lost r rule x tally y W a l cs; nothing_false = none-false r rule x tally y W a l cs })
 
 pub worked-out : {S V : Type 0} {Keeps : List ℕ → Type 0} {Stands : S → List ℕ → Type 0} (A : ℕ → Type 0) (rule : RuleSense S) (tally : TallySense V) → ((n : ℕ) → A n → RuleLaws n rule Keeps Stands) → Worked-out A rule tally
 unfolding relaid

@@ -180,8 +180,7 @@ module _ {S V : Type 0} {Keeps : List ℕ → Type 0} {Stands : S → List ℕ �
     pub good-at : {Allows : ℕ → V → Type 0} (tallied : TallyLaws r.n tally Allows) → length D ≤ 16 → Neat r.n D → (d : ℕ) → d ≤ length D → Good r rule ruled tally tallied d (At d D)
     good-at tallied k s zero h = good-first r rule ruled tally tallied
     good-at tallied k s (suc d) h =
-        subst (Good r rule ruled tally tallied (suc d)) (sym (labs-step d (firsts r rule tally) D h))
-        (good-next r rule ruled tally tallied d (At d D) (get_or D d []) (width (drop (suc d) D)) (omega arith) (good-at tallied k s d (omega arith)) (neat-at r.n D d s h))
+        rw (labs-step d (firsts r rule tally) D h) (good-next r rule ruled tally tallied d (At d D) (get_or D d []) (width (drop (suc d) D)) (omega arith) (good-at tallied k s d (omega arith)) (neat-at r.n D d s h))
 
 -- ---- upward
 ups-node : (L : Layer) (Ls : Net) (a : ℕ) (u : Up) → get_or (ups (L ∷ Ls)) a None ≡ Some u → gather mergeUp (outs climb (ups Ls) 1 (node L a)) ≡ Some u

@@ -1,5 +1,5 @@
 -- Records that have the shape of a diagram have arcs that a diagram may have, and arcs that are laid out anew have that shape.
-use Rattle.std.proofs.Common.{◌≡◌, ℕ, zero, suc, ◌+◌, ◌-◌, ◌*◌, ◌<◌, ◌≤◌, Bool, true, false, cond, List, [], ◌∷◌, ◌++◌, map, length, get_or, take, drop, Some, None, Option, sym, refl, ap, ◌∙◌, subst, inl, inr, ⊎_elim, suc-mul, suc-add, zero-add, arith}
+use Rattle.std.proofs.Common.{◌≡◌, ℕ, zero, suc, ◌+◌, ◌-◌, ◌*◌, ◌<◌, ◌≤◌, Bool, true, false, cond, List, [], ◌∷◌, ◌++◌, map, length, get_or, take, drop, Some, None, Option, sym, refl, ap, ◌∙◌, inl, inr, ⊎_elim, suc-mul, suc-add, zero-add, arith}
 use lib.ListN.{length-map}
 use Rattle.std.proofs.lemmas.List.{length-take, length-take-le}
 use Rattle.std.proofs.lemmas.Bool.{cases_lt}
@@ -117,9 +117,9 @@ module _ {S V : Type 0} (r : Round) (W : ℕ) (xs : List (Node S V)) where
   shaped-proper s = record {
     deep = drawn-deep r.n W r.n xs;
     one-first = s.first;
-    even = drawn-even r.n W r.n xs r.most (λ x i. laid-sixteen W (arcs r.n W xs) x.arcs.to (subst (Among x.arcs.to) s.written (targets-among (take (r.n * W + 1) xs) x i)));
+    even = drawn-even r.n W r.n xs r.most (λ x i. laid-sixteen W (arcs r.n W xs) x.arcs.to (rw (← s.written) (targets-among (take (r.n * W + 1) xs) x i)));
     roomy = drawn-roomy r.n W r.n xs;
-    tied = subst Tied s.tidy (tidied-tied (arcs r.n W xs));
+    tied = rw (← s.tidy) (tidied-tied (arcs r.n W xs));
   }
 
 -- ---- an arc counts
@@ -247,7 +247,7 @@ less-layer n W t L Ls Ms l = record {
   wide = redirect-length (λ a j b. cond (t a j b) 0 (suc b)) L;
   even = λ h. (even-redirect n (λ a j b. cond (t a j b) 0 (suc b)) L h.0, l.even h.1);
   roomy = λ h. (omega (arith, h.0, redirect-length (λ a j b. cond (t a j b) 0 (suc b)) L), l.roomy h.1);
-  ranged = λ h. (subst (Ranged (redirect (λ a j b. cond (t a j b) 0 (suc b)) L)) (sym l.wide) (less-ranged t L (width Ls) h.0), l.ranged h.1);
+  ranged = λ h. (rw l.wide (less-ranged t L (width Ls) h.0), l.ranged h.1);
 }
 
 less_none : (n W : ℕ) → Less n W [] []

@@ -6,9 +6,9 @@ use Rattle.rules.specs.Rules.{RuleSense}
 use Rattle.tallies.specs.Tallies.{TallySense}
 use Rattle.layers.specs.declared.node.Node.{Node}
 use Rattle.layers.specs.Flow.{Net, node, countArcs, ins, tidied, clash, joinAt, seeks}
-use Rattle.layers.specs.Labels.{firsts, arrive, opened, agreeing}
+use Rattle.layers.specs.Labels.{firsts, arrive, opened}
 use Rattle.layers.specs.Records.{arcsIn, downsIn, laid}
-use Rattle.layers.specs.Calls.{Call, Sweep, Part, Join, Cut, Refine, thinned, trimmed, arrivals, partedAt, nodes, arcs, layer, relaid, openedOn, fewer, swept, sweepAnswer, cut_at, partAnswer, split, joinAnswer, joined, splits, splitsAll, sweptOut, refined, does, run, bound, must, settled, agreedAll, quietFrom, valueIn, oneGroup as oneGroupIn, isFull, parted as partedIn, badNode as badNodeIn}
+use Rattle.layers.specs.Calls.{Call, Sweep, Part, Join, Cut, Refine, arrivals, partedAt, nodes, arcs, layer, relaid, openedOn, fewer, swept, sweepAnswer, cut_at, partAnswer, split, joinAnswer, joined, splits, splitsAll, sweptOut, refined, does, run, bound, must, settled, agreedAll, valueIn, oneGroup as oneGroupIn, isFull, parted as partedIn, badNode as badNodeIn}
 use Rattle.layers.proofs.Model.{sweep, cut, oneGroup, part_at, count, done, refused, badLayer, badNode, part, join, unless, swept as untilQuiet, parted as partedArcs, refines, refine, act, after, agrees, settles, bound as boundOf, must as mustOf, settled as settled_of}
 use Rattle.layers.proofs.Counts.{sweep-fewer, settled-yes, settled-if}
 use Rattle.layers.proofs.Bridge.{Full, stood, labsAt, thinned-stood, trimmed-stood, quiet-stood, agrees-stood, stood-at, group_at, part-at, value-stood, later-stays}

@@ -1,5 +1,5 @@
 -- Opening, part and join keep every node on a path.
-use Rattle.std.proofs.Common.{◌≡◌, ℕ, zero, suc, ◌-◌, ◌<◌, ◌≤◌, Bool, true, false, cond, not, ◌&&◌, eqb, ltb, ◌⊎◌, List, [], ◌∷◌, ◌++◌, length, get_or, set, Some, None, Option, sym, refl, ap, ◌∙◌, subst, inl, inr, le_of_suc-le-suc, not-suc-le-zero, arith, length-set}
+use Rattle.std.proofs.Common.{◌≡◌, ℕ, zero, suc, ◌-◌, ◌<◌, ◌≤◌, Bool, true, false, cond, not, ◌&&◌, eqb, ltb, ◌⊎◌, List, [], ◌∷◌, ◌++◌, length, get_or, set, Some, None, Option, sym, refl, ap, ◌∙◌, inl, inr, le_of_suc-le-suc, not-suc-le-zero, arith, length-set}
 use Rattle.std.proofs.lemmas.Bool.{true≢false, ltb-true, ltb-false, eqb-true, lt-ltb, eq-eqb, ne_eqb, cases_lt, cases_eq, and_cases}
 use Rattle.std.proofs.lemmas.List.{get_or_append_left, get_or_push, get_or-set_same, get_or-set_other}
 use Rattle.round.specs.declared.table.Round.{Round}
@@ -173,7 +173,7 @@ module _ {S V : Type 0} (r : Round) (rule : RuleSense S) (self : (s : S) → rul
       let labs' = labelsNext r rule tally labs L (length M) in
       let rest = part-tied zero a labs' (M ∷ N ∷ Ls) k e t.3 in
       let n = redirect-length (f a labs' M N k e) M in
-      (subst (Ranged L) (sym n) t.0, subst (Fed L) (sym n) t.1, part-led a labs' M N k e t.2, rest)
+      (rw n t.0, rw n t.1, part-led a labs' M N k e t.2, rest)
   part-tied (suc (suc d)) a labs (L ∷ M ∷ Ls) k e t =
       (t.0, t.1, t.2, part-tied (suc d) a (labelsNext r rule tally labs L (length M)) (M ∷ Ls) k e t.3)
 
@@ -193,7 +193,7 @@ module _ {S V : Type 0} (r : Round) (rule : RuleSense S) (self : (s : S) → rul
   parted-tied (suc zero) a labs (L ∷ M ∷ N ∷ Ls) k e t =
       let rest = parted-tied zero a labs (M ∷ N ∷ Ls) k e t.3 in
       let n = redirect-length (f a labs M N k e) M in
-      (subst (Ranged L) (sym n) t.0, subst (Fed L) (sym n) t.1, part-led a labs M N k e t.2, rest)
+      (rw n t.0, rw n t.1, part-led a labs M N k e t.2, rest)
   parted-tied (suc (suc d)) a labs (L ∷ M ∷ Ls) k e t = (t.0, t.1, t.2, parted-tied (suc d) a labs (M ∷ Ls) k e t.3)
 
 -- ---- join
@@ -307,5 +307,5 @@ join_tied (suc d) lo hi (L ∷ []) a b n t = absurd (not-suc-le-zero b)
 join_tied (suc zero) lo hi (L ∷ M ∷ []) a b n t = t
 join_tied (suc zero) lo hi (L ∷ M ∷ N ∷ Ls) a b n t =
     let z = redirect-length (λ a j b. suc (moved lo hi b)) M in
-    (subst (Ranged L) (sym z) t.0, subst (Fed L) (sym z) t.1, in-led lo hi M t.2, join_tied zero lo hi (M ∷ N ∷ Ls) a b n t.3)
+    (rw z t.0, rw z t.1, in-led lo hi M t.2, join_tied zero lo hi (M ∷ N ∷ Ls) a b n t.3)
 join_tied (suc (suc d)) lo hi (L ∷ M ∷ Ls) a b n t = (t.0, t.1, t.2, join_tied (suc d) lo hi (M ∷ Ls) a b n t.3)

@@ -1,5 +1,5 @@
 -- Records that are laid out anew have no late finishes.
-use Rattle.std.proofs.Common.{◌≡◌, ℕ, zero, suc, ◌+◌, ◌*◌, ◌≤◌, List, [], ◌∷◌, ◌++◌, map, length, get_or, take, drop, Some, None, Option, sym, refl, ap, ◌∙◌, subst, append_assoc, suc-mul, suc-add, zero-add, zero-mul, arith}
+use Rattle.std.proofs.Common.{◌≡◌, ℕ, zero, suc, ◌+◌, ◌*◌, ◌≤◌, List, [], ◌∷◌, ◌++◌, map, length, get_or, take, drop, Some, None, Option, refl, ap, ◌∙◌, subst, append_assoc, suc-mul, suc-add, zero-add, zero-mul, arith}
 use Rattle.std.specs.List.{AllByRecursion as All}
 use Rattle.std.proofs.ByRecursion.{All-append}
 use Rattle.round.proofs.Clocks.{clock-laws}
@@ -75,8 +75,7 @@ module _ {S V : Type 0} (r : Round) (rule : RuleSense S) (tally : TallySense V) 
       let both : suc (length Ls) * W ≡ W + m = omega (arith, suc-mul (length Ls) W) in
       let split : take (suc (length Ls) * W) ((table W f ++ X) ++ later) ≡ table W f ++ take m (X ++ later) =
       ap (λ (c : ℕ). take c ((table W f ++ X) ++ later)) both ∙ ap (take (W + m)) (append_assoc (table W f) X later) ∙ take_past W m f (X ++ later) in
-      subst (All Early) (sym split)
-      (All-append Early (table W f) (take m (X ++ later)) (all-table Early W f (soon-place i labs (omega arith) soon))
+      rw split (All-append Early (table W f) (take m (X ++ later)) (all-table Early W f (soon-place i labs (omega arith) soon))
       (laid-early W (suc i) (labelsNext r rule tally labs L (width Ls)) Ls later (omega arith) (soon-next i labs L (width Ls) soon)))
 
 -- the finishes of records that are laid out anew are in time

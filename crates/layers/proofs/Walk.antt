@@ -60,8 +60,8 @@ module _ {S V : Type 0} {Keeps : List ℕ → Type 0} {Stands : S → List ℕ �
 
   pub going_next : (p w : List ℕ) (j : ℕ) → Going p (j ∷ w) → Going (p ++ (j ∷ [])) w
   going_next p w j g = record {
-    part = subst (PartOrder r.n) (sym (snoc-assoc p w j)) g.part;
-    keeps = subst (Keeps) (sym (snoc-assoc p w j)) g.keeps;
+    part = rw (snoc-assoc p w j) g.part;
+    keeps = rw (snoc-assoc p w j) g.keeps;
     timely = rw (van-snoc r p j) g.timely.1;
     total = omega (arith, length-snoc p j, g.total);
   }
@@ -180,7 +180,7 @@ module _ {S V : Type 0} {Keeps : List ℕ → Type 0} {Stands : S → List ℕ �
   good-first (suc a) l e = absurd cc
 
   lesser-fine : (k : ℕ) (a b : V) → Allows k a → Allows k b → Allows k (tally.lesser a b)
-  lesser-fine k a b x y = subst (Allows k) (sym (tallied.lesser-is a b)) (go (tally.notAbove a b))
+  lesser-fine k a b x y = rw (tallied.lesser-is a b) (go (tally.notAbove a b))
     where
       go : (q : Bool) → Allows k (cond q a b)
       go true = x
@@ -273,7 +273,7 @@ module _ {S V : Type 0} {Keeps : List ℕ → Type 0} {Stands : S → List ℕ �
       (rw (← (length-snoc p j)) (ones_in r.n (bit_or l.some (one j)) (p ++ (j ∷ [])) a.part a.some)))
       (le-ltb (door r j).closes (finish r l.finish (leg r l.lasts j) j) (le_trans a.finish closing))
       (false_from_ne_true (rule.bars l.state j) (λ h. ruled.bars-breaks l.state p j (part-next r.n p j w g.part) f.state h
-      (ruled.keeps-front (p ++ (j ∷ [])) w (subst (PartOrder r.n) (sym (snoc-assoc p w j)) g.part) (subst Keeps (sym (snoc-assoc p w j)) g.keeps))))
+      (ruled.keeps-front (p ++ (j ∷ [])) w (rw (snoc-assoc p w j) g.part) (rw (snoc-assoc p w j) g.keeps))))
       (false_from_ne_true (has u.allup j) (λ h. (part-tail r.n p (j ∷ w) g.part).1 (fu.all j h)))
       (le-ltb (ones (bit_or u.someup (one j))) (suc (length w))
       (ones_in r.n (bit_or u.someup (one j)) (j ∷ w) (part-tail r.n p (j ∷ w) g.part) (climb-fits u j w fu).some))

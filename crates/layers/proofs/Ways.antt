@@ -58,7 +58,7 @@ pub timely-from : (r : Round) (p w : List ℕ) → Timely r (p ++ w) → TimelyF
 timely-from r p [] h = tt
 timely-from r p (j ∷ w) h = (
   subst (λ (a : Van). a.finish ≤ (door r j).closes) (van-snoc r p j) (h p j w refl),
-  rw (← (van-snoc r p j)) (timely-from r (p ++ (j ∷ [])) w (subst (Timely r) (sym (snoc-assoc p w j)) h)),
+  rw (← (van-snoc r p j)) (timely-from r (p ++ (j ∷ [])) w (rw (snoc-assoc p w j) h)),
 )
 
 -- ---- legs

@@ -1,5 +1,5 @@
 -- Refine that answers whole leaves a settled diagram: each layer that it has parted through has keys, and keeps them while later layers are swept and parted.
-use Rattle.std.proofs.Common.{◌≡◌, ℕ, zero, suc, ◌+◌, ◌-◌, ◌*◌, ◌<◌, ◌≤◌, Bool, true, false, cond, not, ◌&&◌, eqb, leb, ◌⊎◌, List, [], ◌∷◌, length, get_or, drop, Some, None, Option, sym, refl, ap, ◌∙◌, subst, inl, inr, not-suc-le-zero, arith}
+use Rattle.std.proofs.Common.{◌≡◌, ℕ, zero, suc, ◌+◌, ◌-◌, ◌*◌, ◌<◌, ◌≤◌, Bool, true, false, cond, ◌&&◌, eqb, leb, ◌⊎◌, List, [], ◌∷◌, length, get_or, drop, Some, None, Option, sym, refl, ap, ◌∙◌, subst, inl, inr, not-suc-le-zero, arith}
 use Rattle.std.proofs.lemmas.Bool.{true≢false, not-false, leb-true, leb-false, eqb-true, eqb-false, eq-eqb, cases_eq}
 use Rattle.round.specs.declared.table.Round.{Round}
 use Rattle.rules.specs.Rules.{RuleLaws, RuleSense}
@@ -130,7 +130,7 @@ module _ {S V : Type 0} {Keeps : List ℕ → Type 0} {Stands : S → List ℕ �
     through d Ls p k g = keyed-more d (λ a. first r rule tally) (firsts r rule tally) Ls p.tied (fit-first r rule ruled tally) (filled Ls p.one-first) k g
 
     one_more : (P : ℕ → Type 0) (a : ℕ) → ((b : ℕ) → b < a → P b) → P a → (b : ℕ) → b < suc a → P b
-    one_more P a g e b h = elim (cases_eq b a) [ inl n ↦ subst P (sym n) e | inr n ↦ g b (omega arith) ]
+    one_more P a g e b h = elim (cases_eq b a) [ inl n ↦ rw n e | inr n ↦ g b (omega arith) ]
 
     -- a layer is parted without being found full: k nodes more, from the one at place a on
     parted-keyed : (k d a : ℕ) (Ls : Net) → W ≤ a + k → Proper r.n W Ls → KeyedTo r rule ruled tally d Ls → ((b : ℕ) → b < a → oneGroup r rule tally d b (firsts r rule tally) Ls ≡ true)
@@ -198,5 +198,4 @@ whole-settles {S} {V} A rule tally ruled r e W a b lent cs =
     let p = proper-after r rule x.same_self tally W a cs (opened r rule tally) (proper-opened r rule tally W a) in
     let q = proper-after r rule x.same_self tally W a (Refine ∷ []) D p in
     let Goal : ℕ × List (Node S V) → Type 0 = λ z. z.0 ≡ 0 → settled r rule tally W z.1 ≡ true in
-    subst Goal (sym (ap (refined r rule tally W) (run-opened r rule x.same_self tally W a lent cs) ∙ refined-X r rule x.same_self tally W a l D p))
-    (λ h. settled-X r rule x.same_self tally W a l (refine r rule tally W D).1 q ∙ refine-settles r rule x tally W a D p h)
+    rw (ap (refined r rule tally W) (run-opened r rule x.same_self tally W a lent cs) ∙ refined-X r rule x.same_self tally W a l D p) (λ h. settled-X r rule x.same_self tally W a l (refine r rule tally W D).1 q ∙ refine-settles r rule x tally W a D p h)
