@@ -1,5 +1,5 @@
 -- Members, unions and sizes of sets of doors.
-use Rattle.std.proofs.Common.{◌≡◌, ℕ, zero, suc, ◌+◌, ◌-◌, ◌*◌, ◌/◌, ◌%◌, ◌^◌, ◌<◌, ◌≤◌, min, max, true, false, ◌⊎◌, List, [], ◌∷◌, ◌++◌, length, sym, refl, ap, ◌∙◌, subst, inl, inr, ⊎_elim, le_refl, pow-suc, div-one, one-add, arith, pow_pos, shr-shr}
+use Rattle.std.proofs.Common.{◌≡◌, ℕ, zero, suc, ◌+◌, ◌*◌, ◌/◌, ◌%◌, ◌^◌, ◌<◌, ◌≤◌, min, max, true, false, ◌⊎◌, List, [], ◌∷◌, length, sym, refl, ap, ◌∙◌, subst, inl, inr, ⊎_elim, le_refl, pow-suc, one-add, arith, pow_pos, shr-shr}
 use native.Mathlib.Nat.{div_self, zero-div}
 use lib.Bits.{bit_and, bit_or, and_step, or_step, and_shr, or_shr, or_zero_r, or_lt}
 use lib.Count.{ones, ones_step, ones-le}
@@ -126,11 +126,6 @@ pub ones-within : (a b : ℕ) → ((j : ℕ) → Has a j → Has b j) → ones a
 ones-within a b h = within-upto a a b (le_refl a) h
 
 -- ---- the set of a list
-
-pub set-has : (w : List ℕ) (j : ℕ) → In j w → Has (setOf w) j
-set-has [] j h = absurd h
-set-has (x ∷ w) j h =
-    ⊎_elim (λ e. subst (λ (k : ℕ). Has (bit_or (setOf w) (2 ^ x)) k) (sym e) (has-added (setOf w) x)) (λ r. has_left (setOf w) (2 ^ x) j (set-has w j r)) h
 
 pub has-set : (w : List ℕ) (j : ℕ) → Has (setOf w) j → In j w
 has-set [] j h = has-none j h

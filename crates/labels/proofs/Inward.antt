@@ -22,7 +22,7 @@ module _ {S V : Type 0} (r : Round) (R : RuleSense S) (T : TallySense V) where
   abbrev pub Narrow : Layer → Type 0
   Narrow L = (a : ℕ) → length (node L a) ≤ 16
 
-  abbrev over-door : ℕ → List ℕ → Down S V → ℕ → List (Down S V)
+  abbrev pub over-door : ℕ → List ℕ → Down S V → ℕ → List (Down S V)
   over-door t to l k = cond (eqb (get_or to k 0) t) (arrive r R T l (k + 1) ∷ []) []
 
   put-cond : (q : Bool) (x : Down S V) (rest : List (Down S V)) → cond q (x ∷ []) [] ++ rest ≡ put q x rest
@@ -32,7 +32,8 @@ module _ {S V : Type 0} (r : Round) (R : RuleSense S) (T : TallySense V) where
   no-door : (b : ℕ) (to : List ℕ) (l : Down S V) (k : ℕ) → get_or to k 0 ≡ 0 → over-door (suc b) to l k ≡ []
   no-door b to l k e = cond-false (eqb (get_or to k 0) (suc b)) _ [] (ne_eqb (get_or to k 0) (suc b) (λ h. omega arith))
 
-  doors-in : (b : ℕ) (l : Down S V) (ts to : List ℕ) (a m : ℕ) → length ts ≤ m → ((i : ℕ) → i < m → get_or to (a + i) 0 ≡ get_or ts i 0)
+  -- over m doors from a on, of which those past ts have no arc
+  pub doors-in : (b : ℕ) (l : Down S V) (ts to : List ℕ) (a m : ℕ) → length ts ≤ m → ((i : ℕ) → i < m → get_or to (a + i) 0 ≡ get_or ts i 0)
       → flat_map (over-door (suc b) to l) (range_with_len a m) ≡ insDoor (arrive r R T) b l (suc a) ts
   unfolding insDoor
   doors-in b l [] to a zero h e = refl

@@ -27,10 +27,7 @@ use Rattle.labels.proofs.Suffixes.{flatDown, down-last, down-front, down_is, fla
 use Rattle.labels.proofs.Earlies.{first-long}
 
 -- ---- lists
-cons-once : {X : Type 0} (x : X) (xs ys : List X) → x ∷ xs ≡ ys → length ys ≡ suc (length xs)
-cons-once x xs ys e = ap length (sym e)
-
-table-list : {X : Type 0} (m : ℕ) (f : ℕ → X) (xs : List X) → length xs ≡ m → ((k : ℕ) (d : X) → k < m → get_or xs k d ≡ f k) → xs ≡ table m f
+pub table-list : {X : Type 0} (m : ℕ) (f : ℕ → X) (xs : List X) → length xs ≡ m → ((k : ℕ) (d : X) → k < m → get_or xs k d ≡ f k) → xs ≡ table m f
 table-list m f xs e h = same_lists xs (table m f) (e ∙ sym (table-long m f)) (λ k d lt. h k d (omega arith) ∙ sym (table_at m k f d (omega arith)))
 
 -- ---- records without their upward sets, and arcs alone
@@ -246,9 +243,6 @@ first_of zero (x ∷ xs) d h = refl
 first_of (suc k) (x ∷ xs) d h = first_of k xs d (omega arith)
 
 module _ {S V : Type 0} where
-  abbrev upOf : Node S V → Up
-  upOf v = v.label.up
-
   -- over one door: what climbs from the record with that number
   abbrev climbing : List (Node S V) → List ℕ → ℕ → List Up
   climbing vs to k = map (λ v. climb v.label.up (k + 1)) (numbered (get_or to k 0) vs)

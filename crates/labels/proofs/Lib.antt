@@ -1,6 +1,6 @@
 mod Earlies
 pub mod Folds
-mod Inward
+pub mod Inward
 pub mod Laying
 pub mod Legs
 pub mod Overs

@@ -9,12 +9,11 @@ use Rattle.layers.specs.Records.{padded, arcsAt}
 use Rattle.layers.proofs.Flows.{table_at, has-arc}
 use Rattle.layers.proofs.Bridge.{table-long}
 use Rattle.labels.proofs.Laying.{arcsOf}
+pub use Rattle.labels.proofs.Laying.{table-list}
+use Rattle.layers.proofs.Shapes.{eachDoor-length}
 use Rattle.layers.specs.Targets.{targets, redirected, atDoor}
 
 -- ---- lists
-pub table-list : {X : Type 0} (m : ℕ) (f : ℕ → X) (xs : List X) → length xs ≡ m → ((k : ℕ) (d : X) → k < m → get_or xs k d ≡ f k) → xs ≡ table m f
-table-list m f xs e h = same_lists xs (table m f) (e ∙ sym (table-long m f)) (λ k d lt. h k d (omega arith) ∙ sym (table_at m k f d (omega arith)))
-
 -- sixteen targets that are those of a node, door by door
 pub padded-is : (ts : List ℕ) (nd : Outs) → length ts ≡ 16 → ((k : ℕ) → k < 16 → get_or ts k 0 ≡ get_or nd k 0) → ts ≡ padded nd
 padded-is ts nd e h = table-list 16 (λ k. get_or nd k 0) ts e (λ k d lt. get_or_default ts k d 0 (omega arith) ∙ h k lt)
@@ -23,12 +22,6 @@ pub padded-at : (nd : Outs) (k : ℕ) → k < 16 → get_or (padded nd) k 0 ≡ 
 padded-at nd k lt = table_at 16 k (λ i. get_or nd i 0) 0 lt
 
 -- ---- redirecting
-pub each_long : (f : ℕ → ℕ → ℕ) (j : ℕ) (ts : Outs) → length (eachDoor f j ts) ≡ length ts
-unfolding eachDoor
-each_long f j [] = refl
-each_long f j (zero ∷ ts) = ap suc (each_long f (suc j) ts)
-each_long f j (suc b ∷ ts) = ap suc (each_long f (suc j) ts)
-
 pub each_at : (f : ℕ → ℕ → ℕ) (j : ℕ) (ts : Outs) (k m : ℕ) → j + k ≡ m → get_or (eachDoor f j ts) k 0 ≡ atDoor f m (get_or ts k 0)
 unfolding eachDoor
 each_at f j [] k m e = refl
@@ -43,7 +36,7 @@ at_same g h j (suc b) s = s b refl
 
 -- two ways that agree on the arcs of a node give the same sixteen targets
 pub each-padded : (g h : ℕ → ℕ → ℕ) (nd : Outs) → ((j b : ℕ) → target nd j ≡ suc b → g j b ≡ h j b) → eachDoor g 1 (padded nd) ≡ padded (eachDoor h 1 nd)
-each-padded g h nd s = padded-is (eachDoor g 1 (padded nd)) (eachDoor h 1 nd) (each_long g 1 (padded nd)) (λ k lt.
+each-padded g h nd s = padded-is (eachDoor g 1 (padded nd)) (eachDoor h 1 nd) (eachDoor-length g 1 (padded nd)) (λ k lt.
     each_at g 1 (padded nd) k (suc k) (omega arith) ∙ ap (atDoor g (suc k)) (padded-at nd k lt)
     ∙ at_same g h (suc k) (get_or nd k 0) (s (suc k)) ∙ sym (each_at h 1 nd k (suc k) (omega arith)))
 

@@ -1,9 +1,10 @@
 -- What stands in records that were laid: their arcs can be read back, and the labels that stand are those worked out from the arcs.
-use Rattle.std.proofs.Common.{◌≡◌, ℕ, zero, suc, ◌+◌, ◌-◌, ◌*◌, ◌<◌, ◌≤◌, Bool, true, false, cond, not, ◌&&◌, eqb, List, [], ◌∷◌, ◌++◌, map, length, get_or, take, drop, Some, None, Option, sym, refl, ap, ◌∙◌, subst, ap₂, append_assoc, le_of_suc-le-suc, not-suc-le-zero, suc-mul, zero-mul, arith, length-append}
+use Rattle.std.proofs.Common.{◌≡◌, ℕ, zero, suc, ◌+◌, ◌-◌, ◌*◌, ◌<◌, ◌≤◌, Bool, true, false, cond, not, ◌&&◌, eqb, List, [], ◌∷◌, ◌++◌, map, length, get_or, take, drop, Some, None, Option, sym, refl, ap, ◌∙◌, ap₂, append_assoc, le_of_suc-le-suc, not-suc-le-zero, suc-mul, zero-mul, arith, length-append}
 use Rattle.std.proofs.lemmas.Bool.{ne_eqb}
+use Rattle.std.proofs.lemmas.List.{drop_at}
 use Rattle.doors.specs.Sets.{has}
 use Rattle.round.specs.declared.table.Round.{Round}
-use Rattle.rules.specs.Rules.{RuleLaws, RuleSense}
+use Rattle.rules.specs.Rules.{RuleSense}
 use Rattle.tallies.specs.Tallies.{TallySense}
 use Rattle.layers.specs.declared.node.Node.{Node}
 use Rattle.layers.specs.declared.node.Up.{Up}
@@ -16,6 +17,7 @@ use Rattle.layers.proofs.Sets.{or_left, one-self, none_has}
 use Rattle.layers.proofs.Model.{sweeps, cuts, part_at, oneGroup, agreed, agrees, quiet, valueO}
 use Rattle.layers.proofs.Lively.{labels_full, ups-full}
 pub use Rattle.layers.specs.Flow.{Even}
+pub use Rattle.layers.proofs.Flows.{table-long}
 
 -- ---- tables
 take-table : {A : Type 0} (m : ℕ) (f : ℕ → A) (rest : List A) → take m (table m f ++ rest) ≡ table m f
@@ -37,10 +39,6 @@ table-ext (suc m) f g h = ap₂ (λ (x : _) (y : List _). x ∷ y) (h 0 (omega a
 table-back : {A : Type 0} (d : A) (xs : List A) → table (length xs) (λ k. get_or xs k d) ≡ xs
 table-back d [] = refl
 table-back d (x ∷ xs) = ap (λ (z : List _). x ∷ z) (table-back d xs)
-
-pub table-long : {A : Type 0} (k : ℕ) (f : ℕ → A) → length (table k f) ≡ k
-table-long zero f = refl
-table-long (suc k) f = ap suc (table-long k (λ m. f (suc m)))
 
 table-end : {A : Type 0} (m : ℕ) (f : ℕ → Option A) → get_or (table m f) m None ≡ None
 table-end zero f = refl
@@ -90,7 +88,7 @@ everyArc-cong f g i (nd ∷ L) h =
     (everyDoor-cong (f i) (g i) 1 nd (λ k b e. ap (λ (z : ℕ). f i z b) (omega arith) ∙ ap (λ (z : ℕ). f z (suc k) b) (omega arith) ∙ h 0 (suc k) b e ∙ ap (λ (z : ℕ). g z (suc k) b) (omega arith) ∙ ap (λ (z : ℕ). g i z b) (omega arith)))
     (everyArc-cong f g (suc i) L (λ a j b e. ap (λ (z : ℕ). f z j b) (omega arith) ∙ h (suc a) j b e ∙ ap (λ (z : ℕ). g z j b) (omega arith)))
 
-ups-end : (b : ℕ) → b ≡ 0 → get_or (ups []) b None ≡ Some noUp
+pub ups-end : (b : ℕ) → b ≡ 0 → get_or (ups []) b None ≡ Some noUp
 unfolding ups up
 ups-end b e = ap (λ (k : ℕ). get_or {A = Option Up} (Some noUp ∷ []) k None) e
 
@@ -100,8 +98,7 @@ stand-table zero zero f h on off = refl
 stand-table zero (suc m) f h on off = absurd (not-suc-le-zero h)
 stand-table (suc W) zero f h on off = ap (λ (q : Bool). cond q (f 0 ∷ standing (table W (λ k. f (suc k)))) []) (off (omega arith))
 stand-table (suc W) (suc m) f h on off =
-    ap (λ (q : Bool). cond q (f 0 ∷ standing (table W (λ k. f (suc k)))) []) (on 0 (omega arith))
-    ∙ ap (λ (z : List (Node _ _)). f 0 ∷ z) (stand-table W m (λ k. f (suc k)) (le_of_suc-le-suc h) (λ k q. on (suc k) (omega arith)) (λ q. off (omega arith)))
+    rw (on 0 (omega arith)) (ap (λ (z : List (Node _ _)). f 0 ∷ z) (stand-table W m (λ k. f (suc k)) (le_of_suc-le-suc h) (λ k q. on (suc k) (omega arith)) (λ q. off (omega arith))))
 
 module _ {S V : Type 0} (r : Round) (rule : RuleSense S) (tally : TallySense V) (W : ℕ) (w : 1 ≤ W) where
   abbrev pub Labs : Type 0
@@ -118,7 +115,7 @@ module _ {S V : Type 0} (r : Round) (rule : RuleSense S) (tally : TallySense V) 
     pub lasting : Lasting labs
 
   lasting-if : (m j : ℕ) → has m j ≡ true → eqb m 0 ≡ false
-  lasting-if m j h = ne_eqb m 0 (λ e. none_has j (subst (λ (z : ℕ). has z j ≡ true) e h))
+  lasting-if m j h = ne_eqb m 0 (λ e. none_has j (rw (← e) h))
 
   filled-first : Filled (firsts r rule tally) 1
   filled-first = record {
@@ -133,8 +130,8 @@ module _ {S V : Type 0} (r : Round) (rule : RuleSense S) (tally : TallySense V) 
       one-there (suc a) h = absurd (not-suc-le-zero (le_of_suc-le-suc h))
 
       once : (a : ℕ) (l : Lab r rule tally) → get_or (firsts r rule tally) a None ≡ Some l → eqb l.lasts 0 ≡ false
-      once zero l e = let x : first r rule tally ≡ l = cc in subst (λ (y : Lab r rule tally). eqb y.lasts 0 ≡ false) x refl
-      once (suc a) l e = let z : ◌≡◌ {A = ℕ} 0 1 = cc in absurd (omega arith)
+      once zero l e = let x : first r rule tally ≡ l = cc in rw (← x) refl
+      once (suc a) l e = absurd cc
 
   lasting-next : (labs : Labs) (L : Layer) (count : ℕ) → Lasting (labelsNext r rule tally labs L count)
   unfolding labelsNext arrive merge
@@ -185,13 +182,13 @@ module _ {S V : Type 0} (r : Round) (rule : RuleSense S) (tally : TallySense V) 
   row-downs labs L Ls f =
       map-table (λ (x : Node S V). Some x.label.down) (length L) (place r rule tally L labs (ups (L ∷ Ls)))
       ∙ table-ext (length L) _ (λ k. get_or labs k None) (λ k h. let x = f.filled.there k h in ap (λ (o : Option (Lab r rule tally)). Some (orBlank r rule tally o)) x.1 ∙ sym x.1)
-      ∙ ap (λ (m : ℕ). table m (λ k. get_or labs k None)) (sym f.filled.long) ∙ table-back None labs
+      ∙ rw (← f.filled.long) (table-back None labs)
 
   -- the end's node
   end-top : (labs : Labs) (l : Lab r rule tally) → get_or labs 0 None ≡ Some l → eqb l.lasts 0 ≡ false → top labs [] ≡ record { arcs = record { to = padded [] }; label = record { down = l; up = noUp } } ∷ []
   end-top labs l e q =
       let P : Option (Lab r rule tally) → Node S V = λ o. record { arcs = record { to = padded [] }; label = record { down = orBlank r rule tally o; up = noUp } } in
-      ap (λ (o : Option (Lab r rule tally)). standing (P o ∷ [])) e ∙ ap (λ (z : Bool). cond (not z) (P (Some l) ∷ []) []) q
+      rw e (ap (λ (z : Bool). cond (not z) (P (Some l) ∷ []) []) q)
 
   tops-end : (labs : Labs) (L : Layer) → Filled labs (length L) → Tied (L ∷ []) → (a j b : ℕ) → target (node L a) j ≡ suc b → get_or (upsIn (top (labelsNext r rule tally labs L 1) [])) b None ≡ get_or (ups []) b None
   unfolding labelsNext
@@ -218,12 +215,12 @@ module _ {S V : Type 0} (r : Round) (rule : RuleSense S) (tally : TallySense V) 
   )
 
   pub full-first : (L : Layer) (Ls : Net) → length L ≡ 1 → Tied (L ∷ Ls) → Roomy W (L ∷ Ls) → Even r.n (L ∷ Ls) → Full (firsts r rule tally) (L ∷ Ls)
-  full-first L Ls e t room even = full_from (firsts r rule tally) L Ls (subst (Filled (firsts r rule tally)) (sym e) filled-first) t room even
+  full-first L Ls e t room even = full_from (firsts r rule tally) L Ls (rw e filled-first) t room even
 
   -- ---- reading the records
   one-row : (labs : Labs) (L : Layer) (Ls : Net) → Fit labs L Ls → standing (table W (place r rule tally L labs (ups (L ∷ Ls)))) ≡ top labs (L ∷ Ls)
   one-row labs L Ls f = stand-table W (length L) (place r rule tally L labs (ups (L ∷ Ls))) f.room
-      (λ k h. let x = f.filled.there k h in ap (λ (o : Option (Lab r rule tally)). not (eqb (orBlank r rule tally o).lasts 0)) x.1 ∙ ap not (f.filled.lasting k x.0 x.1))
+      (λ k h. let x = f.filled.there k h in rw x.1 (ap not (f.filled.lasting k x.0 x.1)))
       (λ h. ap (λ (o : Option (Lab r rule tally)). not (eqb (orBlank r rule tally o).lasts 0)) f.filled.beyond)
 
   pub layers-laid : (later : List (Node S V)) (labs : Labs) (Ls : Net) → Full labs Ls → layers W (length Ls) (laidFrom r rule tally W labs Ls ++ later) ≡ stood labs Ls
@@ -340,12 +337,6 @@ module _ {S V : Type 0} (r : Round) (rule : RuleSense S) (tally : TallySense V) 
       let X = laidFrom r rule tally W (labelsNext r rule tally labs L (width Ls)) Ls in
       omega (arith, length-append (table W f') X, table-long W f', laid-long (labelsNext r rule tally labs L (width Ls)) Ls, suc-mul (length Ls) W)
 
-  drop-front : {A : Type 0} (k : ℕ) (xs ys : List A) → length xs ≡ k → drop k (xs ++ ys) ≡ ys
-  drop-front zero [] ys e = refl
-  drop-front zero (x ∷ xs) ys e = absurd (omega arith)
-  drop-front (suc k) [] ys e = absurd (omega arith)
-  drop-front (suc k) (x ∷ xs) ys e = drop-front k xs ys (omega arith)
-
   pub later-stays : (later : List (Node S V)) (Ls : Net) → length Ls ≡ r.n → drop (r.n * W + 1) (laid r rule tally W Ls ++ later) ≡ later
   unfolding laid
-  later-stays later Ls e = drop-front (r.n * W + 1) (laidFrom r rule tally W (firsts r rule tally) Ls) later (laid-long (firsts r rule tally) Ls ∙ ap (λ (k : ℕ). k * W + 1) e)
+  later-stays later Ls e = drop_at (laidFrom r rule tally W (firsts r rule tally) Ls) later (r.n * W + 1) (laid-long (firsts r rule tally) Ls ∙ ap (λ (k : ℕ). k * W + 1) e)

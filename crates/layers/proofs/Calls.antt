@@ -1,5 +1,5 @@
 -- No call loses an allowed order that no ceiling rules out.
-use Rattle.std.proofs.Common.{◌≡◌, ℕ, zero, suc, ◌+◌, ◌-◌, ◌<◌, ◌≤◌, min, max, Bool, true, false, cond, not, ◌||◌, eqb, ltb, leb, List, [], ◌∷◌, ◌++◌, length, get_or, Some, None, Option, sym, refl, ap, ◌∙◌, subst, inl, inr, append-nil, arith}
+use Rattle.std.proofs.Common.{◌≡◌, ℕ, zero, suc, ◌-◌, ◌<◌, ◌≤◌, min, max, Bool, true, false, cond, not, ◌||◌, eqb, ltb, leb, List, [], ◌∷◌, ◌++◌, length, get_or, Some, None, Option, sym, refl, ap, ◌∙◌, subst, inl, inr, append-nil, arith}
 use Rattle.std.proofs.lemmas.Bool.{ltb-false, leb-false, eqb-false, or_parts}
 use Rattle.doors.specs.Orders.{Door, PartOrder}
 use Rattle.round.proofs.Clocks.{clock-laws}
@@ -45,7 +45,7 @@ module _ {S V : Type 0} (r : Round) (rule : RuleSense S) (tally : TallySense V) 
           let a1 = ltb-false a 1 na.0 in let a2 = ltb-false (count r rule tally i Ls) a na.1 in
           let w = leb-false W (count r rule tally i Ls) h in
           let ei : suc (i - 1) ≡ i = omega arith in
-          safe-partAt (i - 1) (a - 1) Ls (subst (λ (k : ℕ). a - 1 < length (get_or Ls k [])) (sym ei) (omega arith)) (subst (λ (k : ℕ). length (get_or Ls k []) < W) (sym ei) w) g s
+          safe-partAt (i - 1) (a - 1) Ls (rw ei (omega arith)) (rw ei w) g s
 
   pub safe-swept : (k : ℕ) (Ls : Net) → Safe Ls → Safe (swept r rule tally W k Ls)
   unfolding swept
@@ -62,7 +62,7 @@ module _ {S V : Type 0} (r : Round) (rule : RuleSense S) (tally : TallySense V) 
       either (λ (z : Bool × Net). Safe z.1) (oneGroup r rule tally (i - 1) a (firsts r rule tally) Ls) (parted r rule tally W k i (suc a) Ls) _ (λ f. safe-parted k i (suc a) Ls o s) (λ f.
       either (λ (z : Bool × Net). Safe z.1) (leb W (count r rule tally i Ls)) (true, Ls) (parted r rule tally W k i (suc a) (part_at r rule tally (i - 1) a (firsts r rule tally) Ls)) (λ g. s)
       (λ g. safe-parted k i (suc a) (part_at r rule tally (i - 1) a (firsts r rule tally) Ls) o
-      (safe-partAt (i - 1) a Ls (subst (λ (k : ℕ). a < length (get_or Ls k [])) (sym ei) (leb-false (count r rule tally i Ls) a e)) (subst (λ (k : ℕ). length (get_or Ls k []) < W) (sym ei) (leb-false W (count r rule tally i Ls) g)) f s))))
+      (safe-partAt (i - 1) a Ls (rw ei (leb-false (count r rule tally i Ls) a e)) (rw ei (leb-false W (count r rule tally i Ls) g)) f s))))
 
   pub safe-refines : (k i : ℕ) (Ls : Net) → 1 ≤ i → Safe Ls → Safe (refines r rule tally W k i Ls).1
   unfolding refines
@@ -101,8 +101,8 @@ module _ {S V : Type 0} (r : Round) (rule : RuleSense S) (tally : TallySense V) 
           let ne = eqb-false a b g in
           let ei : suc (i - 1) ≡ i = omega arith in
           (safe-joinAt (i - 1) (min a b - 1) (max a b - 1) Ls (omega arith)
-          (subst (λ (k : ℕ). max a b - 1 < length (get_or Ls k [])) (sym ei) (omega arith))
-          (subst (λ (k : ℕ). clash (node (get_or Ls k []) (min a b - 1)) (node (get_or Ls k []) (max a b - 1)) ≡ false) (sym ei) h) s)
+          (rw ei (omega arith))
+          (rw ei h) s)
 
   pub safe-act : (c : Call V) (cs : List (Call V)) (Ls : Net) → EachCut Q (c ∷ cs) → Safe Ls → Safe (act r rule tally W c Ls) × EachCut Q cs
   unfolding act
@@ -132,7 +132,7 @@ module _ {S V : Type 0} (r : Round) (rule : RuleSense S) (tally : TallySense V) 
 module _ {S V : Type 0} {Keeps : List ℕ → Type 0} {Stands : S → List ℕ → Type 0} {Allows : ℕ → V → Type 0} (r : Round) (rule : RuleSense S) (ruled : RuleLaws r.n rule Keeps Stands) (tally : TallySense V) (tallied : TallyLaws r.n tally Allows) where
   -- ---- costs only rise
   cost-rises : (p w : List ℕ) → Going r rule ruled tally tallied p w → Told r rule ruled tally tallied p → tally.notAbove (cost r tally p) (cost r tally (p ++ w)) ≡ true
-  cost-rises p [] g t = subst (λ (q : List ℕ). tally.notAbove (cost r tally p) (cost r tally q) ≡ true) (sym (append-nil p)) (tallied.order-self (cost r tally p))
+  cost-rises p [] g t = rw (append-nil p) (tallied.order-self (cost r tally p))
   cost-rises p (j ∷ w) g t =
       let facts = going-facts r rule ruled tally tallied p w j g in
       let rest = cost-rises (p ++ (j ∷ [])) w (going_next r rule ruled tally tallied p w j g) (told-next r rule ruled tally tallied p j t facts.0 facts.2 facts.1) in
@@ -164,7 +164,7 @@ module _ {S V : Type 0} {Keeps : List ℕ → Type 0} {Stands : S → List ℕ �
         b,
         redirect-arc (λ a j b. cond (dear r rule tally c j (get_or labs a None)) 0 (suc b)) L a j b q.1 ∙ ap (λ (z : Bool). cond z 0 (suc b)) nd,
         cuts-keep c (p ++ (j ∷ [])) w (labelsNext r rule tally labs L (width Ls)) Ls b u' g' t' next'
-            (subst (λ (k : ℕ). Good r rule ruled tally tallied k (labelsNext r rule tally labs L (width Ls))) (sym (length-snoc p j)) good') neat.1 q.2,
+            (rw (length-snoc p j) good') neat.1 q.2,
       )
 
   cut_keeps : (c : V) (w : List ℕ) (Ls : Net) → Allowed r Keeps w → tally.notAbove (cost r tally w) c ≡ true → Neat r.n Ls → Path-from Ls 0 w → Path-from (cut r rule tally c Ls) 0 w
@@ -178,7 +178,7 @@ module _ {S V : Type 0} {Keeps : List ℕ → Type 0} {Stands : S → List ℕ �
       → (l : Lab r rule tally) × (final (arrive r rule tally) (merge r rule tally) labs Ls ≡ Some l) × (tally.notAbove l.value (cost r tally (p ++ w)) ≡ true)
   unfolding final At labelsNext
   final-fits p [] labs [] a g t at good neat q =
-      (at.0, ap (λ (x : ℕ). get_or labs x None) (sym q) ∙ at.1, tallied.order-chain _ (cost r tally p) _ at.2.value (cost-rises p [] g t))
+      (at.0, rw (← q) at.1, tallied.order-chain _ (cost r tally p) _ at.2.value (cost-rises p [] g t))
   final-fits p (j ∷ w) labs [] a g t at good neat q = absurd q
   final-fits p [] labs (L ∷ Ls) a g t at good neat q = absurd q
   final-fits p (j ∷ w) labs (L ∷ Ls) a g t at good neat q =
@@ -189,8 +189,8 @@ module _ {S V : Type 0} {Keeps : List ℕ → Type 0} {Stands : S → List ℕ �
       let next' = at_next r rule ruled tally tallied labs L (width Ls) a j b p q.1 (inside Ls b w q.2) at t good facts.0 facts.2 facts.1 in
       let good' = good-next r rule ruled tally tallied (length p) labs L (width Ls) facts.2 good neat.0 in
       let x = final-fits (p ++ (j ∷ [])) w (labelsNext r rule tally labs L (width Ls)) Ls b g' t' next'
-      (subst (λ (k : ℕ). Good r rule ruled tally tallied k (labelsNext r rule tally labs L (width Ls))) (sym (length-snoc p j)) good') neat.1 q.2 in
-      (x.0, x.1, subst (λ (z : List ℕ). tally.notAbove x.0.value (cost r tally z) ≡ true) (snoc-assoc p w j) x.2)
+      (rw (length-snoc p j) good') neat.1 q.2 in
+      (x.0, x.1, rw (← (snoc-assoc p w j)) x.2)
 
   pub bound-below : (w : List ℕ) (Ls : Net) → Allowed r Keeps w → Neat r.n Ls → Path-from Ls 0 w → (v : V) × (bound r rule tally Ls ≡ Some v) × (tally.notAbove v (cost r tally w) ≡ true)
   unfolding bound

@@ -1,14 +1,13 @@
 -- A sweep adds no arc; so refine's last sweeps end with one that answers 0. A tied diagram is left as it is by tidying.
-use Rattle.std.proofs.Common.{◌≡◌, ℕ, zero, suc, ◌+◌, ◌-◌, ◌<◌, ◌≤◌, Bool, true, false, cond, not, ◌&&◌, eqb, List, [], ◌∷◌, length, get_or, Some, None, Option, sym, refl, ap, ◌∙◌, ap₂, le_of_suc-le-suc, not-suc-le-zero, arith}
-use Rattle.std.proofs.lemmas.Bool.{not-true, eqb-true, eqb-false, and_parts}
+use Rattle.std.proofs.Common.{◌≡◌, ℕ, zero, suc, ◌+◌, ◌<◌, ◌≤◌, Bool, true, false, cond, not, ◌&&◌, List, [], ◌∷◌, length, get_or, Some, None, Option, refl, ap, ◌∙◌, ap₂, le_of_suc-le-suc, not-suc-le-zero, arith}
+use Rattle.std.proofs.lemmas.Bool.{false≢true, not-true, and_parts}
 use Rattle.round.specs.declared.table.Round.{Round}
 use Rattle.rules.specs.Rules.{RuleSense}
 use Rattle.tallies.specs.Tallies.{TallySense}
 use Rattle.layers.specs.Flow.{Outs, Layer, Net, node, target, width, eachDoor, eachNode, redirect, countDoors, countLayer, countArcs, everyDoor, everyArc, up, Mark, marksNext, marksUp, flags, rank, compress, renumber, tidy, tidied, Led, Tied}
 use Rattle.layers.specs.Labels.{Lab, firsts, labelsNext, barred, ups}
 use Rattle.layers.proofs.Flows.{has-arc, mark-next, flags-at, renumber-at}
-use Rattle.layers.proofs.Ways.{clashing}
-use Rattle.layers.proofs.Model.{sweeps, sweep, swept, settles, settled, agrees, quiet}
+use Rattle.layers.proofs.Model.{sweeps, sweep, settles, settled, agrees, quiet}
 use Rattle.layers.proofs.Exact.{everyArc-at}
 use Rattle.layers.proofs.Tied.{climbs}
 
@@ -65,18 +64,6 @@ module _ {S V : Type 0} (r : Round) (rule : RuleSense S) (tally : TallySense V) 
   unfolding sweep
   sweep-fewer Ls = omega (arith, tidied-fewer (sweeps r rule tally 0 (firsts r rule tally) Ls), sweeps-fewer 0 (firsts r rule tally) Ls)
 
-  -- with more rounds allowed than there are arcs, the last sweep answered 0
-  pub swept-ends : (W k : ℕ) (Ls : Net) → countArcs Ls < k → (t : Net) × (swept r rule tally W k Ls ≡ sweep r rule tally t) × (countArcs (sweep r rule tally t) ≡ countArcs t)
-  unfolding swept
-  swept-ends W zero Ls h = absurd (not-suc-le-zero h)
-  swept-ends W (suc k) Ls h = go (eqb (countArcs (sweep r rule tally Ls)) (countArcs Ls)) refl (λ g. swept-ends W k (sweep r rule tally Ls) g)
-    where
-      go : (q : Bool) → eqb (countArcs (sweep r rule tally Ls)) (countArcs Ls) ≡ q
-          → (countArcs (sweep r rule tally Ls) < k → (t : Net) × (swept r rule tally W k (sweep r rule tally Ls) ≡ sweep r rule tally t) × (countArcs (sweep r rule tally t) ≡ countArcs t))
-          → (t : Net) × ((elim q [ true ↦ sweep r rule tally Ls | false ↦ swept r rule tally W k (sweep r rule tally Ls) ]) ≡ sweep r rule tally t) × (countArcs (sweep r rule tally t) ≡ countArcs t)
-      go true e f = (Ls, refl, eqb-true (countArcs (sweep r rule tally Ls)) (countArcs Ls) e)
-      go false e f = f (omega (arith, sweep-fewer Ls, eqb-false (countArcs (sweep r rule tally Ls)) (countArcs Ls) e))
-
 -- ---- tidying leaves a tied diagram as it is
 eachDoor-same : (f : ℕ → ℕ → ℕ) (j : ℕ) (ts : Outs) → ((k b : ℕ) → get_or ts k 0 ≡ suc b → f (j + k) b ≡ suc b) → eachDoor f j ts ≡ ts
 unfolding eachDoor
@@ -100,19 +87,19 @@ redirect-same f L h = eachNode-same f 0 L (λ a j b e. ap (λ (z : ℕ). f z j b
 compress-all : (fs : List Bool) (L : Layer) → ((a : ℕ) → a < length L → get_or fs a false ≡ true) → compress fs L ≡ L
 unfolding compress
 compress-all [] [] h = refl
-compress-all [] (x ∷ L) h = clashing (sym (h 0 (omega arith)))
+compress-all [] (x ∷ L) h = absurd (false≢true (h 0 (omega arith)))
 compress-all (f ∷ fs) [] h = refl
 compress-all (true ∷ fs) (x ∷ L) h = ap (λ (y : Layer). x ∷ y) (compress-all fs L (λ a k. h (suc a) (omega arith)))
-compress-all (false ∷ fs) (x ∷ L) h = clashing (sym (h 0 (omega arith)))
+compress-all (false ∷ fs) (x ∷ L) h = absurd (false≢true (h 0 (omega arith)))
 
 rank-all : (fs : List Bool) (b : ℕ) → ((c : ℕ) → c < b → get_or fs c false ≡ true) → rank fs b ≡ b
 unfolding rank
 rank-all [] zero h = refl
-rank-all [] (suc b) h = clashing (sym (h 0 (omega arith)))
+rank-all [] (suc b) h = absurd (false≢true (h 0 (omega arith)))
 rank-all (true ∷ fs) zero h = refl
 rank-all (false ∷ fs) zero h = refl
 rank-all (true ∷ fs) (suc b) h = ap suc (rank-all fs b (λ c k. h (suc c) (omega arith)))
-rank-all (false ∷ fs) (suc b) h = clashing (sym (h 0 (omega arith)))
+rank-all (false ∷ fs) (suc b) h = absurd (false≢true (h 0 (omega arith)))
 
 end-up : (b : ℕ) → b < 1 → get_or (marksUp []) b None ≡ Some tt
 unfolding marksUp

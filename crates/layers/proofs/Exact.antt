@@ -1,8 +1,8 @@
 -- While settled answers yes, the labels are exact, so every path is an allowed order and the bound is the least cost.
-use Rattle.std.proofs.Common.{◌≡◌, ℕ, zero, suc, ◌+◌, ◌-◌, ◌<◌, ◌≤◌, Bool, true, false, cond, not, eqb, ltb, List, [], ◌∷◌, ◌++◌, length, get_or, Some, None, fold, Option, sym, refl, ap, ◌∙◌, subst, inl, inr, append-nil, not-suc-le-zero, arith}
+use Rattle.std.proofs.Common.{◌≡◌, ℕ, zero, suc, ◌+◌, ◌<◌, ◌≤◌, Bool, true, false, cond, not, eqb, ltb, List, [], ◌∷◌, ◌++◌, length, get_or, Some, None, fold, Option, sym, refl, ap, ◌∙◌, inl, inr, append-nil, not-suc-le-zero, arith}
 use lib.Bits.{bit_and, bit_or, and_self, or_self}
 use lib.Count.{ones}
-use Rattle.std.proofs.lemmas.Bool.{not-true, ltb-false, eqb-true, eqb-false, ne_eqb, and_parts, or_parts}
+use Rattle.std.proofs.lemmas.Bool.{true≢false, not-true, ltb-false, eqb-true, eqb-false, ne_eqb, and_parts, or_parts}
 use Rattle.doors.proofs.Orders.{each_none, each_more}
 use Rattle.doors.specs.Orders.{Door, In}
 use Rattle.doors.specs.Sets.{has}
@@ -16,12 +16,12 @@ use Rattle.orders.specs.Costs.{Trip, cost, rides, tripAfter}
 use Rattle.orders.specs.Times.{finishOf, Timely}
 use Rattle.orders.specs.declared.van.Van.{Van}
 use Rattle.layers.specs.declared.node.Up.{Up}
-use Rattle.layers.specs.Flow.{table, Outs, Layer, Net, node, target, width, Path-from, tidy, tidied, Mark, marksNext, joinAt, final, everyDoor, everyArc, ins, gather}
+use Rattle.layers.specs.Flow.{Outs, Layer, Net, node, target, width, Path-from, tidy, tidied, Mark, marksNext, joinAt, final, everyDoor, everyArc, ins, gather}
 use Rattle.layers.specs.Labels.{one, leg, ups, Lab, first, arrive, merge, firsts, labelsNext, barred, opened, allDoors, agree, agreeAll, agreeing}
 use Rattle.layers.specs.Calls.{Call, EachCut, Sweep, Part, Join, Cut, Refine}
-use Rattle.layers.proofs.Flows.{Among, From, inside, ins-in, ins-from, next-some, next-within, next-at}
+use Rattle.layers.proofs.Flows.{Among, table-long, From, inside, ins-in, ins-from, next-some, next-within, next-at}
 use Rattle.layers.proofs.Sets.{or_left, or_right, one-self}
-use Rattle.layers.proofs.Ways.{in_split, clashing, trip-snoc, state-snoc, length-snoc, snoc-assoc, leg-one}
+use Rattle.layers.proofs.Ways.{in_split, trip-snoc, state-snoc, length-snoc, snoc-assoc, leg-one}
 use Rattle.layers.proofs.Model.{sweeps, sweep, cuts, cut, part_at, agreed, agrees, quiet, settles, settled, after, bound, valueO}
 use Rattle.layers.proofs.Walk.{NeatLayer, Neat, neat-door, path-length, Told, told_none, told-next}
 use Rattle.layers.proofs.Shapes.{neat-tidied, neat-join, neat-part, neat-sweeps, neat-cuts}
@@ -65,10 +65,6 @@ module _ {S V : Type 0} (r : Round) (rule : RuleSense S) (tally : TallySense V) 
   cuts-length c labs [] = refl
   cuts-length c labs (L ∷ Ls) = ap suc (cuts-length c (labelsNext r rule tally labs L (width Ls)) Ls)
 
-  pub table-length : {A : Type 0} (k : ℕ) (f : ℕ → A) → length (table k f) ≡ k
-  table-length zero f = refl
-  table-length (suc k) f = ap suc (table-length k (λ m. f (suc m)))
-
   abbrev pub Shape : Net → Type 0
   Shape Ls = Neat r.n Ls × (length Ls ≡ r.n)
 
@@ -88,7 +84,7 @@ module _ {S V : Type 0} (r : Round) (rule : RuleSense S) (tally : TallySense V) 
         (λ c Ls q s. (neat-tidied r.n (cuts r rule tally c (firsts r rule tally) Ls) (neat-cuts r.n r rule tally c (firsts r rule tally) Ls s.0), tidied-length (cuts r rule tally c (firsts r rule tally) Ls) ∙ cuts-length c (firsts r rule tally) Ls ∙ s.1))
         (λ d a Ls x y z s. (neat-part r.n r rule tally d a (firsts r rule tally) Ls s.0, part_length d a (firsts r rule tally) Ls ∙ s.1))
         (λ d lo hi Ls x y z s. (neat-join r.n d lo hi Ls s.0, join-length d lo hi Ls ∙ s.1))
-        cs (opened r rule tally) (any-cut cs) (neat-opened r rule tally, table-length r.n (λ i. allDoors r rule tally ∷ []))
+        cs (opened r rule tally) (any-cut cs) (neat-opened r rule tally, table-long r.n (λ i. allDoors r rule tally ∷ []))
 
 -- ---- tests that passed
 everyDoor-at : (f : ℕ → ℕ → Bool) (j : ℕ) (ts : Outs) (k m b : ℕ) → j + k ≡ m → everyDoor f j ts ≡ true → get_or ts k 0 ≡ suc b → f m b ≡ true
@@ -143,7 +139,7 @@ module _ {S V : Type 0} {Keeps : List ℕ → Type 0} {Stands : S → List ℕ �
   same-all : (x : Lab r rule tally) (l : List (Lab r rule tally)) → agreeAll r rule tally x l ≡ true → (y : Lab r rule tally) → Among y l → Same x y
   unfolding agreeAll
   same-all x [] e y i = absurd i
-  same-all x (z ∷ l) e y (inl f) = subst (Same x) (sym f) (same-agree x z (and_parts (agree r rule tally x z) (agreeAll r rule tally x l) e).0)
+  same-all x (z ∷ l) e y (inl f) = rw f (same-agree x z (and_parts (agree r rule tally x z) (agreeAll r rule tally x l) e).0)
   same-all x (z ∷ l) e y (inr i) = same-all x l (and_parts (agree r rule tally x z) (agreeAll r rule tally x l) e).1 y i
 
   same_fold : (x y : Lab r rule tally) (l : List (Lab r rule tally)) → Same x y → ((z : Lab r rule tally) → Among z l → Same x z) → Same x (fold (merge r rule tally) y l)
@@ -157,14 +153,14 @@ module _ {S V : Type 0} {Keeps : List ℕ → Type 0} {Stands : S → List ℕ �
       let each : (z : Lab r rule tally) → Among z l → Same y z = same-all y l e in
       let whole : Same y (fold (merge r rule tally) y l) = same_fold y y l (same_self y) each in
       let z : fold (merge r rule tally) y l ≡ m = cc in
-      subst (Same x) z (same_back y x (fold (merge r rule tally) y l) (elim i [ inl f ↦ subst (Same y) (sym f) (same_self y) | inr h ↦ each x h ]) whole)
+      rw (← z) (same_back y x (fold (merge r rule tally) y l) (elim i [ inl f ↦ rw f (same_self y) | inr h ↦ each x h ]) whole)
 
   -- the value gathered is that of some arrival
   abbrev Attained : V → List (Lab r rule tally) → Type 0
   Attained v l = (x : Lab r rule tally) × Among x l × (x.value ≡ v)
 
   lesser-one : (a b : V) (l : List (Lab r rule tally)) → Attained a l → Attained b l → Attained (tally.lesser a b) l
-  lesser-one a b l p q = subst (λ (v : V). Attained v l) (sym (tallied.lesser-is a b)) (go (tally.notAbove a b))
+  lesser-one a b l p q = rw (tallied.lesser-is a b) (go (tally.notAbove a b))
     where
       go : (t : Bool) → Attained (cond t a b) l
       go true = p
@@ -177,10 +173,10 @@ module _ {S V : Type 0} {Keeps : List ℕ → Type 0} {Stands : S → List ℕ �
 
   value-gather : (l : List (Lab r rule tally)) (m : Lab r rule tally) → gather (merge r rule tally) l ≡ Some m → Attained m.value l
   unfolding gather
-  value-gather [] m g = let z : ◌≡◌ {A = ℕ} 0 1 = cc in absurd (omega arith)
+  value-gather [] m g = absurd cc
   value-gather (y ∷ l) m g =
       let z : fold (merge r rule tally) y l ≡ m = cc in
-      subst (λ (t : Lab r rule tally). Attained t.value (y ∷ l)) z (fold-value y (y ∷ l) l (y, inl refl, refl) (λ t i. inr i))
+      rw (← z) (fold-value y (y ∷ l) l (y, inl refl, refl) (λ t i. inr i))
 
   -- ---- exact labels
   pub record Sound (p : List ℕ) : Type 0 where
@@ -202,7 +198,7 @@ module _ {S V : Type 0} {Keeps : List ℕ → Type 0} {Stands : S → List ℕ �
 
   exact_same : (x y : Lab r rule tally) (p : List ℕ) → Same x y → Exact x p → Exact y p
   exact_same x y p s e = record {
-    all = λ j i. subst (λ (m : ℕ). has m j ≡ true) s.all (e.all j i);
+    all = λ j i. rw (← s.all) (e.all j i);
     finish = sym s.finish ∙ e.finish;
     lasts = sym s.lasts ∙ e.lasts;
     state = sym s.state ∙ e.state;
@@ -215,7 +211,7 @@ module _ {S V : Type 0} {Keeps : List ℕ → Type 0} {Stands : S → List ℕ �
     pub free : rule.bars l.state j ≡ false
 
   clear : (i h j : ℕ) (l : Lab r rule tally) (u : Option Up) → barred r rule tally i h j (Some l) u ≡ false → Clear l j
-  clear i h j l None e = clashing e
+  clear i h j l None e = absurd (true≢false e)
   clear i h j l (Some u) e =
       let a = or_parts (has l.all j) _ e in
       let b = or_parts (ltb (ones (bit_or l.some (one j))) (suc i)) _ a.1 in
@@ -232,7 +228,7 @@ module _ {S V : Type 0} {Keeps : List ℕ → Type 0} {Stands : S → List ℕ �
   onward : (l : Lab r rule tally) (p : List ℕ) (j : ℕ) → length p < 16 → Door r.n j → Sound p → Exact l p → Clear l j → Onward l p j
   unfolding arrive
   onward l p j k d s e c =
-      let n : ¬ In j p = λ i. clashing (sym (e.all j i) ∙ c.new) in
+      let n : ¬ In j p = λ i. absurd (true≢false (sym (e.all j i) ∙ c.new)) in
       let z = trip-snoc r tally p j in
       let t = s.told in
       let g : leg r l.lasts j ≡ drive r (tripAfter r tally p).van.last j =
@@ -243,14 +239,14 @@ module _ {S V : Type 0} {Keeps : List ℕ → Type 0} {Stands : S → List ℕ �
       ap (λ (a : Van). a.finish) (sym (trip-van r tally (p ++ (j ∷ [])))) ∙ ap (λ (q : Trip V). q.van.finish) z ∙ sym f in
       record {
         sound = record {
-          keeps = ruled.clear-keeps p j (record { part = t.part; door = d; new = n }) s.keeps (ap (λ (x : S). rule.bars x j) (sym e.state) ∙ c.free);
-          timely = each_more _ p j s.timely (subst (λ (x : ℕ). x ≤ (door r j).closes) (sym v) c.early);
+          keeps = ruled.clear-keeps p j (record { part = t.part; door = d; new = n }) s.keeps (rw (← e.state) c.free);
+          timely = each_more _ p j s.timely (rw v c.early);
           told = told-next r rule ruled tally tallied p j t d k n;
         };
         exact = record {
           all = λ i h. elim (in_split i p (j ∷ []) h) [
             | inl x ↦ or_left l.all (one j) i (e.all i x)
-            | inr x ↦ or_right l.all (one j) i (elim x [ inl y ↦ subst (λ (q : ℕ). has (one j) q ≡ true) (sym y) (one-self j) | inr y ↦ absurd y ])
+            | inr x ↦ or_right l.all (one j) i (elim x [ inl y ↦ rw y (one-self j) | inr y ↦ absurd y ])
           ];
           finish = f ∙ ap (λ (q : Trip V). q.van.finish) (sym z);
           lasts = ap (λ (q : Trip V). one q.van.last) (sym z);
@@ -267,9 +263,8 @@ module _ {S V : Type 0} {Keeps : List ℕ → Type 0} {Stands : S → List ℕ �
       → target (node L a) j ≡ suc b → get_or labs a None ≡ Some l → Clear l j
   unfolding settles quiet
   settles-arc i labs L Ls a j b l s e g =
-      clear i (suc (length Ls)) j l (get_or (ups Ls) b None) (ap (λ (o : Option (Lab r rule tally)). barred r rule tally i (suc (length Ls)) j o (get_or (ups Ls) b None)) (sym g)
-      ∙ not-true _ (everyArc-at (λ a j b. not (barred r rule tally i (suc (length Ls)) j (get_or labs a None) (get_or (ups Ls) b None))) 0 L a a j b (omega arith)
-      (and_parts _ _ (and_parts (agrees r rule tally labs (L ∷ Ls)) (quiet r rule tally i labs (L ∷ Ls)) s).1).0 e))
+      clear i (suc (length Ls)) j l (get_or (ups Ls) b None) (rw (← g) (not-true _ (everyArc-at (λ a j b. not (barred r rule tally i (suc (length Ls)) j (get_or labs a None) (get_or (ups Ls) b None))) 0 L a a j b (omega arith)
+      (and_parts _ _ (and_parts (agrees r rule tally labs (L ∷ Ls)) (quiet r rule tally i labs (L ∷ Ls)) s).1).0 e)))
 
   agreed-at : (labs : List (Option (Lab r rule tally))) (L : Layer) (k b : ℕ) → agreed r rule tally labs L k ≡ true → b < k → agreeing r rule tally (ins (arrive r rule tally) b labs L) ≡ true
   unfolding agreed
@@ -277,7 +272,7 @@ module _ {S V : Type 0} {Keeps : List ℕ → Type 0} {Stands : S → List ℕ �
   agreed-at labs L (suc k) b e h = go (eqb b k) refl (λ g. agreed-at labs L k b (and_parts _ _ e).1 g)
     where
       go : (q : Bool) → eqb b k ≡ q → (b < k → agreeing r rule tally (ins (arrive r rule tally) b labs L) ≡ true) → agreeing r rule tally (ins (arrive r rule tally) b labs L) ≡ true
-      go true f g = ap (λ (x : ℕ). agreeing r rule tally (ins (arrive r rule tally) x labs L)) (eqb-true b k f) ∙ (and_parts _ _ e).0
+      go true f g = rw (eqb-true b k f) ((and_parts _ _ e).0)
       go false f g = g (omega (arith, eqb-false b k f))
 
   settles-next : (i : ℕ) (labs : List (Option (Lab r rule tally))) (L M : Layer) (Ls : Net) → settles r rule tally i labs (L ∷ M ∷ Ls) ≡ true
@@ -292,7 +287,7 @@ module _ {S V : Type 0} {Keeps : List ℕ → Type 0} {Stands : S → List ℕ �
   pub paths-sound : (i : ℕ) (p w : List ℕ) (labs : List (Option (Lab r rule tally))) (Ls : Net) (a : ℕ) (l : Lab r rule tally) → length p + length Ls ≡ r.n → settles r rule tally i labs Ls ≡ true
       → get_or labs a None ≡ Some l → Exact l p → Sound p → Neat r.n Ls → Path-from Ls a w → Sound (p ++ w)
   unfolding labelsNext
-  paths-sound i p [] labs [] a l t s g e o neat q = subst Sound (sym (append-nil p)) o
+  paths-sound i p [] labs [] a l t s g e o neat q = rw (append-nil p) o
   paths-sound i p (j ∷ w) labs [] a l t s g e o neat q = absurd q
   paths-sound i p [] labs (L ∷ Ls) a l t s g e o neat q = absurd q
   paths-sound i p (j ∷ []) labs (L ∷ []) a l t s g e o neat q =
@@ -306,8 +301,7 @@ module _ {S V : Type 0} {Keeps : List ℕ → Type 0} {Stands : S → List ℕ �
       let sn = settles-next i labs L M Ls s in
       let same = same-gather (ins (arrive r rule tally) b labs L) n.0 (arrive r rule tally l j) (agreed-at labs L (length M) b sn.0 h)
       (next-some (arrive r rule tally) (merge r rule tally) labs L (length M) b n.0 n.1) (ins-in (arrive r rule tally) (merge r rule tally) b labs L a j l q.1 g) in
-      subst Sound (snoc-assoc p w j)
-      (paths-sound (suc i) (p ++ (j ∷ [])) w (labelsNext r rule tally labs L (length M)) (M ∷ Ls) b n.0 (omega (arith, length-snoc p j)) sn.1 n.1
+      rw (← (snoc-assoc p w j)) (paths-sound (suc i) (p ++ (j ∷ [])) w (labelsNext r rule tally labs L (length M)) (M ∷ Ls) b n.0 (omega (arith, length-snoc p j)) sn.1 n.1
       (exact_same (arrive r rule tally l j) n.0 (p ++ (j ∷ [])) same on.exact) on.sound neat.1 q.2)
 
   pub paths-allowed : (D : Net) (w : List ℕ) → length D ≡ r.n → Neat r.n D → settled r rule tally D ≡ true → Path-from D 0 w → Allowed r Keeps w
@@ -331,10 +325,10 @@ module _ {S V : Type 0} {Keeps : List ℕ → Type 0} {Stands : S → List ℕ �
         (c : Reached (L ∷ Ls) k f.source f.label) → Onward f.label c.way f.door → Reached Ls (suc k) b x
     onto Ls L k labs b x f c on = record {
       way = c.way ++ (f.door ∷ []);
-      leads = λ w q. subst (λ (z : List ℕ). Path-from D 0 z) (sym (snoc-assoc c.way w f.door)) (c.leads (f.door ∷ w) (b, f.arc, q));
+      leads = λ w q. rw (snoc-assoc c.way w f.door) (c.leads (f.door ∷ w) (b, f.arc, q));
       sound = on.sound;
-      exact = subst (λ (z : Lab r rule tally). Exact z (c.way ++ (f.door ∷ []))) (sym f.is) on.exact;
-      worth = ap (λ (z : Lab r rule tally). z.value) f.is ∙ on.worth c.worth;
+      exact = rw f.is on.exact;
+      worth = rw f.is (on.worth c.worth);
       long = length-snoc c.way f.door ∙ ap suc c.long;
     }
 
@@ -378,11 +372,11 @@ module _ {S V : Type 0} {Keeps : List ℕ → Type 0} {Stands : S → List ℕ �
       where
         start : (a : ℕ) (l : Lab r rule tally) → get_or (firsts r rule tally) a None ≡ Some l → Reached D 0 a l
         start zero l f = let x : first r rule tally ≡ l = cc in
-            subst (λ (y : Lab r rule tally). Reached D 0 0 y) x (record { way = []; leads = λ w q. q; sound = sound_none; exact = exact-first; worth = refl; long = refl })
-        start (suc a) l f = let z : ◌≡◌ {A = ℕ} 0 1 = cc in absurd (omega arith)
+            rw (← x) (record { way = []; leads = λ w q. q; sound = sound_none; exact = exact-first; worth = refl; long = refl })
+        start (suc a) l f = absurd cc
 
         go : (x : Option (Lab r rule tally)) → final (arrive r rule tally) (merge r rule tally) (firsts r rule tally) D ≡ x → valueO r rule tally x ≡ Some v → (w : List ℕ) × Path-from D 0 w × (cost r tally w ≡ v)
-        go None f g = let z : ◌≡◌ {A = ℕ} 0 1 = cc in absurd (omega arith)
+        go None f g = absurd cc
         go (Some l) f g =
             let y : l.value ≡ v = cc in
             let c = attain 0 0 (firsts r rule tally) D l (omega arith) s neat start f in (c.0, c.1, c.2 ∙ y)

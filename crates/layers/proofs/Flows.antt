@@ -1,6 +1,7 @@
 -- What flows along arcs, and what redirecting, tidying do to paths.
-use Rattle.std.proofs.Common.{◌≡◌, ℕ, zero, suc, ◌+◌, ◌-◌, ◌<◌, Bool, true, false, eqb, ◌⊎◌, List, [], ◌∷◌, ◌++◌, map, length, get_or, Some, None, fold, Option, sym, refl, ap, ◌∙◌, subst, inl, inr, le_of_suc-le-suc, not-suc-le-zero, arith}
+use Rattle.std.proofs.Common.{◌≡◌, ℕ, zero, suc, ◌+◌, ◌<◌, Bool, true, false, eqb, ◌⊎◌, List, [], ◌∷◌, ◌++◌, map, length, get_or, Some, None, fold, Option, refl, ap, ◌∙◌, inl, inr, le_of_suc-le-suc, not-suc-le-zero, arith}
 use Rattle.std.proofs.lemmas.Bool.{eqb-true, eq-eqb}
+use Rattle.std.proofs.lemmas.List.{get_or-map}
 use Rattle.layers.specs.Flow.{table, Outs, Layer, Net, node, target, width, Path-from, eachDoor, eachNode, redirect, put, insDoor, ins, gather, next, read, consO, outs, up, Mark, marksNext, marksUp, flags, rank, compress, renumber, tidy, tidied}
 
 -- membership, in lists of any kind
@@ -12,6 +13,10 @@ pub table_at : {A : Type 0} (n k : ℕ) (f : ℕ → A) (d : A) → k < n → ge
 table_at zero k f d h = absurd (not-suc-le-zero h)
 table_at (suc n) zero f d h = refl
 table_at (suc n) (suc k) f d h = table_at n k (λ m. f (suc m)) d (le_of_suc-le-suc h)
+
+pub table-long : {A : Type 0} (k : ℕ) (f : ℕ → A) → length (table k f) ≡ k
+table-long zero f = refl
+table-long (suc k) f = ap suc (table-long k (λ m. f (suc m)))
 
 -- ---- redirecting
 eachDoor-at : (f : ℕ → ℕ → ℕ) (j : ℕ) (ts : Outs) (k m b : ℕ) → j + k ≡ m → get_or ts k 0 ≡ suc b → get_or (eachDoor f j ts) k 0 ≡ f m b
@@ -60,7 +65,7 @@ among-right x (y ∷ l) m i = inr (among-right x l m i)
 module _ {A : Type 0} (arrive : A → ℕ → A) (merge : A → A → A) where
   put_in : (q : Bool) (x y : A) (r : List A) → q ≡ true → x ≡ y → Among x (put q y r)
   put_in true x y r e f = inl f
-  put_in false x y r e f = let z : ◌≡◌ {A = ℕ} 0 1 = cc in absurd (omega arith)
+  put_in false x y r e f = absurd cc
 
   put-tail : (q : Bool) (x y : A) (r : List A) → Among x r → Among x (put q y r)
   put-tail true x y r i = inr i
@@ -74,15 +79,15 @@ module _ {A : Type 0} (arrive : A → ℕ → A) (merge : A → A → A) where
 
   pub ins-in : (b : ℕ) (labs : List (Option A)) (L : Layer) (a j : ℕ) (l : A) → target (node L a) j ≡ suc b → get_or labs a None ≡ Some l → Among (arrive l j) (ins arrive b labs L)
   unfolding ins
-  ins-in b [] L a j l e g = let z : ◌≡◌ {A = ℕ} 0 1 = cc in absurd (omega arith)
+  ins-in b [] L a j l e g = absurd cc
   ins-in b (o ∷ labs) [] a zero l e g = absurd (omega arith)
   ins-in b (o ∷ labs) [] a (suc k) l e g = absurd (omega arith)
-  ins-in b (None ∷ labs) (nd ∷ L) zero j l e g = let z : ◌≡◌ {A = ℕ} 0 1 = cc in absurd (omega arith)
+  ins-in b (None ∷ labs) (nd ∷ L) zero j l e g = absurd cc
   ins-in b (None ∷ labs) (nd ∷ L) (suc a) j l e g = ins-in b labs L a j l e g
   ins-in b (Some l' ∷ labs) (nd ∷ L) zero zero l e g = absurd (omega arith)
   ins-in b (Some l' ∷ labs) (nd ∷ L) zero (suc k) l e g =
       let x : l' ≡ l = cc in
-      among-left (arrive l (suc k)) (insDoor arrive b l' 1 nd) (ins arrive b labs L) (subst (λ (z : A). Among (arrive z (suc k)) (insDoor arrive b l' 1 nd)) x (insDoor-in b l' 1 nd k (suc k) (omega arith) e))
+      among-left (arrive l (suc k)) (insDoor arrive b l' 1 nd) (ins arrive b labs L) (rw (← x) (insDoor-in b l' 1 nd k (suc k) (omega arith) e))
   ins-in b (Some l' ∷ labs) (nd ∷ L) (suc a) j l e g = among-right (arrive l j) (insDoor arrive b l' 1 nd) (ins arrive b labs L) (ins-in b labs L a j l e g)
 
 module _ {A : Type 0} (merge : A → A → A) (R : A → A → Type 0) (R-refl : (x : A) → R x x) (R-trans : (x y z : A) → R x y → R y z → R x z)
@@ -93,13 +98,13 @@ module _ {A : Type 0} (merge : A → A → A) (R : A → A → Type 0) (R-refl :
 
   fold-in : (z x : A) (xs : List A) → Among z xs → R z (fold merge x xs)
   fold-in z x [] i = absurd i
-  fold-in z x (y ∷ xs) (inl e) = R-trans z (merge x y) (fold merge (merge x y) xs) (subst (λ (t : A). R t (merge x y)) (sym e) (right x y)) (fold_start (merge x y) xs)
+  fold-in z x (y ∷ xs) (inl e) = R-trans z (merge x y) (fold merge (merge x y) xs) (rw e (right x y)) (fold_start (merge x y) xs)
   fold-in z x (y ∷ xs) (inr i) = fold-in z (merge x y) xs i
 
   pub gather-in : (z : A) (xs : List A) → Among z xs → (m : A) × (gather merge xs ≡ Some m) × R z m
   unfolding gather
   gather-in z [] i = absurd i
-  gather-in z (x ∷ xs) (inl e) = (fold merge x xs, refl, subst (λ (t : A). R t (fold merge x xs)) (sym e) (fold_start x xs))
+  gather-in z (x ∷ xs) (inl e) = (fold merge x xs, refl, rw e (fold_start x xs))
   gather-in z (x ∷ xs) (inr i) = (fold merge x xs, refl, fold-in z x xs i)
 
   -- what goes over an arc is below the label of its target
@@ -115,17 +120,12 @@ module _ {A : Type 0} (merge : A → A → A) (R : A → A → Type 0) (R-refl :
   outs-in climb us u j [] k m b h e g = absurd (omega arith)
   outs-in climb us u j (t ∷ ts) zero m b h e g =
       let x : read us t ≡ Some u = ap (read us) e ∙ g in let y : m ≡ j = omega arith in
-      subst (λ (o : Option A). Among (climb u m) (consO climb j o (outs climb us (suc j) ts))) (sym x) (inl (ap (climb u) y))
+      rw x (inl (ap (climb u) y))
   outs-in climb us u j (t ∷ ts) (suc k) m b h e g = more (read us t) (outs-in climb us u (suc j) ts k m b (omega arith) e g)
     where
       more : (o : Option A) → Among (climb u m) (outs climb us (suc j) ts) → Among (climb u m) (consO climb j o (outs climb us (suc j) ts))
       more None i = i
       more (Some l) i = inr i
-
-  map_at : (f : Outs → Option A) (L : Layer) (a : ℕ) → a < length L → get_or (map f L) a None ≡ f (node L a)
-  map_at f [] a h = absurd (not-suc-le-zero h)
-  map_at f (nd ∷ L) zero h = refl
-  map_at f (nd ∷ L) (suc a) h = map_at f L a (le_of_suc-le-suc h)
 
   pub up_at : (climb : A → ℕ → A) (top : A) (L : Layer) (Ls : Net) (a j b : ℕ) (u : A) → target (node L a) j ≡ suc b → get_or (up climb merge top Ls) b None ≡ Some u
       → (m : A) × (get_or (up climb merge top (L ∷ Ls)) a None ≡ Some m) × R (climb u j) m
@@ -134,7 +134,7 @@ module _ {A : Type 0} (merge : A → A → A) (R : A → A → Type 0) (R-refl :
   up_at climb top L Ls a (suc k) b u e g =
       let us = up climb merge top Ls in
       let q = gather-in (climb u (suc k)) (outs climb us 1 (node L a)) (outs-in climb us u 1 (node L a) k (suc k) b (omega arith) e g) in
-      (q.0, map_at (λ nd. gather merge (outs climb us 1 nd)) L a (has-arc L a (suc k) b e) ∙ q.1, q.2)
+      (q.0, get_or-map (λ nd. gather merge (outs climb us 1 nd)) L a [] None (has-arc L a (suc k) b e) ∙ q.1, q.2)
 
 -- ---- tidying
 pub mark-next : (fr : List (Option Mark)) (L : Layer) (count a j b : ℕ) → target (node L a) j ≡ suc b → get_or fr a None ≡ Some tt → b < count → get_or (marksNext fr L count) b None ≡ Some tt
@@ -152,21 +152,21 @@ mark-up (L ∷ Ls) a (j ∷ w) p =
 
 pub flags-at : (fr us : List (Option Mark)) (a : ℕ) → get_or fr a None ≡ Some tt → get_or us a None ≡ Some tt → get_or (flags fr us) a false ≡ true
 unfolding flags
-flags-at [] us a e f = let z : ◌≡◌ {A = ℕ} 0 1 = cc in absurd (omega arith)
-flags-at (x ∷ xs) [] a e f = let z : ◌≡◌ {A = ℕ} 0 1 = cc in absurd (omega arith)
+flags-at [] us a e f = absurd cc
+flags-at (x ∷ xs) [] a e f = absurd cc
 flags-at (x ∷ xs) (u ∷ us) zero e f = rw (e, f)
 flags-at (x ∷ xs) (u ∷ us) (suc a) e f = flags-at xs us a e f
 
 pub compress-at : (fs : List Bool) (L : Layer) (a : ℕ) → get_or fs a false ≡ true → node (compress fs L) (rank fs a) ≡ node L a
 unfolding compress rank
-compress-at [] L a e = let z : ◌≡◌ {A = ℕ} 0 1 = cc in absurd (omega arith)
+compress-at [] L a e = absurd cc
 compress-at (f ∷ fs) [] a e = refl
 compress-at (true ∷ fs) (x ∷ xs) zero e = refl
-compress-at (false ∷ fs) (x ∷ xs) zero e = let z : ◌≡◌ {A = ℕ} 0 1 = cc in absurd (omega arith)
+compress-at (false ∷ fs) (x ∷ xs) zero e = absurd cc
 compress-at (true ∷ fs) (x ∷ xs) (suc a) e = compress-at fs xs a e
 compress-at (false ∷ fs) (x ∷ xs) (suc a) e = compress-at fs xs a e
 
-rank-zero : (fs : List Bool) → rank fs 0 ≡ 0
+pub rank-zero : (fs : List Bool) → rank fs 0 ≡ 0
 unfolding rank
 rank-zero [] = refl
 rank-zero (true ∷ fs) = refl
@@ -189,8 +189,7 @@ tidy-from fr (L ∷ Ls) a (j ∷ w) g p =
     let here = flags-at fr (marksUp (L ∷ Ls)) a g (mark-up (L ∷ Ls) a (j ∷ w) p) in
     let there = flags-at fr' (marksUp Ls) b g' (mark-up Ls b w p.2) in (
       rank fs b,
-      ap (λ (nd : Outs). target nd j) (compress-at (flags fr (marksUp (L ∷ Ls))) (redirect (λ x y c. renumber fs c) L) a here)
-          ∙ redirect-arc (λ x y c. renumber fs c) L a j b p.1 ∙ renumber-at fs b there,
+      rw (compress-at (flags fr (marksUp (L ∷ Ls))) (redirect (λ x y c. renumber fs c) L) a here) (redirect-arc (λ x y c. renumber fs c) L a j b p.1 ∙ renumber-at fs b there),
       tidy-from fr' Ls b w g' p.2,
     )
 
@@ -255,7 +254,7 @@ module _ {A : Type 0} (arrive : A → ℕ → A) where
       go (inr h) f = let q = f h in record { source = suc q.source; door = q.door; label = q.label; arc = q.arc; labelled = q.labelled; is = q.is }
 
 pub table-some : {A : Type 0} (n k : ℕ) (f : ℕ → Option A) (x : A) → get_or (table n f) k None ≡ Some x → f k ≡ Some x
-table-some zero k f x e = let z : ◌≡◌ {A = ℕ} 0 1 = cc in absurd (omega arith)
+table-some zero k f x e = absurd cc
 table-some (suc n) zero f x e = e
 table-some (suc n) (suc k) f x e = table-some n k (λ m. f (suc m)) x e
 
@@ -268,15 +267,15 @@ next-some arrive merge labs L count b m e = table-some count b (λ c. gather mer
 pub gather-all : {A : Type 0} (merge : A → A → A) (P : A → Type 0) → ((x y : A) → P x → P y → P (merge x y))
     → (l : List A) (m : A) → ((x : A) → Among x l → P x) → gather merge l ≡ Some m → P m
 unfolding gather
-gather-all merge P keep [] m f e = let z : ◌≡◌ {A = ℕ} 0 1 = cc in absurd (omega arith)
-gather-all {A} merge P keep (x ∷ xs) m f e = let y : fold merge x xs ≡ m = cc in subst P y (go x xs (f x (inl refl)) (λ z i. f z (inr i)))
+gather-all merge P keep [] m f e = absurd cc
+gather-all {A} merge P keep (x ∷ xs) m f e = let y : fold merge x xs ≡ m = cc in rw (← y) (go x xs (f x (inl refl)) (λ z i. f z (inr i)))
   where
     go : (y : A) (ys : List A) → P y → ((z : A) → Among z ys → P z) → P (fold merge y ys)
     go y [] p g = p
     go y (z ∷ ys) p g = go (merge y z) ys (keep y z p (g z (inl refl))) (λ t i. g t (inr i))
 
 pub table-within : {A : Type 0} (n k : ℕ) (f : ℕ → Option A) (x : A) → get_or (table n f) k None ≡ Some x → k < n
-table-within zero k f x e = let z : ◌≡◌ {A = ℕ} 0 1 = cc in absurd (omega arith)
+table-within zero k f x e = absurd cc
 table-within (suc n) zero f x e = omega arith
 table-within (suc n) (suc k) f x e = let h = table-within n k (λ m. f (suc m)) x e in omega arith
 
@@ -287,5 +286,33 @@ next-within arrive merge labs L count b m e = table-within count b (λ c. gather
 
 pub gather-any : {A : Type 0} (merge : A → A → A) (l : List A) (m : A) → gather merge l ≡ Some m → (x : A) × Among x l
 unfolding gather
-gather-any merge [] m e = let z : ◌≡◌ {A = ℕ} 0 1 = cc in absurd (omega arith)
+gather-any merge [] m e = absurd cc
 gather-any merge (x ∷ l) m e = (x, inl refl)
+
+-- where a label from above comes from
+pub record Climbs {A : Type 0} (climb : A → ℕ → A) (us : List (Option A)) (j : ℕ) (ts : Outs) (x : A) : Type 0 where
+  pub skip : ℕ
+  pub to : ℕ
+  pub label : A
+  pub arc : get_or ts skip 0 ≡ suc to
+  pub labelled : get_or us to None ≡ Some label
+  pub is : x ≡ climb label (j + skip)
+
+pub outs-from : {A : Type 0} (climb : A → ℕ → A) (us : List (Option A)) (x : A) (j : ℕ) (ts : Outs) → Among x (outs climb us j ts) → Climbs climb us j ts x
+unfolding outs
+outs-from climb us x j [] i = absurd i
+outs-from {A} climb us x j (t ∷ ts) i = go t (read us t) refl i (λ h. outs-from climb us x (suc j) ts h)
+  where
+    later : (t : ℕ) → Climbs climb us (suc j) ts x → Climbs climb us j (t ∷ ts) x
+    later t c = record { skip = suc c.skip; to = c.to; label = c.label; arc = c.arc; labelled = c.labelled; is = c.is ∙ ap (climb c.label) (omega arith) }
+
+    go : (t : ℕ) (o : Option A) → read us t ≡ o → Among x (consO climb j o (outs climb us (suc j) ts)) → (Among x (outs climb us (suc j) ts) → Climbs climb us (suc j) ts x) → Climbs climb us j (t ∷ ts) x
+    go t None e i f = later t (f i)
+    go zero (Some u) e i f = absurd cc
+    go (suc b) (Some u) e (inl h) f = record { skip = 0; to = b; label = u; arc = refl; labelled = e; is = h ∙ ap (climb u) (omega arith) }
+    go (suc b) (Some u) e (inr h) f = later (suc b) (f h)
+
+pub map-some : {A : Type 0} (f : Outs → Option A) (L : Layer) (a : ℕ) (x : A) → get_or (map f L) a None ≡ Some x → f (node L a) ≡ Some x
+map-some f [] a x e = absurd cc
+map-some f (nd ∷ L) zero x e = e
+map-some f (nd ∷ L) (suc a) x e = map-some f L a x e

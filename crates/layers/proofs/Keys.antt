@@ -1,19 +1,18 @@
 -- A key for each node of the first layers, such that every arc leads from key to key: so the in-arcs there agree, whichever arcs go, and however nodes are renumbered or parted.
-use Rattle.std.proofs.Common.{◌≡◌, ℕ, zero, suc, ◌<◌, ◌≤◌, Bool, true, false, cond, ◌&&◌, eqb, List, [], ◌∷◌, ◌++◌, length, get_or, Some, None, Option, sym, refl, ap, ◌∙◌, subst, inl, inr, arith}
+use Rattle.std.proofs.Common.{◌≡◌, ℕ, zero, suc, ◌<◌, ◌≤◌, Bool, true, false, cond, ◌&&◌, eqb, List, [], ◌∷◌, ◌++◌, length, get_or, Some, None, Option, sym, refl, ap, ◌∙◌, inl, inr, arith}
 use lib.Bits.{bit_and, bit_or, and_self, or_self}
-use Rattle.std.proofs.lemmas.Bool.{eqb-true, eq-eqb, ne_eqb, and_parts}
+use Rattle.std.proofs.lemmas.Bool.{false≢true, eqb-true, eq-eqb, ne_eqb, and_parts}
 use Rattle.round.specs.declared.table.Round.{Round}
 use Rattle.round.specs.Clock.{finish}
 use Rattle.rules.specs.Rules.{RuleLaws, RuleSense}
 use Rattle.tallies.specs.Tallies.{TallySense}
-use Rattle.layers.specs.Flow.{Outs, Layer, Net, node, target, width, redirect, ins, Mark, marksNext, marksUp, flags, rank, compress, renumber, tidy, tidied, Tied}
+use Rattle.layers.specs.Flow.{Layer, Net, node, target, width, redirect, ins, Mark, marksNext, marksUp, flags, rank, compress, renumber, tidy, tidied, Tied}
 use Rattle.layers.specs.Labels.{one, leg, ups, Lab, first, firsts, arrive, merge, labelsNext, barred, agree, agreeAll, agreeing, headO, leaves}
 use Rattle.layers.proofs.Flows.{Among, has-arc, ins-from, next-some, gather-all, compress-at}
-use Rattle.layers.proofs.Ways.{clashing}
+use Rattle.layers.proofs.Ways.{length-snoc}
 use Rattle.layers.proofs.Model.{sweeps, sweep, part_at, agreed, agrees}
-use Rattle.layers.proofs.Shapes.{and_first}
 use Rattle.layers.proofs.Tied.{redirect-back, compress-back, renumber-back}
-use Rattle.layers.proofs.Ties.{more-back, length_more}
+use Rattle.layers.proofs.Ties.{more-back}
 
 -- ---- each arc of one diagram is an arc of another, where f and its like say which node a node was
 abbrev pub Sub : (ℕ → ℕ) → Net → Net → Type 0
@@ -34,9 +33,9 @@ unrank (false ∷ fs) c = suc (unrank fs c)
 
 unrank-rank : (fs : List Bool) (b : ℕ) → get_or fs b false ≡ true → unrank fs (rank fs b) ≡ b
 unfolding rank unrank
-unrank-rank [] b e = clashing (sym e)
+unrank-rank [] b e = absurd (false≢true e)
 unrank-rank (true ∷ fs) zero e = refl
-unrank-rank (false ∷ fs) zero e = clashing (sym e)
+unrank-rank (false ∷ fs) zero e = absurd (false≢true e)
 unrank-rank (true ∷ fs) (suc b) e = ap suc (unrank-rank fs b e)
 unrank-rank (false ∷ fs) (suc b) e = ap suc (unrank-rank fs b e)
 
@@ -51,7 +50,7 @@ was-node : (gs : List Bool) (X : Layer) (c j b : ℕ) → target (node (compress
 was-node gs X c j b e =
     let q = compress-back gs X c (has-arc (compress gs X) c j b e) in
     let z : unrank gs c ≡ q.0 = ap (unrank gs) (sym q.2) ∙ unrank-rank gs q.0 q.1 in
-    ap (λ (x : ℕ). target (node X x) j) z ∙ ap (λ (nd : Outs). target nd j) (sym (compress-at gs X q.0 q.1)) ∙ ap (λ (x : ℕ). target (node (compress gs X) x) j) q.2 ∙ e
+    rw (z, ← (compress-at gs X q.0 q.1), q.2) e
 
 sub-tidy : (fr : List (Option Mark)) (Ls : Net) → Sub (unrank (flags fr (marksUp Ls))) (tidy fr Ls) Ls
 unfolding tidy
@@ -117,7 +116,7 @@ module _ {S V : Type 0} (r : Round) (rule : RuleSense S) (tally : TallySense V) 
       before : (u j c : ℕ) → target (node (redirect f L) u) j ≡ suc c → target (node L u) j ≡ suc (g c)
       before u j c e =
           let s = redirect-back f L u j c e in
-          s.1 ∙ ap suc (go (eqb s.0 a && leaves r rule tally h (get_or labs u None) j) refl s.0 (t.0 u j s.0 s.1) (λ q. eqb-true s.0 a (and_first (eqb s.0 a) (leaves r rule tally h (get_or labs u None) j) q)) s.2)
+          s.1 ∙ ap suc (go (eqb s.0 a && leaves r rule tally h (get_or labs u None) j) refl s.0 (t.0 u j s.0 s.1) (λ q. eqb-true s.0 a (and_parts (eqb s.0 a) (leaves r rule tally h (get_or labs u None) j) q).0) s.2)
         where
           go : (q : Bool) {p : Bool} → p ≡ q → (b : ℕ) → b < length M → (p ≡ true → b ≡ a) → cond q (suc (length M)) (suc b) ≡ suc c → b ≡ g c
           go true w b k n e = let z : length M ≡ c = omega arith in n w ∙ sym g-new ∙ ap g z
@@ -125,9 +124,9 @@ module _ {S V : Type 0} (r : Round) (rule : RuleSense S) (tally : TallySense V) 
 
       behind : (c j b : ℕ) → target (node (M ++ (node M a ∷ [])) c) j ≡ suc b → target (node M (g c)) j ≡ suc b
       behind c j b e =
-          elim (more-back M (node M a) c (let z = has-arc (M ++ (node M a ∷ [])) c j b e in omega (arith, length_more M (node M a)))) [
-            | inl q ↦ ap (λ (x : ℕ). target (node M x) j) (g-old c q.0) ∙ ap (λ (nd : Outs). target nd j) (sym q.1) ∙ e
-            | inr q ↦ ap (λ (x : ℕ). target (node M x) j) (ap g q.0 ∙ g-new) ∙ ap (λ (nd : Outs). target nd j) (sym q.1) ∙ e
+          elim (more-back M (node M a) c (let z = has-arc (M ++ (node M a ∷ [])) c j b e in omega (arith, length-snoc M (node M a)))) [
+            | inl q ↦ rw ((g-old c q.0), ← q.1) e
+            | inr q ↦ rw ((ap g q.0 ∙ g-new), ← q.1) e
           ]
   sub_part (suc d) a labs (L ∷ Ls) t = (λ b. b, λ x j b e. e, sub_part d a (labelsNext r rule tally labs L (width Ls)) Ls (tied-tail L Ls t))
 
@@ -177,7 +176,7 @@ module _ {S V : Type 0} {Keeps : List ℕ → Type 0} {Stands : S → List ℕ �
   agree-arrive x y j p = record {
     all = ap (λ (t : ℕ). bit_or t (one j)) p.all;
     some = ap (λ (t : ℕ). bit_or t (one j)) p.some;
-    finish = ap (λ (t : ℕ). finish r t (leg r x.lasts j) j) p.finish ∙ ap (λ (t : ℕ). finish r y.finish (leg r t j) j) p.lasts;
+    finish = rw p.finish (ap (λ (t : ℕ). finish r y.finish (leg r t j) j) p.lasts);
     lasts = refl;
     state = ap (λ (t : S). rule.step t j) p.state;
   }
@@ -186,7 +185,7 @@ module _ {S V : Type 0} {Keeps : List ℕ → Type 0} {Stands : S → List ℕ �
   all_yes : (x : Lab r rule tally) (l : List (Lab r rule tally)) → agreeAll r rule tally x l ≡ true → (y : Lab r rule tally) → Among y l → Agree x y
   unfolding agreeAll
   all_yes x [] e y i = absurd i
-  all_yes x (z ∷ l) e y (inl f) = subst (Agree x) (sym f) (agree-yes x z (and_parts (agree r rule tally x z) (agreeAll r rule tally x l) e).0)
+  all_yes x (z ∷ l) e y (inl f) = rw f (agree-yes x z (and_parts (agree r rule tally x z) (agreeAll r rule tally x l) e).0)
   all_yes x (z ∷ l) e y (inr i) = all_yes x l (and_parts (agree r rule tally x z) (agreeAll r rule tally x l) e).1 y i
 
   yes-all : (x : Lab r rule tally) (l : List (Lab r rule tally)) → ((y : Lab r rule tally) → Among y l → Agree x y) → agreeAll r rule tally x l ≡ true
@@ -200,7 +199,7 @@ module _ {S V : Type 0} {Keeps : List ℕ → Type 0} {Stands : S → List ℕ �
   pairs (x ∷ l) e y z i k = agree-back x y z (one_of y i) (one_of z k)
     where
       one_of : (t : Lab r rule tally) → Among t (x ∷ l) → Agree x t
-      one_of t (inl f) = subst (Agree x) (sym f) (agree-self x)
+      one_of t (inl f) = rw f (agree-self x)
       one_of t (inr m) = all_yes x l e t m
 
   pub by-pairs : (l : List (Lab r rule tally)) → ((y z : Lab r rule tally) → Among y l → Among z l → Agree y z) → agreeing r rule tally l ≡ true
@@ -242,8 +241,8 @@ module _ {S V : Type 0} {Keeps : List ℕ → Type 0} {Stands : S → List ℕ �
   Fit labs K = (a : ℕ) (l : Lab r rule tally) → get_or labs a None ≡ Some l → Agree (K a) l
 
   pub fit-first : Fit (firsts r rule tally) (λ a. first r rule tally)
-  fit-first zero l e = let z : first r rule tally ≡ l = cc in subst (Agree (first r rule tally)) z (agree-self (first r rule tally))
-  fit-first (suc a) l e = let z : ◌≡◌ {A = ℕ} 0 1 = cc in absurd (omega arith)
+  fit-first zero l e = let z : first r rule tally ≡ l = cc in rw (← z) (agree-self (first r rule tally))
+  fit-first (suc a) l e = absurd cc
 
   module _ (labs : List (Option (Lab r rule tally))) (K K' : ℕ → Lab r rule tally) (fit : Fit labs K) (L : Layer) (on : (a j b : ℕ) → target (node L a) j ≡ suc b → Agree (arrive r rule tally (K a) j) (K' b)) where
     -- so does each arrival
@@ -251,7 +250,7 @@ module _ {S V : Type 0} {Keeps : List ℕ → Type 0} {Stands : S → List ℕ �
     arrival-fits b x i =
         let f = ins-from (arrive r rule tally) b labs L x i in
         let p = agree-arrive (K f.source) f.label f.door (fit f.source f.label f.labelled) in
-        subst (Agree (K' b)) (sym f.is) (agree-back (arrive r rule tally (K f.source) f.door) (K' b) (arrive r rule tally f.label f.door) (on f.source f.door b f.arc) p)
+        rw f.is (agree-back (arrive r rule tally (K f.source) f.door) (K' b) (arrive r rule tally f.label f.door) (on f.source f.door b f.arc) p)
 
     pub fit_next : (count : ℕ) → Fit (labelsNext r rule tally labs L count) K'
     unfolding labelsNext

@@ -1,4 +1,3 @@
-pub mod Alike
 pub mod Bridge
 pub mod Calls
 pub mod Counts

@@ -1,18 +1,16 @@
 -- After every list of calls each node lies on a path, and no layer has more than W nodes.
-use Rattle.std.proofs.Common.{◌≡◌, ℕ, zero, suc, ◌-◌, ◌<◌, ◌≤◌, Bool, true, false, List, [], ◌∷◌, length, get_or, set, Some, None, Option, ap, le_of_suc-le-suc, not-suc-le-zero, arith, length-set}
+use Rattle.std.proofs.Common.{◌≡◌, ℕ, zero, suc, ◌<◌, ◌≤◌, Bool, true, false, List, [], ◌∷◌, length, get_or, set, Some, None, Option, ap, le_of_suc-le-suc, not-suc-le-zero, arith, length-set}
 use Rattle.round.specs.declared.table.Round.{Round}
-use Rattle.rules.specs.Rules.{RuleLaws, RuleSense}
+use Rattle.rules.specs.Rules.{RuleSense}
 use Rattle.tallies.specs.Tallies.{TallySense}
 use Rattle.layers.specs.declared.node.Up.{Up}
 use Rattle.layers.specs.Flow.{table, Layer, Net, node, width, Path-from, redirect, up, Mark, marksNext, marksUp, flags, compress, renumber, tidy, tidied, moved, bothOut, joinAt, Led, Tied, Roomy}
-use Rattle.layers.specs.Labels.{Lab, firsts, arrive, merge, labelsNext, climb, mergeUp, noUp, ups, opened, allDoors}
-use Rattle.layers.specs.Calls.{Call}
+use Rattle.layers.specs.Labels.{Lab, arrive, merge, labelsNext, climb, mergeUp, noUp, ups, allDoors}
+use Rattle.layers.proofs.Ways.{length-snoc}
 use Rattle.layers.proofs.Flows.{next-at, up_at, has-arc}
-use Rattle.layers.proofs.Model.{sweeps, sweep, cuts, cut, part_at, after}
-use Rattle.layers.proofs.Calls.{safe-after}
-use Rattle.layers.proofs.Exact.{any-cut}
-use Rattle.layers.proofs.Tied.{redirect-length, tidied-tied}
-use Rattle.layers.proofs.Ties.{opened-tied, part-tied, join_tied, length_more, drop-length}
+use Rattle.layers.proofs.Model.{sweeps, cuts, part_at}
+use Rattle.layers.proofs.Tied.{redirect-length}
+use Rattle.layers.proofs.Ties.{drop-length}
 
 compress-short : (fs : List Bool) (L : Layer) (m : ℕ) → length L ≤ m → length (compress fs L) ≤ m
 unfolding compress
@@ -64,7 +62,7 @@ module _ {S V : Type 0} (r : Round) (rule : RuleSense S) (tally : TallySense V) 
   roomy-part zero a labs [] k h = h
   roomy-part (suc d) a labs [] k h = h
   roomy-part zero a labs (L ∷ []) k h = h
-  roomy-part zero a labs (L ∷ M ∷ Ls) k h = (simp redirect-length h.0, (omega (arith, length_more M (node M a)), h.1.1))
+  roomy-part zero a labs (L ∷ M ∷ Ls) k h = (simp redirect-length h.0, (omega (arith, length-snoc M (node M a)), h.1.1))
   roomy-part (suc d) a labs (L ∷ Ls) k h = (h.0, roomy-part d a (labelsNext r rule tally labs L (width Ls)) Ls k h.1)
 
   pub roomy-open : (k : ℕ) → Roomy W (table k (λ i. allDoors r rule tally ∷ []))

@@ -1,18 +1,16 @@
 -- The claim: first on the arcs, then on the records that a run leaves.
-use Rattle.std.proofs.Common.{◌≡◌, ℕ, ◌+◌, ◌*◌, ◌≤◌, Bool, true, false, ◌&&◌, eqb, List, [], ◌∷◌, ◌++◌, drop, Some, None, Option, sym, ap, ◌∙◌, subst, inl, inr, arith}
-use Rattle.std.proofs.lemmas.Bool.{both_ways, not-true, not-false}
+use Rattle.std.proofs.Common.{◌≡◌, ℕ, ◌+◌, ◌*◌, ◌≤◌, Bool, true, false, List, [], ◌∷◌, ◌++◌, drop, Some, None, Option, sym, ap, ◌∙◌, subst, inl, inr, arith}
+use Rattle.std.proofs.lemmas.Bool.{true≢false, both_ways, not-true, not-false}
 use Rattle.round.specs.declared.table.Round.{Round}
 use Rattle.rules.specs.Rules.{RuleLaws, RuleSense}
 use Rattle.tallies.specs.Tallies.{TallyLaws, TallySense}
 use Rattle.orders.specs.Allowed.{Allowed}
-use Rattle.orders.specs.Costs.{cost}
 use Rattle.layers.specs.declared.node.Node.{Node}
 use Rattle.layers.specs.Flow.{Net, Path-from, seeks}
 use Rattle.layers.specs.Labels.{opened}
 use Rattle.layers.specs.Records.{laid}
-use Rattle.layers.specs.Calls.{Call, nodes, arcs, relaid, agreedAll, sweepAnswer, bound, must, settled}
-use Rattle.layers.specs.Claim.{IsPath, Must-means, Nothing-lost, Nothing-false, Sure, Kept, Worked-out, Settled-means}
-use Rattle.layers.proofs.Ways.{clashing}
+use Rattle.layers.specs.Calls.{Call, arcs, relaid, bound, must, settled}
+use Rattle.layers.specs.Claim.{IsPath, Must-means, Nothing-lost, Nothing-false, Kept, Worked-out, Settled-means}
 use Rattle.layers.proofs.Model.{after, bound as boundOf, must as mustOf, settled as settled_of}
 use Rattle.layers.proofs.Calls.{still, bound-below}
 use Rattle.layers.proofs.Seeks.{seen, sought, all_there, one-ahead}
@@ -48,13 +46,13 @@ module _ {S V : Type 0} {Keeps : List ℕ → Type 0} {Stands : S → List ℕ �
   none-lost = record {
     still = λ w o. on-path w (still r rule ruled tally tallied W w o.0 cs o.1).1;
     low = λ w v o e. let s = still r rule ruled tally tallied W w o.0 cs o.1 in let b = bound-below r rule ruled tally tallied w D o.0 s.0 s.1 in let e' = of-bound (Some v) e in
-        let x : b.0 ≡ v = cc (b.1, e') in subst (λ (z : V). tally.notAbove z (cost r tally w) ≡ true) x b.2;
+        let x : b.0 ≡ v = cc (b.1, e') in rw (← x) b.2;
     low-none = λ e w o. let s = still r rule ruled tally tallied W w o.0 cs o.1 in let b = bound-below r rule ruled tally tallied w D o.0 s.0 s.1 in let e' = of-bound None e in
         let z : ◌≡◌ {A = ℕ} 0 1 = cc (b.1, e') in omega arith;
     must-yes = λ i j di dj ne e w o. let s = still r rule ruled tally tallied W w o.0 cs o.1 in
         elim (one-ahead i j w ne (all_there r.n w o.0.whole o.0.part i di) (all_there r.n w o.0.whole o.0.part j dj)) [
           | inl h ↦ h
-          | inr h ↦ clashing (sym (seen D j i w s.1 h) ∙ not-true (seeks D 0 (j ∷ i ∷ [])) (of-must i j true e))
+          | inr h ↦ absurd (true≢false (sym (seen D j i w s.1 h) ∙ not-true (seeks D 0 (j ∷ i ∷ [])) (of-must i j true e)))
         ];
   }
 
@@ -67,7 +65,7 @@ module _ {S V : Type 0} {Keeps : List ℕ → Type 0} {Stands : S → List ℕ �
       record {
         allowed = λ w q. ok w (off-path w q);
         least = λ v e. let b = bound-attained r rule ruled tally tallied D v sh.1 sh.0 s' (of-bound (Some v) e) in (b.0, on-path b.0 b.1, b.2);
-        least-of = λ v e w q. let b = bound-below r rule ruled tally tallied w D (ok w (off-path w q)) sh.0 (off-path w q) in let e' = of-bound (Some v) e in let x : b.0 ≡ v = cc (b.1, e') in subst (λ (z : V). tally.notAbove z (cost r tally w) ≡ true) x b.2;
+        least-of = λ v e w q. let b = bound-below r rule ruled tally tallied w D (ok w (off-path w q)) sh.0 (off-path w q) in let e' = of-bound (Some v) e in let x : b.0 ≡ v = cc (b.1, e') in rw (← x) b.2;
         least-none = λ e w q. let b = bound-below r rule ruled tally tallied w D (ok w (off-path w q)) sh.0 (off-path w q) in let e' = of-bound None e in let z : ◌≡◌ {A = ℕ} 0 1 = cc (b.1, e') in omega arith;
         must-no = λ i j e. let b = sought D j i (not-false (seeks D 0 (j ∷ i ∷ [])) (of-must i j false e)) in (b.0, on-path b.0 b.1, b.2);
       }
@@ -76,8 +74,7 @@ pub kept : {S V : Type 0} {Keeps : List ℕ → Type 0} {Stands : S → List ℕ
     → ((n : ℕ) → A n → RuleLaws n rule Keeps Stands) → ((n : ℕ) → B n → TallyLaws n tally Allows) → Kept A rule Keeps B tally
 kept {Keeps} A B rule tally ruled tallied r e f W a b lent cs =
     let x = ruled r.n e in let y = tallied r.n f in let l = drop (r.n * W + 1) lent in
-    subst (Sure r rule Keeps tally W cs) (sym (run-opened r rule x.same_self tally W a lent cs))
-    (record { nothing-lost = none-lost r rule x tally y W a l cs; nothing_false = none-false r rule x tally y W a l cs })
+    rw (run-opened r rule x.same_self tally W a lent cs) (record { nothing-lost = none-lost r rule x tally y W a l cs; nothing_false = none-false r rule x tally y W a l cs })
 
 pub worked-out : {S V : Type 0} {Keeps : List ℕ → Type 0} {Stands : S → List ℕ → Type 0} (A : ℕ → Type 0) (rule : RuleSense S) (tally : TallySense V) → ((n : ℕ) → A n → RuleLaws n rule Keeps Stands) → Worked-out A rule tally
 unfolding relaid
@@ -92,7 +89,7 @@ settled-means {S} {V} A rule tally ruled r e W a b lent cs =
     let x = ruled r.n e in let l = drop (r.n * W + 1) lent in
     let D = after r rule tally W cs (opened r rule tally) in
     let p = proper-after r rule x.same_self tally W a cs (opened r rule tally) (proper-opened r rule tally W a) in
-    subst (λ (xs : List (Node S V)). settled r rule tally W xs ≡ (agreedAll r rule tally (nodes r.n W xs) && eqb (sweepAnswer r rule tally W xs) 0)) (sym (run-opened r rule x.same_self tally W a lent cs)) (settled-means-X r rule x.same_self tally W a l D p)
+    rw (run-opened r rule x.same_self tally W a lent cs) (settled-means-X r rule x.same_self tally W a l D p)
 
 pub must-means : {S V : Type 0} (n W i j : ℕ) (xs : List (Node S V)) → Must-means n W i j xs (must n W i j xs)
 unfolding must

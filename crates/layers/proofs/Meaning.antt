@@ -5,12 +5,11 @@ use Rattle.round.specs.declared.table.Round.{Round}
 use Rattle.rules.specs.Rules.{RuleLaws, RuleSense}
 use Rattle.tallies.specs.Tallies.{TallyLaws, TallySense}
 use Rattle.layers.specs.declared.node.Node.{Node}
-use Rattle.layers.specs.declared.node.Up.{Up}
 use Rattle.layers.specs.Flow.{Net, width, Path-from, up, Tied}
 use Rattle.layers.specs.Labels.{Lab, firsts, labelsNext, noUp, ups, opened}
 use Rattle.layers.specs.Records.{standing, padded, orNoUp, orBlank, place}
 use Rattle.layers.specs.Calls.{arcs, layer}
-use Rattle.layers.specs.LabelLaws.{Leads-to, On-every, On-one, Exactly, Labelled, Labels-mean}
+use Rattle.layers.specs.LabelLaws.{Leads-to, Labelled, Labels-mean}
 use Rattle.layers.proofs.Flows.{table_at}
 use Rattle.layers.proofs.Model.{after}
 use Rattle.layers.proofs.Walk.{Neat, Good}
@@ -60,7 +59,7 @@ module _ {S V : Type 0} {Keeps : List ℕ → Type 0} {Stands : S → List ℕ �
       let k : a < length L = omega (arith, table-long (length L) F) in
       let x = f.0.filled.there a k in
       let e = table_at (length L) a F other k in
-      record { inner = k; label = x.0; labelled = x.1; down = ap (λ (y : Node S V). y.label.down) e ∙ ap (orBlank r rule tally) x.1; up = ap (λ (y : Node S V). y.label.up) e }
+      record { inner = k; label = x.0; labelled = x.1; down = rw e (ap (orBlank r rule tally) x.1); up = ap (λ (y : Node S V). y.label.up) e }
 
   -- the same in layer d
   full_at : (d : ℕ) (labs : Labs r rule tally W w1) (Ls : Net) → d ≤ length Ls → Full r rule tally W w1 labs Ls → Full r rule tally W w1 (labsAt r rule tally W w1 d labs Ls) (drop d Ls)
@@ -80,18 +79,18 @@ module _ {S V : Type 0} {Keeps : List ℕ → Type 0} {Stands : S → List ℕ �
     labelled later D p neat i a x h s =
         let o = owed-at r rule ruled tally W w1 D i h a s.label s.labelled in
         let t : (w : List ℕ) → Leads-to D i a w → Tells s.label.all s.label.some w =
-        λ w q. let y = tells_at r rule ruled tally W w1 D p.tied i h a w q in let e : y.0 ≡ s.label = cc (y.1, s.labelled) in subst (λ (z : Lab r rule tally). Tells z.all z.some w) e y.2 in
+        λ w q. let y = tells_at r rule ruled tally W w1 D p.tied i h a w q in let e : y.0 ≡ s.label = cc (y.1, s.labelled) in rw (← e) y.2 in
         let g : Allows i s.label.value × (s.label.finish ≤ latest i) = unfold Good in good-at r rule ruled tally W w1 D tallied (omega (arith, p.deep, r.most)) neat i h a s.label s.labelled in
         let u = up-exact (drop i D) a in
         record {
           reached = o.way;
           leads = λ lo. leads-at D i a p.tied lo h s.inner;
-          all = subst (λ (l : Lab r rule tally). Exactly l.all (On-every (Leads-to D i a))) (sym s.down) (all-exact s.label.all s.label.some (Leads-to D i a) o t);
-          some = subst (λ (l : Lab r rule tally). Exactly l.some (On-one (Leads-to D i a))) (sym s.down) (some-exact s.label.all s.label.some (Leads-to D i a) o t);
-          allup = subst (λ (y : Up). Exactly y.allup (On-every (Path-from (drop i D) a))) (sym s.up) u.0;
-          someup = subst (λ (y : Up). Exactly y.someup (On-one (Path-from (drop i D) a))) (sym s.up) u.1;
-          finish = subst (λ (l : Lab r rule tally). l.finish ≤ latest i) (sym s.down) g.1;
-          value = subst (λ (l : Lab r rule tally). Allows i l.value) (sym s.down) g.0;
+          all = rw s.down (all-exact s.label.all s.label.some (Leads-to D i a) o t);
+          some = rw s.down (some-exact s.label.all s.label.some (Leads-to D i a) o t);
+          allup = rw s.up u.0;
+          someup = rw s.up u.1;
+          finish = rw s.down g.1;
+          value = rw s.down g.0;
         }
 
     -- on the records
@@ -104,9 +103,8 @@ module _ {S V : Type 0} {Keeps : List ℕ → Type 0} {Stands : S → List ℕ �
         let e : layer r.n W i Y ≡ top r rule tally W w1 labs (drop i D) =
         ap (λ (N : List (List (Node S V))). get_or N i []) (nodes-X r rule ruled.same_self tally W w1 later D p) ∙ stood-top i (firsts r rule tally) D h' in
         let f = full_at i (firsts r rule tally) D h' (full r rule ruled.same_self tally W w1 later D p) in
-        let s = top-at labs (drop i D) a other f (subst (λ (N : List (Node S V)). a < length N) e k) in
-        subst (λ (A : Net). Labelled Allows A i a (get_or (layer r.n W i Y) a other)) (sym (arcs-X r rule ruled.same_self tally W w1 later D p))
-        (subst (λ (N : List (Node S V)). Labelled Allows D i a (get_or N a other)) (sym e) (labelled later D p neat i a (get_or (top r rule tally W w1 labs (drop i D)) a other) h' s))
+        let s = top-at labs (drop i D) a other f (rw (← e) k) in
+        rw ((arcs-X r rule ruled.same_self tally W w1 later D p), e) (labelled later D p neat i a (get_or (top r rule tally W w1 labs (drop i D)) a other) h' s)
 
 pub labels-mean : {S V : Type 0} {Keeps : List ℕ → Type 0} {Stands : S → List ℕ → Type 0} {Allows : ℕ → V → Type 0} (A B : ℕ → Type 0) (rule : RuleSense S) (tally : TallySense V)
     → ((n : ℕ) → A n → RuleLaws n rule Keeps Stands) → ((n : ℕ) → B n → TallyLaws n tally Allows) → Labels-mean A rule B tally Allows
@@ -114,5 +112,4 @@ labels-mean {S} {V} {Allows} A B rule tally ruled tallied r e f W lo hi lent cs 
     let x = ruled r.n e in let y = tallied r.n f in let l = drop (r.n * W + 1) lent in
     let D = after r rule tally W cs (opened r rule tally) in
     let p = proper-after r rule x.same_self tally W lo cs (opened r rule tally) (proper-opened r rule tally W lo) in
-    subst (λ (xs : List (Node S V)). (i a : ℕ) (other : Node S V) → i ≤ r.n → a < length (layer r.n W i xs) → Labelled Allows (arcs r.n W xs) i a (get_or (layer r.n W i xs) a other))
-    (sym (run-opened r rule x.same_self tally W lo lent cs)) (labelled-X r rule x tally W lo y l D p (shape-after r rule tally W cs).0)
+    rw (run-opened r rule x.same_self tally W lo lent cs) (labelled-X r rule x tally W lo y l D p (shape-after r rule tally W cs).0)

@@ -1,5 +1,5 @@
 -- The sets in the labels are exact, and finishes and values in bounds: along the arcs, downward and upward.
-use Rattle.std.proofs.Common.{◌≡◌, ℕ, zero, suc, ◌+◌, ◌<◌, ◌≤◌, true, ◌⊎◌, List, [], ◌∷◌, ◌++◌, length, get_or, drop, Some, None, Option, sym, refl, ap, ◌∙◌, subst, inl, inr, le_of_suc-le-suc, not-suc-le-zero, arith}
+use Rattle.std.proofs.Common.{◌≡◌, ℕ, zero, suc, ◌<◌, ◌≤◌, true, ◌⊎◌, List, [], ◌∷◌, ◌++◌, length, get_or, drop, Some, None, Option, sym, refl, ap, ◌∙◌, subst, inl, inr, le_of_suc-le-suc, not-suc-le-zero, arith}
 use lib.Bits.{bit_and, bit_or}
 use Rattle.std.proofs.lemmas.Bool.{cases_eq}
 use Rattle.doors.proofs.Sets.{digit_and, has-true, true-has}
@@ -9,13 +9,14 @@ use Rattle.round.specs.declared.table.Round.{Round}
 use Rattle.rules.specs.Rules.{RuleLaws, RuleSense}
 use Rattle.tallies.specs.Tallies.{TallyLaws, TallySense}
 use Rattle.layers.specs.declared.node.Up.{Up}
-use Rattle.layers.specs.Flow.{Outs, Layer, Net, node, target, width, Path-from, ins, gather, read, consO, outs, up, Ranged, Tied}
+use Rattle.layers.specs.Flow.{Layer, Net, node, target, width, Path-from, ins, gather, outs, up, Ranged, Tied}
 use Rattle.layers.specs.Labels.{one, climb, mergeUp, noUp, ups, Lab, first, arrive, merge, firsts, labelsNext}
 use Rattle.layers.specs.Records.{orNoUp}
 use Rattle.layers.specs.LabelLaws.{Path-to, Leads-to, On-every, On-one, Exactly}
-use Rattle.layers.proofs.Flows.{Among, From, ins-from, next-some, next-at, gather-all}
+use Rattle.doors.proofs.Orders.{in_left}
+use Rattle.layers.proofs.Flows.{Climbs, outs-from, map-some, From, ins-from, next-some, next-at, gather-all}
 use Rattle.layers.proofs.Sets.{or_left, or_right, or_split, and_left, and_right, one-self, one_only, none_has}
-use Rattle.layers.proofs.Ways.{in_split, in-fst, in-snd, length-snoc}
+use Rattle.layers.proofs.Ways.{in_split, in-snd, length-snoc}
 use Rattle.layers.proofs.Walk.{NeatLayer, Neat, path-up, Good, good-first, good-next}
 use Rattle.layers.proofs.Bridge.{Labs, labsAt}
 
@@ -59,7 +60,7 @@ at_front k = record { here = λ w. inl refl; stays = λ j w i. inr i; only = λ 
 at_back : (k : ℕ) → Longer k (λ w. w ++ (k ∷ []))
 at_back k = record {
   here = λ w. in-snd k w (k ∷ []) (inl refl);
-  stays = λ j w i. in-fst j w (k ∷ []) i;
+  stays = λ j w i. in_left w (k ∷ []) j i;
   only = λ j w i. elim (in_split j w (k ∷ []) i) [ inl x ↦ inr x | inr x ↦ elim x [ inl e ↦ inl e | inr y ↦ absurd y ] ];
 }
 
@@ -67,19 +68,19 @@ owed-step : (a s k : ℕ) (P Q : List ℕ → Type 0) (more : List ℕ → List 
 owed-step a s k P Q more l to o = record {
   way = (more o.way.0, to o.way.0 o.way.1);
   all-if = λ j f. elim (cases_eq j k) [
-    | inl e ↦ or_right a (one k) j (subst (λ (z : ℕ). has (one k) z ≡ true) (sym e) (one-self k))
+    | inl e ↦ or_right a (one k) j (rw e (one-self k))
     | inr n ↦ or_left a (one k) j (o.all-if j (λ w p. elim (l.only j w (f (more w) (to w p))) [ inl e ↦ absurd (n e) | inr h ↦ h ]))
   ];
   some-from = λ j h. elim (or_split s (one k) j h) [
     | inl x ↦ let q = o.some-from j x in (more q.0, to q.0 q.1, l.stays j q.0 q.2)
-    | inr x ↦ (more o.way.0, to o.way.0 o.way.1, subst (λ (z : ℕ). In z (more o.way.0)) (sym (one_only k j x)) (l.here o.way.0))
+    | inr x ↦ (more o.way.0, to o.way.0 o.way.1, rw (one_only k j x) (l.here o.way.0))
   ];
 }
 
 tells-step : (a s k : ℕ) (more : List ℕ → List ℕ) (w : List ℕ) → Longer k more → Tells a s w → Tells (bit_or a (one k)) (bit_or s (one k)) (more w)
 tells-step a s k more w l t = record {
-  all_in = λ j h. elim (or_split a (one k) j h) [ inl x ↦ l.stays j w (t.all_in j x) | inr x ↦ subst (λ (z : ℕ). In z (more w)) (sym (one_only k j x)) (l.here w) ];
-  in_some = λ j i. elim (l.only j w i) [ inl e ↦ or_right s (one k) j (subst (λ (z : ℕ). has (one k) z ≡ true) (sym e) (one-self k)) | inr x ↦ or_left s (one k) j (t.in_some j x) ];
+  all_in = λ j h. elim (or_split a (one k) j h) [ inl x ↦ l.stays j w (t.all_in j x) | inr x ↦ rw (one_only k j x) (l.here w) ];
+  in_some = λ j i. elim (l.only j w i) [ inl e ↦ or_right s (one k) j (rw e (one-self k)) | inr x ↦ or_left s (one k) j (t.in_some j x) ];
 }
 
 -- ---- paths to a node
@@ -87,7 +88,7 @@ path-push : (D : Net) (x a k b : ℕ) (p : List ℕ) → Path-to D x p a → tar
 path-push [] x a zero b [] q e = absurd (omega arith)
 path-push [] x a (suc k) b [] q e = absurd (omega arith)
 path-push [] x a k b (j ∷ p) q e = absurd q
-path-push (L ∷ Ls) x a k b [] q e = (b, ap (λ (z : ℕ). target (node L z) k) q ∙ e, refl)
+path-push (L ∷ Ls) x a k b [] q e = (b, rw q e, refl)
 path-push (L ∷ Ls) x a k b (j ∷ p) q e = (q.0, q.1, path-push Ls q.0 a k b p q.2 e)
 
 -- the last arc of a path
@@ -138,9 +139,8 @@ module _ {S V : Type 0} {Keeps : List ℕ → Type 0} {Stands : S → List ℕ �
     unfolding labelsNext arrive merge
     owed-at zero h zero l e =
         let x : first r rule tally ≡ l = cc in
-        subst (λ (y : Lab r rule tally). Owed y.all y.some (Leads-to D 0 0)) x
-        (record { way = ([], (refl, refl)); all-if = λ j f. absurd (f [] (refl, refl)); some-from = λ j g. absurd (none_has j g) })
-    owed-at zero h (suc a) l e = let z : ◌≡◌ {A = ℕ} 0 1 = cc in absurd (omega arith)
+        rw (← x) (record { way = ([], (refl, refl)); all-if = λ j f. absurd (f [] (refl, refl)); some-from = λ j g. absurd (none_has j g) })
+    owed-at zero h (suc a) l e = absurd cc
     owed-at (suc d) h b m e =
         let L = get_or D d [] in
         let n = width (drop (suc d) D) in
@@ -153,9 +153,8 @@ module _ {S V : Type 0} {Keeps : List ℕ → Type 0} {Stands : S → List ℕ �
       where
         each : (x : Lab r rule tally) (f : From (arrive r rule tally) b (At d D) (get_or D d []) x) → Owed f.label.all f.label.some (Leads-to D d f.source) → Owed x.all x.some (Leads-to D (suc d) b)
         each x f o =
-            subst (λ (y : Lab r rule tally). Owed y.all y.some (Leads-to D (suc d) b)) (sym f.is)
-            (owed-step f.label.all f.label.some f.door (Leads-to D d f.source) (Leads-to D (suc d) b) (λ w. w ++ (f.door ∷ [])) (at_back f.door)
-            (λ w q. (path-push D 0 f.source f.door b w q.0 (subst (λ (k : ℕ). target (node (get_or D k []) f.source) f.door ≡ suc b) (sym q.1) f.arc), length-snoc w f.door ∙ ap suc q.1))
+            rw f.is (owed-step f.label.all f.label.some f.door (Leads-to D d f.source) (Leads-to D (suc d) b) (λ w. w ++ (f.door ∷ [])) (at_back f.door)
+            (λ w q. (path-push D 0 f.source f.door b w q.0 (rw q.1 f.arc), length-snoc w f.door ∙ ap suc q.1))
             o)
 
     -- a path to a node is told by its label
@@ -173,7 +172,7 @@ module _ {S V : Type 0} {Keeps : List ℕ → Type 0} {Stands : S → List ℕ �
         (λ x y w f. record { all_in = λ j h. f.all_in j (and_right x.all y.all j h); in_some = λ j i. or_right x.some y.some j (f.in_some j i) })
         (arrive r rule tally) (At d D) L n s.source s.door b x.0 s.arc x.1 (ranged-at D d t h s.source s.door b s.arc) in (
           y.0,
-          ap (λ (z : Labs r rule tally W w1). get_or z b None) (labs-step d (firsts r rule tally) D h) ∙ y.1,
+          rw (labs-step d (firsts r rule tally) D h) y.1,
           y.2 w (subst (Tells (bit_or x.0.all (one s.door)) (bit_or x.0.some (one s.door))) (sym s.is) (tells-step x.0.all x.0.some s.door (λ w. w ++ (s.door ∷ [])) s.before (at_back s.door) x.2)),
         )
 
@@ -181,62 +180,36 @@ module _ {S V : Type 0} {Keeps : List ℕ → Type 0} {Stands : S → List ℕ �
     pub good-at : {Allows : ℕ → V → Type 0} (tallied : TallyLaws r.n tally Allows) → length D ≤ 16 → Neat r.n D → (d : ℕ) → d ≤ length D → Good r rule ruled tally tallied d (At d D)
     good-at tallied k s zero h = good-first r rule ruled tally tallied
     good-at tallied k s (suc d) h =
-        subst (Good r rule ruled tally tallied (suc d)) (sym (labs-step d (firsts r rule tally) D h))
-        (good-next r rule ruled tally tallied d (At d D) (get_or D d []) (width (drop (suc d) D)) (omega arith) (good-at tallied k s d (omega arith)) (neat-at r.n D d s h))
+        rw (labs-step d (firsts r rule tally) D h) (good-next r rule ruled tally tallied d (At d D) (get_or D d []) (width (drop (suc d) D)) (omega arith) (good-at tallied k s d (omega arith)) (neat-at r.n D d s h))
 
 -- ---- upward
-record Climbs (us : List (Option Up)) (j : ℕ) (ts : Outs) (x : Up) : Type 0 where
-  skip : ℕ
-  to : ℕ
-  label : Up
-  arc : get_or ts skip 0 ≡ suc to
-  labelled : get_or us to None ≡ Some label
-  is : x ≡ climb label (j + skip)
-
-outs-from : (us : List (Option Up)) (x : Up) (j : ℕ) (ts : Outs) → Among x (outs climb us j ts) → Climbs us j ts x
-unfolding outs
-outs-from us x j [] i = absurd i
-outs-from us x j (t ∷ ts) i = go t (read us t) refl i (λ h. outs-from us x (suc j) ts h)
-  where
-    later : (t : ℕ) → Climbs us (suc j) ts x → Climbs us j (t ∷ ts) x
-    later t c = record { skip = suc c.skip; to = c.to; label = c.label; arc = c.arc; labelled = c.labelled; is = c.is ∙ ap (climb c.label) (omega arith) }
-
-    go : (t : ℕ) (o : Option Up) → read us t ≡ o → Among x (consO climb j o (outs climb us (suc j) ts)) → (Among x (outs climb us (suc j) ts) → Climbs us (suc j) ts x) → Climbs us j (t ∷ ts) x
-    go t None e i f = later t (f i)
-    go zero (Some u) e i f = let z : ◌≡◌ {A = ℕ} 0 1 = cc in absurd (omega arith)
-    go (suc b) (Some u) e (inl h) f = record { skip = 0; to = b; label = u; arc = refl; labelled = e; is = h ∙ ap (climb u) (omega arith) }
-    go (suc b) (Some u) e (inr h) f = later (suc b) (f h)
-
 ups-node : (L : Layer) (Ls : Net) (a : ℕ) (u : Up) → get_or (ups (L ∷ Ls)) a None ≡ Some u → gather mergeUp (outs climb (ups Ls) 1 (node L a)) ≡ Some u
 unfolding ups up
-ups-node [] Ls a u e = let z : ◌≡◌ {A = ℕ} 0 1 = cc in absurd (omega arith)
-ups-node (nd ∷ L) Ls zero u e = e
-ups-node (nd ∷ L) Ls (suc a) u e = ups-node L Ls a u e
+ups-node L Ls a u e = map-some (λ nd. gather mergeUp (outs climb (ups Ls) 1 nd)) L a u e
 
 owed-up : (Ls : Net) (a : ℕ) (u : Up) → get_or (ups Ls) a None ≡ Some u → Owed u.allup u.someup (Path-from Ls a)
 owed-up [] zero u e =
     let x : noUp ≡ u = unfold ups up in cc in
-    subst (λ (y : Up). Owed y.allup y.someup (Path-from [] 0)) x (record { way = ([], refl); all-if = λ j f. absurd (f [] refl); some-from = λ j g. absurd (none_has j g) })
-owed-up [] (suc a) u e = let z : ◌≡◌ {A = ℕ} 0 1 = unfold ups up in cc in absurd (omega arith)
+    rw (← x) (record { way = ([], refl); all-if = λ j f. absurd (f [] refl); some-from = λ j g. absurd (none_has j g) })
+owed-up [] (suc a) u e = absurd (unfold ups up in cc)
 owed-up (L ∷ Ls) a u e =
     gather-all mergeUp (λ x. Owed x.allup x.someup (Path-from (L ∷ Ls) a))
     (λ x y p q. owed-merge x.allup x.someup y.allup y.someup (Path-from (L ∷ Ls) a) p q)
     (outs climb (ups Ls) 1 (node L a)) u
-    (λ x i. let c = outs-from (ups Ls) x 1 (node L a) i in each x c (owed-up Ls c.to c.label c.labelled))
+    (λ x i. let c = outs-from climb (ups Ls) x 1 (node L a) i in each x c (owed-up Ls c.to c.label c.labelled))
     (ups-node L Ls a u e)
   where
-    each : (x : Up) (c : Climbs (ups Ls) 1 (node L a) x) → Owed c.label.allup c.label.someup (Path-from Ls c.to) → Owed x.allup x.someup (Path-from (L ∷ Ls) a)
+    each : (x : Up) (c : Climbs climb (ups Ls) 1 (node L a) x) → Owed c.label.allup c.label.someup (Path-from Ls c.to) → Owed x.allup x.someup (Path-from (L ∷ Ls) a)
     each x c o =
         let k = suc c.skip in
         let is : x ≡ climb c.label k = c.is ∙ ap (climb c.label) (omega arith) in
-        subst (λ (y : Up). Owed y.allup y.someup (Path-from (L ∷ Ls) a)) (sym is)
-        (owed-step c.label.allup c.label.someup k (Path-from Ls c.to) (Path-from (L ∷ Ls) a) (λ w. k ∷ w) (at_front k) (λ w q. (c.to, c.arc, q)) o)
+        rw is (owed-step c.label.allup c.label.someup k (Path-from Ls c.to) (Path-from (L ∷ Ls) a) (λ w. k ∷ w) (at_front k) (λ w q. (c.to, c.arc, q)) o)
 
 tells-up : (Ls : Net) (a : ℕ) (u : Up) → get_or (ups Ls) a None ≡ Some u → (w : List ℕ) → Path-from Ls a w → Tells u.allup u.someup w
 tells-up Ls a u e w p =
     let q = path-up Ls a w p in
     let x : q.0 ≡ u = cc q.1 in
-    subst (λ (y : Up). Tells y.allup y.someup w) x (record { all_in = q.2.all; in_some = q.2.some })
+    rw (← x) (record { all_in = q.2.all; in_some = q.2.some })
 
 -- the sets of a node, also of one from which no path leads to the end
 pub up-exact : (Ls : Net) (a : ℕ) → let u = orNoUp (get_or (ups Ls) a None) in Exactly u.allup (On-every (Path-from Ls a)) × Exactly u.someup (On-one (Path-from Ls a))

@@ -1,5 +1,5 @@
 -- The calls on arcs alone, with the labels worked out on the way. A device of the proofs: in a run with one rule and one tally the calls on records come to the same.
-use Rattle.std.proofs.Common.{ℕ, zero, suc, ◌+◌, ◌-◌, min, max, Bool, true, false, cond, not, ◌&&◌, ◌||◌, eqb, ltb, leb, List, [], ◌∷◌, ◌++◌, length, get_or, Some, None, Option}
+use Rattle.std.proofs.Common.{ℕ, zero, suc, ◌-◌, min, max, Bool, true, false, cond, not, ◌&&◌, ◌||◌, eqb, ltb, leb, List, [], ◌∷◌, ◌++◌, length, get_or, Some, None, Option}
 use lib.Count.{ones}
 use Rattle.round.specs.declared.table.Round.{Round}
 use Rattle.rules.specs.Rules.{RuleSense}

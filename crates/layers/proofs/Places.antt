@@ -1,39 +1,26 @@
 -- Where the nodes of a layer stand in the flat list.
-use Rattle.std.proofs.Common.{◌≡◌, ℕ, zero, suc, ◌+◌, ◌*◌, ◌<◌, Bool, true, false, cond, not, eqb, List, [], ◌∷◌, length, get_or, take, drop, Some, None, sym, refl, ap, ◌∙◌, le_of_suc-le-suc, not-suc-le-zero, suc-mul, zero-mul, arith}
+use Rattle.std.proofs.Common.{◌≡◌, ℕ, zero, suc, ◌*◌, ◌<◌, Bool, true, false, cond, not, eqb, List, [], ◌∷◌, length, get_or, take, drop, Some, None, sym, refl, ap, ◌∙◌, le_of_suc-le-suc, not-suc-le-zero, suc-mul, zero-mul, arith}
 use Rattle.std.proofs.lemmas.Bool.{eq-eqb, ne_eqb}
+use Rattle.std.proofs.lemmas.List.{drop-drop, drop_more}
 use Rattle.layers.specs.declared.node.Node.{Node}
 use Rattle.layers.specs.Records.{standing, layers}
 use Rattle.layers.specs.Calls.{bound, valueIn}
-
-drop-plus : {A : Type 0} (k m p : ℕ) (xs : List A) → k + m ≡ p → drop m (drop k xs) ≡ drop p xs
-drop-plus zero m p xs e = ap (λ (q : ℕ). drop q xs) (omega arith)
-drop-plus (suc k) zero zero [] e = refl
-drop-plus (suc k) zero (suc p) [] e = refl
-drop-plus (suc k) (suc m) zero [] e = refl
-drop-plus (suc k) (suc m) (suc p) [] e = refl
-drop-plus (suc k) m zero (x ∷ xs) e = absurd (omega arith)
-drop-plus (suc k) m (suc p) (x ∷ xs) e = drop-plus k m p xs (omega arith)
 
 module _ {S V : Type 0} (W : ℕ) where
   pub layer-at : (n i : ℕ) (xs : List (Node S V)) → i < n → get_or (layers W n xs) i [] ≡ standing (take W (drop (i * W) xs))
   layer-at zero i xs h = absurd (not-suc-le-zero h)
   layer-at (suc n) zero xs h = ap (λ (q : ℕ). standing (take W (drop q xs))) (sym (zero-mul W))
-  layer-at (suc n) (suc i) xs h = layer-at n i (drop W xs) (le_of_suc-le-suc h) ∙ ap (λ (z : List (Node S V)). standing (take W z)) (drop-plus W (i * W) (suc i * W) xs (omega (arith, suc-mul i W)))
+  layer-at (suc n) (suc i) xs h = layer-at n i (drop W xs) (le_of_suc-le-suc h) ∙ ap (λ (z : List (Node S V)). standing (take W z)) (drop-drop (i * W) W xs ∙ ap (λ (q : ℕ). drop q xs) (omega (arith, suc-mul i W)))
 
   pub end-at : (n : ℕ) (xs : List (Node S V)) → get_or (layers W n xs) n [] ≡ standing (take 1 (drop (n * W) xs))
   end-at zero xs = ap (λ (q : ℕ). standing (take 1 (drop q xs))) (sym (zero-mul W))
-  end-at (suc n) xs = end-at n (drop W xs) ∙ ap (λ (z : List (Node S V)). standing (take 1 z)) (drop-plus W (n * W) (suc n * W) xs (omega (arith, suc-mul n W)))
-
-first_of : {A : Type 0} (k : ℕ) (xs : List A) (d : A) → k < length xs → take 1 (drop k xs) ≡ get_or xs k d ∷ []
-first_of k [] d h = absurd (not-suc-le-zero h)
-first_of zero (x ∷ xs) d h = refl
-first_of (suc k) (x ∷ xs) d h = first_of k xs d (le_of_suc-le-suc h)
+  end-at (suc n) xs = end-at n (drop W xs) ∙ ap (λ (z : List (Node S V)). standing (take 1 z)) (drop-drop (n * W) W xs ∙ ap (λ (q : ℕ). drop q xs) (omega (arith, suc-mul n W)))
 
 -- the bound is read at the end's place
 pub bound_at : {S V : Type 0} (n W : ℕ) (xs : List (Node S V)) (d : Node S V) → n * W < length xs
     → bound n W xs ≡ cond (eqb (get_or xs (n * W) d).label.down.lasts 0) None (Some (get_or xs (n * W) d).label.down.value)
 unfolding bound
-bound_at n W xs d h = ap valueIn (end-at W n xs ∙ ap standing (first_of (n * W) xs d h)) ∙ go (eqb (get_or xs (n * W) d).label.down.lasts 0)
+bound_at {S} {V} n W xs d h = ap valueIn (end-at W n xs ∙ ap (λ (ys : List (Node S V)). standing (take 1 ys)) (drop_more xs (n * W) d h)) ∙ go (eqb (get_or xs (n * W) d).label.down.lasts 0)
   where
     go : (q : Bool) → valueIn (cond (not q) (get_or xs (n * W) d ∷ []) []) ≡ cond q None (Some (get_or xs (n * W) d).label.down.value)
     go true = refl

@@ -1,21 +1,22 @@
 -- What every diagram is, after every list of calls; and so the calls on records are the calls on arcs.
-use Rattle.std.proofs.Common.{◌≡◌, ℕ, zero, suc, ◌-◌, ◌<◌, ◌≤◌, Bool, true, false, List, [], ◌∷◌, length, get_or, set, Some, Option, refl, ap, ◌∙◌, inl, inr, arith}
+use Rattle.std.proofs.Common.{◌≡◌, ℕ, zero, suc, ◌<◌, ◌≤◌, Bool, true, false, List, [], ◌∷◌, length, get_or, set, Some, Option, refl, ap, ◌∙◌, inl, inr, arith}
 use Rattle.round.specs.declared.table.Round.{Round}
 use Rattle.rules.specs.Rules.{RuleSense}
 use Rattle.tallies.specs.Tallies.{TallySense}
 use Rattle.layers.specs.Flow.{table, Outs, Layer, Net, node, width, eachNode, redirect, ins, Mark, marksNext, marksUp, flags, compress, renumber, tidy, tidied, dropAt, moved, bothOut, clash, joinAt, Tied, Roomy, Lawful}
 use Rattle.layers.specs.Labels.{Lab, firsts, arrive, labelsNext, agreeing, opened, allDoors}
 use Rattle.layers.specs.Calls.{Call, partedAt}
+use Rattle.layers.proofs.Ways.{length-snoc}
 use Rattle.layers.proofs.Flows.{Among, among-split}
 use Rattle.layers.proofs.Model.{oneGroup, parted, refines, sweeps, sweep, cuts, cut, part_at, after}
 use Rattle.layers.proofs.Walk.{node-among}
 use Rattle.layers.proofs.Shapes.{eachDoor-length}
 use Rattle.layers.proofs.Calls.{safe-after, safe-parted, safe-refines}
-use Rattle.layers.proofs.Exact.{any-cut, tidied-length, join-length, part_length, sweeps-length, cuts-length, table-length}
+use Rattle.layers.proofs.Exact.{any-cut, tidied-length, join-length, part_length, sweeps-length, cuts-length}
 use Rattle.layers.proofs.Tied.{redirect-length, tidied-tied}
-use Rattle.layers.proofs.Ties.{opened-tied, part-tied, parted-tied, join_tied, length_more}
+use Rattle.layers.proofs.Ties.{opened-tied, part-tied, parted-tied, join_tied}
 use Rattle.layers.proofs.Lively.{roomy-tidied, roomy-join, roomy-sweeps, roomy-cuts, roomy-part, roomy-open}
-use Rattle.layers.proofs.Bridge.{Even}
+use Rattle.layers.proofs.Bridge.{Even, table-long}
 
 abbrev pub EvenLayer : ℕ → Layer → Type 0
 EvenLayer n L = (nd : Outs) → Among nd L → length nd ≡ n
@@ -32,7 +33,7 @@ module _ (n : ℕ) where
   even-each : (f : ℕ → ℕ → ℕ → ℕ) (c : ℕ) (L : Layer) → EvenLayer n L → EvenLayer n (eachNode f c L)
   unfolding eachNode
   even-each f c [] h nd i = absurd i
-  even-each f c (x ∷ L) h nd (inl e) = ap (λ (y : Outs). length y) e ∙ eachDoor-length (f c) 1 x ∙ h x (inl refl)
+  even-each f c (x ∷ L) h nd (inl e) = rw e (eachDoor-length (f c) 1 x ∙ h x (inl refl))
   even-each f c (x ∷ L) h nd (inr i) = even-each f (suc c) L (λ y k. h y (inr k)) nd i
 
   pub even-redirect : (f : ℕ → ℕ → ℕ → ℕ) (L : Layer) → EvenLayer n L → EvenLayer n (redirect f L)
@@ -49,7 +50,7 @@ module _ (n : ℕ) where
 
   even-set : (L : Layer) (i : ℕ) (v : Outs) → length v ≡ n → EvenLayer n L → EvenLayer n (set L i v)
   even-set [] i v g h nd k = absurd k
-  even-set (x ∷ L) zero v g h nd (inl e) = ap (λ (y : Outs). length y) e ∙ g
+  even-set (x ∷ L) zero v g h nd (inl e) = rw e g
   even-set (x ∷ L) zero v g h nd (inr k) = h nd (inr k)
   even-set (x ∷ L) (suc i) v g h nd (inl e) = h nd (inl e)
   even-set (x ∷ L) (suc i) v g h nd (inr k) = even-set L i v g (λ y m. h y (inr m)) nd k
@@ -138,7 +139,7 @@ module _ {S V : Type 0} (r : Round) (rule : RuleSense S) (tally : TallySense V) 
   even-part zero a labs (L ∷ M ∷ Ls) k h = (
     (
       even-redirect r.n _ L h.0,
-      ((λ nd i. elim (among-split nd M (node M a ∷ []) i) [ inl x ↦ h.1.0 nd x | inr x ↦ elim x [ inl e ↦ ap (λ (y : Outs). length y) e ∙ h.1.0 (node M a) (node-among M a k) | inr y ↦ absurd y ] ]), h.1.1),
+      ((λ nd i. elim (among-split nd M (node M a ∷ []) i) [ inl x ↦ h.1.0 nd x | inr x ↦ elim x [ inl e ↦ rw e (h.1.0 (node M a) (node-among M a k)) | inr y ↦ absurd y ] ]), h.1.1),
     ),
     simp redirect-length,
   )
@@ -146,7 +147,7 @@ module _ {S V : Type 0} (r : Round) (rule : RuleSense S) (tally : TallySense V) 
 
   pub proper-opened : Proper r.n W (opened r rule tally)
   proper-opened = record {
-    deep = unfold opened in table-length r rule tally r.n (λ i. allDoors r rule tally ∷ []);
+    deep = unfold opened in table-long r.n (λ i. allDoors r rule tally ∷ []);
     one-first = unfold opened in wide r.n;
     even = unfold opened in evens r.n;
     roomy = unfold opened in roomy-open r rule tally W w r.n;
@@ -159,7 +160,7 @@ module _ {S V : Type 0} (r : Round) (rule : RuleSense S) (tally : TallySense V) 
 
       evens : (k : ℕ) → EvenIn r.n (table k (λ i. allDoors r rule tally ∷ []))
       evens zero = tt
-      evens (suc k) = (λ nd i. elim i [ inl e ↦ ap (λ (y : Outs). length y) e ∙ table-length r rule tally r.n (λ m. 1) | inr x ↦ absurd x ], evens k)
+      evens (suc k) = (λ nd i. elim i [ inl e ↦ rw e (table-long r.n (λ m. 1)) | inr x ↦ absurd x ], evens k)
 
   pub proper-tidied : (Ls : Net) → length Ls ≡ r.n → width Ls ≡ 1 → EvenIn r.n Ls → Roomy W Ls → Proper r.n W (tidied Ls)
   proper-tidied Ls a b c d = record { deep = tidied-length Ls ∙ a; one-first = first-tidied Ls ∙ b; even = even-tidied r.n Ls c; roomy = roomy-tidied W Ls d; tied = tidied-tied Ls }
@@ -187,7 +188,7 @@ module _ {S V : Type 0} (r : Round) (rule : RuleSense S) (tally : TallySense V) 
   parted-even zero a labs (L ∷ M ∷ Ls) k h = (
     (
       even-redirect r.n _ L h.0,
-      ((λ nd i. elim (among-split nd M (node M a ∷ []) i) [ inl x ↦ h.1.0 nd x | inr x ↦ elim x [ inl e ↦ ap (λ (y : Outs). length y) e ∙ h.1.0 (node M a) (node-among M a k) | inr y ↦ absurd y ] ]), h.1.1),
+      ((λ nd i. elim (among-split nd M (node M a ∷ []) i) [ inl x ↦ h.1.0 nd x | inr x ↦ elim x [ inl e ↦ rw e (h.1.0 (node M a) (node-among M a k)) | inr y ↦ absurd y ] ]), h.1.1),
     ),
     simp redirect-length,
   )
@@ -198,7 +199,7 @@ module _ {S V : Type 0} (r : Round) (rule : RuleSense S) (tally : TallySense V) 
   parted-roomy zero a labs [] k h = h
   parted-roomy (suc d) a labs [] k h = h
   parted-roomy zero a labs (L ∷ []) k h = h
-  parted-roomy zero a labs (L ∷ M ∷ Ls) k h = (simp redirect-length h.0, (omega (arith, length_more M (node M a)), h.1.1))
+  parted-roomy zero a labs (L ∷ M ∷ Ls) k h = (simp redirect-length h.0, (omega (arith, length-snoc M (node M a)), h.1.1))
   parted-roomy (suc d) a labs (L ∷ Ls) k h = (h.0, parted-roomy d a labs Ls k h.1)
 
   parted-length : (d a : ℕ) (labs : List (Option (Lab r rule tally))) (Ls : Net) → length (partedAt r rule tally d a labs Ls) ≡ length Ls

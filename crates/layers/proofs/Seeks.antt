@@ -1,11 +1,10 @@
 -- Must: paths that have one door ahead of another.
-use Rattle.std.proofs.Common.{◌≡◌, ℕ, zero, suc, ◌+◌, ◌-◌, Bool, true, false, cond, eqb, ◌⊎◌, List, [], ◌∷◌, length, get_or, fold, sym, refl, ap, ◌∙◌, subst, inl, inr, arith}
-use Rattle.std.proofs.lemmas.Bool.{eqb-true, eqb-false, eq-eqb, and_parts, or_cases, or_left, or_right}
+use Rattle.std.proofs.Common.{◌≡◌, ℕ, zero, suc, ◌+◌, Bool, true, false, cond, eqb, ◌⊎◌, List, [], ◌∷◌, length, get_or, fold, sym, refl, ap, ◌∙◌, subst, inl, inr, arith}
+use Rattle.std.proofs.lemmas.Bool.{false≢true, eqb-true, eqb-false, eq-eqb, and_parts, or_cases, or_left, or_right}
 use Rattle.doors.proofs.Sets.{part_length}
 use Rattle.doors.specs.Orders.{In, Door, PartOrder}
 use Rattle.layers.specs.Flow.{Outs, Net, node, Path-from, hit, isNil, anyDoor, seeks}
 use Rattle.layers.specs.Claim.{Ahead}
-use Rattle.layers.proofs.Ways.{clashing}
 
 any-in : (f : ℕ → ℕ → Bool) (j : ℕ) (ts : Outs) (k m b : ℕ) → j + k ≡ m → get_or ts k 0 ≡ suc b → f m b ≡ true → anyDoor f j ts ≡ true
 unfolding anyDoor
@@ -17,7 +16,7 @@ any-in f j (suc c ∷ ts) (suc k) m b h e t = or_right (f j c) (anyDoor f (suc j
 
 any-from : (f : ℕ → ℕ → Bool) (j : ℕ) (ts : Outs) → anyDoor f j ts ≡ true → (k : ℕ) × (b : ℕ) × (get_or ts k 0 ≡ suc b) × (f (j + k) b ≡ true)
 unfolding anyDoor
-any-from f j [] e = clashing (sym e)
+any-from f j [] e = absurd (false≢true e)
 any-from f j (zero ∷ ts) e = let q = any-from f (suc j) ts e in (suc q.0, q.1, q.2, ap (λ (x : ℕ). f x q.1) (omega arith) ∙ q.3)
 any-from f j (suc c ∷ ts) e = go (or_cases (f j c) (anyDoor f (suc j) ts) e) (λ h. any-from f (suc j) ts h)
   where
@@ -28,7 +27,7 @@ any-from f j (suc c ∷ ts) e = go (or_cases (f j c) (anyDoor f (suc j) ts) e) (
 
 nil_is : (gs : List ℕ) → isNil gs ≡ true → gs ≡ []
 nil_is [] e = refl
-nil_is (g ∷ gs) e = clashing (sym e)
+nil_is (g ∷ gs) e = absurd (false≢true e)
 
 seeks-in : (Ls : Net) (a : ℕ) (gs w : List ℕ) → Path-from Ls a w → fold hit gs w ≡ [] → seeks Ls a gs ≡ true
 unfolding seeks
@@ -54,7 +53,7 @@ hits-nil (k ∷ w) = hits-nil w
 
 hits-one : (i : ℕ) (w : List ℕ) → In i w → fold hit (i ∷ []) w ≡ []
 hits-one i [] h = absurd h
-hits-one i (k ∷ w) (inl e) = ap (λ (q : Bool). fold hit (cond q [] (i ∷ [])) w) (eq-eqb i k e) ∙ hits-nil w
+hits-one i (k ∷ w) (inl e) = rw (eq-eqb i k e) (hits-nil w)
 hits-one i (k ∷ w) (inr h) = go (eqb i k) (hits-one i w h)
   where
     go : (q : Bool) → fold hit (i ∷ []) w ≡ [] → fold hit (cond q [] (i ∷ [])) w ≡ []
@@ -62,7 +61,7 @@ hits-one i (k ∷ w) (inr h) = go (eqb i k) (hits-one i w h)
     go false e = e
 
 one-hits : (i : ℕ) (w : List ℕ) → fold hit (i ∷ []) w ≡ [] → In i w
-one-hits i [] e = let z : ◌≡◌ {A = ℕ} 0 1 = cc in absurd (omega arith)
+one-hits i [] e = absurd cc
 one-hits i (k ∷ w) e = go (eqb i k) refl e (λ h. one-hits i w h)
   where
     go : (q : Bool) → eqb i k ≡ q → fold hit (cond q [] (i ∷ [])) w ≡ [] → (fold hit (i ∷ []) w ≡ [] → In i w) → In i (k ∷ w)
@@ -76,7 +75,7 @@ ahead_in j i (k ∷ w) (inr h) = inr (ahead_in j i w h)
 
 hits-two : (j i : ℕ) (w : List ℕ) → Ahead j i w → fold hit (j ∷ i ∷ []) w ≡ []
 hits-two j i [] h = absurd h
-hits-two j i (k ∷ w) (inl h) = ap (λ (q : Bool). fold hit (cond q (i ∷ []) (j ∷ i ∷ [])) w) (eq-eqb j k h.0) ∙ hits-one i w h.1
+hits-two j i (k ∷ w) (inl h) = rw (eq-eqb j k h.0) (hits-one i w h.1)
 hits-two j i (k ∷ w) (inr h) = go (eqb j k) (hits-two j i w h)
   where
     go : (q : Bool) → fold hit (j ∷ i ∷ []) w ≡ [] → fold hit (cond q (i ∷ []) (j ∷ i ∷ [])) w ≡ []
@@ -84,7 +83,7 @@ hits-two j i (k ∷ w) (inr h) = go (eqb j k) (hits-two j i w h)
     go false e = e
 
 two-hits : (j i : ℕ) (w : List ℕ) → fold hit (j ∷ i ∷ []) w ≡ [] → Ahead j i w
-two-hits j i [] e = let z : ◌≡◌ {A = ℕ} 0 1 = cc in absurd (omega arith)
+two-hits j i [] e = absurd cc
 two-hits j i (k ∷ w) e = go (eqb j k) refl e (λ h. two-hits j i w h)
   where
     go : (q : Bool) → eqb j k ≡ q → fold hit (cond q (i ∷ []) (j ∷ i ∷ [])) w ≡ [] → (fold hit (j ∷ i ∷ []) w ≡ [] → Ahead j i w) → Ahead j i (k ∷ w)

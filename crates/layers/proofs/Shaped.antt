@@ -1,21 +1,20 @@
 -- Records that have the shape of a diagram have arcs that a diagram may have, and arcs that are laid out anew have that shape.
-use Rattle.std.proofs.Common.{◌≡◌, ℕ, zero, suc, ◌+◌, ◌-◌, ◌*◌, ◌<◌, ◌≤◌, min, Bool, true, false, cond, List, [], ◌∷◌, ◌++◌, map, length, get_or, take, drop, Some, None, Option, sym, refl, ap, ◌∙◌, subst, ap₂, inl, inr, ⊎_elim, suc-mul, suc-add, zero-add, zero-mul, arith}
+use Rattle.std.proofs.Common.{◌≡◌, ℕ, zero, suc, ◌+◌, ◌-◌, ◌*◌, ◌<◌, ◌≤◌, Bool, true, false, cond, List, [], ◌∷◌, ◌++◌, map, length, get_or, take, drop, Some, None, Option, sym, refl, ap, ◌∙◌, inl, inr, ⊎_elim, suc-mul, suc-add, zero-add, arith}
 use lib.ListN.{length-map}
 use Rattle.std.proofs.lemmas.List.{length-take, length-take-le}
 use Rattle.std.proofs.lemmas.Bool.{cases_lt}
 use Rattle.round.specs.declared.table.Round.{Round}
 use Rattle.rules.specs.Rules.{RuleSense}
 use Rattle.tallies.specs.Tallies.{TallySense}
-use Rattle.layers.specs.declared.node.Arcs.{Arcs}
 use Rattle.layers.specs.declared.node.Node.{Node}
-use Rattle.layers.specs.Flow.{table, Outs, Layer, Net, node, target, width, redirect, countDoors, countLayer, up, tidied, Ranged, Tied, Roomy}
+use Rattle.layers.specs.Flow.{table, Outs, Layer, Net, node, target, width, redirect, countDoors, countLayer, tidied, Ranged, Tied, Roomy}
 use Rattle.layers.specs.declared.node.Up.{Up}
-use Rattle.layers.specs.Labels.{Lab, firsts, labelsNext, noUp, ups, barred, dear}
-use Rattle.layers.specs.Records.{used, standing, layers, arcsIn, downsIn, upsIn, drawn, padded, arcsAt, laidArcs, arcsRead, place}
-use Rattle.layers.specs.Calls.{nodes, arcs, layer, thinned, trimmed, relaid}
-use Rattle.layers.specs.Shape.{targetsOf, Written, Tidy, OneFirst, Ended, Shaped}
+use Rattle.layers.specs.Labels.{Lab, firsts, labelsNext, noUp, barred, dear}
+use Rattle.layers.specs.Records.{used, standing, layers, arcsIn, downsIn, upsIn, drawn, arcsAt, laidArcs, arcsRead, place}
+use Rattle.layers.specs.Calls.{arcs, layer, thinned, trimmed, relaid}
+use Rattle.layers.specs.Shape.{targetsOf, Ended, Shaped}
 use Rattle.layers.proofs.Flows.{Among}
-use Rattle.layers.proofs.Bridge.{Full, top, stood, table-long}
+use Rattle.layers.proofs.Bridge.{ups-end, Full, top, stood, table-long}
 use Rattle.layers.proofs.Counts.{tidied-same}
 use Rattle.layers.proofs.Tied.{tidied-tied, redirect-back, redirect-length}
 use Rattle.layers.proofs.Places.{end-at}
@@ -49,10 +48,10 @@ take-among (suc m) (suc k) (y ∷ xs) x h (inl e) = inl e
 take-among (suc m) (suc k) (y ∷ xs) x h (inr i) = inr (take-among m k xs x (omega arith) i)
 
 drop-among : {A : Type 0} (w m : ℕ) (xs : List A) (x : A) → Among x (take m (drop w xs)) → Among x (take (w + m) xs)
-drop-among zero m xs x i = subst (λ (k : ℕ). Among x (take k xs)) (sym (zero-add m)) i
+drop-among zero m xs x i = rw (zero-add m) i
 drop-among (suc w) zero [] x i = absurd i
 drop-among (suc w) (suc m) [] x i = absurd i
-drop-among (suc w) m (y ∷ xs) x i = subst (λ (k : ℕ). Among x (take k (y ∷ xs))) (sym (suc-add w m)) (inr (drop-among w m xs x i))
+drop-among (suc w) m (y ∷ xs) x i = rw (suc-add w m) (inr (drop-among w m xs x i))
 
 module _ {S V : Type 0} (n W : ℕ) where
   drawn-deep : (k : ℕ) (xs : List (Node S V)) → length (drawn n (layers W k xs)) ≡ k
@@ -93,7 +92,7 @@ module _ {S V : Type 0} (n W : ℕ) where
       let m = suc k * W + 1 in
       let e : W + m ≡ suc (suc k) * W + 1 = omega (arith, suc-mul (suc k) W) in (
         arcs-even (standing (take W xs)) h (λ x i. l x (take-among W (suc (suc k) * W + 1) xs x (omega (arith, e)) (standing-among (take W xs) x i))),
-        drawn-even (suc k) (drop W xs) h (λ x i. l x (subst (λ (q : ℕ). Among x (take q xs)) e (drop-among W m xs x i))),
+        drawn-even (suc k) (drop W xs) h (λ x i. l x (rw (← e) (drop-among W m xs x i))),
       )
 
 -- all of the laid arcs have sixteen targets
@@ -118,9 +117,9 @@ module _ {S V : Type 0} (r : Round) (W : ℕ) (xs : List (Node S V)) where
   shaped-proper s = record {
     deep = drawn-deep r.n W r.n xs;
     one-first = s.first;
-    even = drawn-even r.n W r.n xs r.most (λ x i. laid-sixteen W (arcs r.n W xs) x.arcs.to (subst (Among x.arcs.to) s.written (targets-among (take (r.n * W + 1) xs) x i)));
+    even = drawn-even r.n W r.n xs r.most (λ x i. laid-sixteen W (arcs r.n W xs) x.arcs.to (rw (← s.written) (targets-among (take (r.n * W + 1) xs) x i)));
     roomy = drawn-roomy r.n W r.n xs;
-    tied = subst Tied s.tidy (tidied-tied (arcs r.n W xs));
+    tied = rw (← s.tidy) (tidied-tied (arcs r.n W xs));
   }
 
 -- ---- an arc counts
@@ -155,12 +154,8 @@ counted-arc (nd ∷ L) h = ⊎_elim
 
 -- ---- an arc to the end gives the end a label
 some-there : {A : Type 0} (xs : List A) (o : A → Option Up) (b : ℕ) (u : Up) → get_or (map o xs) b None ≡ Some u → 1 ≤ length xs
-some-there [] o b u e = let z : ◌≡◌ {A = ℕ} 0 1 = cc in absurd (omega arith)
+some-there [] o b u e = absurd cc
 some-there (x ∷ xs) o b u e = omega arith
-
-end-up : (b : ℕ) → b ≡ 0 → get_or (ups []) b None ≡ Some noUp
-unfolding ups up
-end-up b z = ap (λ (k : ℕ). get_or {A = Option Up} (Some noUp ∷ []) k None) z
 
 module _ {S V : Type 0} (r : Round) (rule : RuleSense S) (tally : TallySense V) (W : ℕ) (w : 1 ≤ W) where
   end-stands : (labs : List (Option (Lab r rule tally))) (L : Layer) (Ms : Net) → Tied (L ∷ Ms) → Full r rule tally W w labs (L ∷ Ms) → (a j b : ℕ) → target (node (get_or (L ∷ Ms) (length Ms) []) a) j ≡ suc b
@@ -168,7 +163,7 @@ module _ {S V : Type 0} (r : Round) (rule : RuleSense S) (tally : TallySense V) 
   end-stands labs L [] t f a j b e =
       let E = top r rule tally W w (labelsNext r rule tally labs L 1) [] in
       let z : b ≡ 0 = omega (arith, t a j b e) in
-      let lo = some-there E (λ x. Some x.label.up) b noUp (f.0.tops a j b e ∙ end-up b z) in
+      let lo = some-there E (λ x. Some x.label.up) b noUp (f.0.tops a j b e ∙ ups-end b z) in
       let hi = standing-short (place r rule tally [] (labelsNext r rule tally labs L 1) [] 0 ∷ []) in
       omega arith
   end-stands labs L (M ∷ Ms) t f a j b e = end-stands (labelsNext r rule tally labs L (length M)) M Ms t.3 f.1 a j b e
@@ -178,8 +173,7 @@ module _ {S V : Type 0} (r : Round) (rule : RuleSense S) (tally : TallySense V) 
   end_of (L ∷ Ms) n d h t f a j b e =
       let z : n - 1 ≡ length Ms = omega arith in
       let y : n ≡ suc (length Ms) = sym d in
-      ap (λ (k : ℕ). length (get_or (stood r rule tally W w (firsts r rule tally) (L ∷ Ms)) k [])) y
-      ∙ end-stands (firsts r rule tally) L Ms t f a j b (ap (λ (k : ℕ). target (node (get_or (L ∷ Ms) k []) a) j) (sym z) ∙ e)
+      rw y (end-stands (firsts r rule tally) L Ms t f a j b (rw (← z) e))
 
 -- ---- the end's place is in use if an arc leads to it
 pub ended-one : {S V : Type 0} (n W : ℕ) (xs : List (Node S V)) → Ended n W xs → (a j b : ℕ) → target (node (get_or (arcs n W xs) (n - 1) []) a) j ≡ suc b → length (layer n W n xs) ≡ 1
@@ -198,8 +192,7 @@ module _ {S V : Type 0} (r : Round) (rule : RuleSense S) (tally : TallySense V) 
   stands-at-end : (a j b : ℕ) → target (node (get_or (arcs r.n W (relaid r rule tally W xs Ls)) (r.n - 1) []) a) j ≡ suc b → length (layer r.n W r.n (relaid r rule tally W xs Ls)) ≡ 1
   unfolding relaid
   stands-at-end a j b e =
-      ap (λ (N : List (List (Node S V))). length (get_or N r.n [])) (nodes-laid r rule tally W w (drop (r.n * W + 1) xs) Ls p)
-      ∙ end_of r rule tally W w Ls r.n p.deep r.one p.tied (full r rule tally W w (drop (r.n * W + 1) xs) Ls p) a j b (ap (λ (M : Net). target (node (get_or M (r.n - 1) []) a) j) (sym arcs-relaid) ∙ e)
+      rw (nodes-laid r rule tally W w (drop (r.n * W + 1) xs) Ls p) (end_of r rule tally W w Ls r.n p.deep r.one p.tied (full r rule tally W w (drop (r.n * W + 1) xs) Ls p) a j b (rw (← arcs-relaid) e))
 
   ended' : Ended r.n W (relaid r rule tally W xs Ls)
   ended' =
@@ -254,7 +247,7 @@ less-layer n W t L Ls Ms l = record {
   wide = redirect-length (λ a j b. cond (t a j b) 0 (suc b)) L;
   even = λ h. (even-redirect n (λ a j b. cond (t a j b) 0 (suc b)) L h.0, l.even h.1);
   roomy = λ h. (omega (arith, h.0, redirect-length (λ a j b. cond (t a j b) 0 (suc b)) L), l.roomy h.1);
-  ranged = λ h. (subst (Ranged (redirect (λ a j b. cond (t a j b) 0 (suc b)) L)) (sym l.wide) (less-ranged t L (width Ls) h.0), l.ranged h.1);
+  ranged = λ h. (rw l.wide (less-ranged t L (width Ls) h.0), l.ranged h.1);
 }
 
 less_none : (n W : ℕ) → Less n W [] []

@@ -1,28 +1,15 @@
 -- Part and join keep every path; all calls keep the doors of arcs within the round's.
-use Rattle.std.proofs.Common.{◌≡◌, ℕ, zero, suc, ◌+◌, ◌-◌, ◌<◌, ◌≤◌, Bool, true, false, cond, not, ◌&&◌, eqb, ltb, List, [], ◌∷◌, ◌++◌, length, get_or, set, Some, None, Option, sym, refl, ap, ◌∙◌, subst, inl, inr, le_of_suc-le-suc, not-suc-le-zero, arith}
-use Rattle.std.proofs.lemmas.Bool.{ltb-true, ltb-false, eqb-true, eqb-false, or_parts}
+use Rattle.std.proofs.Common.{◌≡◌, ℕ, zero, suc, ◌-◌, ◌<◌, ◌≤◌, Bool, true, false, cond, not, ◌&&◌, eqb, ltb, List, [], ◌∷◌, ◌++◌, length, get_or, set, Some, None, Option, refl, ap, ◌∙◌, inl, inr, le_of_suc-le-suc, not-suc-le-zero, arith}
+use Rattle.std.proofs.lemmas.Bool.{true≢false, ltb-true, ltb-false, eqb-true, eqb-false, and_parts, or_parts}
+use Rattle.std.proofs.lemmas.List.{get_or_append_left, get_or_push, get_or-set_same, get_or-set_other}
 use Rattle.round.specs.declared.table.Round.{Round}
 use Rattle.rules.specs.Rules.{RuleSense}
 use Rattle.tallies.specs.Tallies.{TallySense}
 use Rattle.layers.specs.Flow.{Outs, Layer, Net, node, target, width, Path-from, eachDoor, eachNode, redirect, Mark, marksNext, marksUp, flags, compress, renumber, tidy, tidied, pickT, bothOut, apart_t, clash, dropAt, moved, joinAt, ins}
 use Rattle.layers.specs.Labels.{Lab, arrive, labelsNext, leaves, headO, barred, dear, ups}
 use Rattle.layers.proofs.Flows.{among-split, redirect-arc, has-arc}
-use Rattle.layers.proofs.Ways.{clashing}
 use Rattle.layers.proofs.Model.{part_at, sweeps, cuts}
 use Rattle.layers.proofs.Walk.{NeatLayer, Neat}
-
-pub append-below : (M : Layer) (nd : Outs) (b : ℕ) → b < length M → node (M ++ (nd ∷ [])) b ≡ node M b
-append-below [] nd b h = absurd (not-suc-le-zero h)
-append-below (x ∷ M) nd zero h = refl
-append-below (x ∷ M) nd (suc b) h = append-below M nd b (le_of_suc-le-suc h)
-
-pub append-last : (M : Layer) (nd : Outs) → node (M ++ (nd ∷ [])) (length M) ≡ nd
-append-last [] nd = refl
-append-last (x ∷ M) nd = append-last M nd
-
-pub and_first : (p q : Bool) → (p && q) ≡ true → p ≡ true
-and_first true q e = refl
-and_first false q e = e
 
 -- ---- part
 module _ {S V : Type 0} (r : Round) (rule : RuleSense S) (tally : TallySense V) where
@@ -49,12 +36,12 @@ module _ {S V : Type 0} (r : Round) (rule : RuleSense S) (tally : TallySense V) 
       go true e = (
         length M,
         redirect-arc f L x j b p.1 ∙ ap (λ (z : Bool). cond z (suc (length M)) (suc b)) e,
-        (p.2.0, ap (λ (nd : Outs). target nd k) (append-last M (node M a)) ∙ ap (λ (z : ℕ). target (node M z) k) (sym (eqb-true b a (and_first (eqb b a) (leaves r rule tally h (get_or labs x None) j) e))) ∙ p.2.1, p.2.2),
+        (p.2.0, rw ((get_or_push M (node M a) [] (length M) refl), ← (eqb-true b a (and_parts (eqb b a) (leaves r rule tally h (get_or labs x None) j) e).0)) p.2.1, p.2.2),
       )
       go false e = (
         b,
         redirect-arc f L x j b p.1 ∙ ap (λ (z : Bool). cond z (suc (length M)) (suc b)) e,
-        (p.2.0, ap (λ (nd : Outs). target nd k) (append-below M (node M a) b (has-arc M b k p.2.0 p.2.1)) ∙ p.2.1, p.2.2),
+        (p.2.0, rw (get_or_append_left M (node M a ∷ []) [] b (has-arc M b k p.2.0 p.2.1)) p.2.1, p.2.2),
       )
   part-keeps (suc d) a labs (L ∷ Ls) x [] p = absurd p
   part-keeps (suc d) a labs (L ∷ Ls) x (j ∷ w) p = (p.0, p.1, part-keeps d a (labelsNext r rule tally labs L (width Ls)) Ls p.0 w p.2)
@@ -75,18 +62,6 @@ drop-above (suc i) b [] h = refl
 drop-above (suc i) zero (x ∷ M) h = absurd (not-suc-le-zero h)
 drop-above (suc i) (suc b) (x ∷ M) h = drop-above i b M (le_of_suc-le-suc h)
 
-pub set_here : (M : Layer) (i : ℕ) (v : Outs) → i < length M → node (set M i v) i ≡ v
-set_here [] i v h = absurd (not-suc-le-zero h)
-set_here (x ∷ M) zero v h = refl
-set_here (x ∷ M) (suc i) v h = set_here M i v (le_of_suc-le-suc h)
-
-pub set_there : (M : Layer) (i b : ℕ) (v : Outs) → ¬ (b ≡ i) → node (set M i v) b ≡ node M b
-set_there [] i b v h = refl
-set_there (x ∷ M) zero zero v h = absurd (h refl)
-set_there (x ∷ M) zero (suc b) v h = refl
-set_there (x ∷ M) (suc i) zero v h = refl
-set_there (x ∷ M) (suc i) (suc b) v h = set_there M i b v (λ e. h (ap suc e))
-
 pick-left : (s t c : ℕ) → s ≡ suc c → pickT s t ≡ suc c
 pick-left zero t c e = absurd (omega arith)
 pick-left (suc s) t c e = e
@@ -98,7 +73,7 @@ pick-right (suc s) (suc t) c n e = go (eqb s t) refl n
   where
     go : (q : Bool) → eqb s t ≡ q → not q ≡ false → suc s ≡ suc c
     go true h m = let x = eqb-true s t h in omega arith
-    go false h m = clashing m
+    go false h m = absurd (true≢false m)
 
 both_left : (x y : Outs) (k c : ℕ) → get_or x k 0 ≡ suc c → get_or (bothOut x y) k 0 ≡ suc c
 unfolding bothOut
@@ -134,18 +109,18 @@ join-node M lo hi b k c lt inn nc e = go (eqb b hi) refl (ltb hi b) refl
     X = set M lo v
 
     to : (z : ℕ) → node (dropAt hi X) z ≡ v → target v k ≡ suc c → target (node (dropAt hi X) z) k ≡ suc c
-    to z f g = ap (λ (nd : Outs). target nd k) f ∙ g
+    to z f g = rw f g
 
     below : (q : Bool) → eqb b lo ≡ q → b < hi → target (node (dropAt hi X) b) k ≡ suc c
     below true f h = let s = eqb-true b lo f in
-        to b (drop-below hi b X h ∙ ap (λ (z : ℕ). node X z) s ∙ set_here M lo v (omega arith)) (target_left (node M lo) (node M hi) k c (ap (λ (z : ℕ). target (node M z) k) (sym s) ∙ e))
-    below false f h = ap (λ (nd : Outs). target nd k) (drop-below hi b X h ∙ set_there M lo b v (eqb-false b lo f)) ∙ e
+        to b (drop-below hi b X h ∙ rw s (get_or-set_same M lo v [] (omega arith))) (target_left (node M lo) (node M hi) k c (rw (← s) e))
+    below false f h = rw (drop-below hi b X h ∙ get_or-set_other M lo b v [] (eqb-false b lo f)) e
 
     go : (q : Bool) → eqb b hi ≡ q → (q' : Bool) → ltb hi b ≡ q' → target (node (dropAt hi X) (cond q lo (cond q' (b - 1) b))) k ≡ suc c
     go true f q' g = let s = eqb-true b hi f in
-        to lo (drop-below hi lo X lt ∙ set_here M lo v (omega arith)) (target_right (node M lo) (node M hi) k c nc (ap (λ (z : ℕ). target (node M z) k) (sym s) ∙ e))
+        to lo (drop-below hi lo X lt ∙ get_or-set_same M lo v [] (omega arith)) (target_right (node M lo) (node M hi) k c nc (rw (← s) e))
     go false f true g = let h = ltb-true hi b g in let z : suc (b - 1) ≡ b = omega arith in
-        ap (λ (nd : Outs). target nd k) (drop-above hi (b - 1) X (omega arith) ∙ ap (λ (y : ℕ). node X y) z ∙ set_there M lo b v (omega arith)) ∙ e
+        ap (λ (nd : Outs). target nd k) (drop-above hi (b - 1) X (omega arith) ∙ ap (λ (y : ℕ). node X y) z ∙ get_or-set_other M lo b v [] (omega arith)) ∙ e
     go false f false g = below (eqb b lo) refl (le b hi (eqb-false b hi f) g)
       where
         le : (x y : ℕ) → ¬ (x ≡ y) → ltb y x ≡ false → x < y
@@ -197,7 +172,7 @@ module _ (n : ℕ) where
 
   neat-set : (L : Layer) (i : ℕ) (v : Outs) → length v ≤ n → NeatLayer n L → NeatLayer n (set L i v)
   neat-set [] i v g h nd k = absurd k
-  neat-set (x ∷ L) zero v g h nd (inl e) = subst (λ (y : Outs). length y ≤ n) (sym e) g
+  neat-set (x ∷ L) zero v g h nd (inl e) = rw e g
   neat-set (x ∷ L) zero v g h nd (inr k) = h nd (inr k)
   neat-set (x ∷ L) (suc i) v g h nd (inl e) = h nd (inl e)
   neat-set (x ∷ L) (suc i) v g h nd (inr k) = neat-set L i v g (λ y m. h y (inr m)) nd k
@@ -257,7 +232,7 @@ module _ (n : ℕ) where
     neat-part zero a labs (L ∷ M ∷ Ls) h = (
       neat-redirect (λ u j b. cond (eqb b a && leaves r rule tally (headO r rule tally (ins (arrive r rule tally) a labs L)) (get_or labs u None) j) (suc (length M)) (suc b)) L h.0,
       (
-        λ nd i. elim (among-split nd M (node M a ∷ []) i) [ inl x ↦ h.1.0 nd x | inr x ↦ elim x [ inl e ↦ subst (λ (y : Outs). length y ≤ n) (sym e) (neat-node M a h.1.0) | inr y ↦ absurd y ] ],
+        λ nd i. elim (among-split nd M (node M a ∷ []) i) [ inl x ↦ h.1.0 nd x | inr x ↦ elim x [ inl e ↦ rw e (neat-node M a h.1.0) | inr y ↦ absurd y ] ],
         h.1.1,
       ),
     )

@@ -1,14 +1,14 @@
 -- In a run with one rule and one tally, from opened records on, the labels that stand are those worked out from the arcs: each call on records is the call on arcs.
-use Rattle.std.proofs.Common.{◌≡◌, ℕ, zero, suc, ◌+◌, ◌-◌, ◌*◌, ◌<◌, ◌≤◌, min, max, Bool, true, false, cond, not, ◌&&◌, ◌||◌, eqb, ltb, leb, List, [], ◌∷◌, ◌++◌, length, get_or, drop, sym, refl, ap, ◌∙◌, subst, ap₂, arith}
+use Rattle.std.proofs.Common.{◌≡◌, ℕ, zero, suc, ◌+◌, ◌-◌, ◌*◌, ◌<◌, ◌≤◌, min, max, Bool, true, false, cond, not, ◌&&◌, ◌||◌, eqb, ltb, leb, List, [], ◌∷◌, ◌++◌, length, get_or, drop, sym, refl, ap, ◌∙◌, ap₂, arith}
 use Rattle.std.proofs.lemmas.Bool.{ltb-true, ltb-false, leb-true, leb-false, eqb-true, lt-ltb, le-leb, eq-eqb, ne_eqb, and_parts, or_parts}
 use Rattle.round.specs.declared.table.Round.{Round}
 use Rattle.rules.specs.Rules.{RuleSense}
 use Rattle.tallies.specs.Tallies.{TallySense}
 use Rattle.layers.specs.declared.node.Node.{Node}
 use Rattle.layers.specs.Flow.{Net, node, countArcs, ins, tidied, clash, joinAt, seeks}
-use Rattle.layers.specs.Labels.{firsts, arrive, opened, agreeing}
-use Rattle.layers.specs.Records.{layers, arcsIn, downsIn, drawn, laid}
-use Rattle.layers.specs.Calls.{Call, Sweep, Part, Join, Cut, Refine, thinned, trimmed, arrivals, partedAt, nodes, arcs, layer, relaid, openedOn, fewer, swept, sweepAnswer, cut_at, partAnswer, split, joinAnswer, joined, splits, splitsAll, sweptOut, refined, does, run, bound, must, settled, agreedAll, quietFrom, valueIn, oneGroup as oneGroupIn, isFull, parted as partedIn, badNode as badNodeIn}
+use Rattle.layers.specs.Labels.{firsts, arrive, opened}
+use Rattle.layers.specs.Records.{arcsIn, downsIn, laid}
+use Rattle.layers.specs.Calls.{Call, Sweep, Part, Join, Cut, Refine, arrivals, partedAt, nodes, arcs, layer, relaid, openedOn, fewer, swept, sweepAnswer, cut_at, partAnswer, split, joinAnswer, joined, splits, splitsAll, sweptOut, refined, does, run, bound, must, settled, agreedAll, valueIn, oneGroup as oneGroupIn, isFull, parted as partedIn, badNode as badNodeIn}
 use Rattle.layers.proofs.Model.{sweep, cut, oneGroup, part_at, count, done, refused, badLayer, badNode, part, join, unless, swept as untilQuiet, parted as partedArcs, refines, refine, act, after, agrees, settles, bound as boundOf, must as mustOf, settled as settled_of}
 use Rattle.layers.proofs.Counts.{sweep-fewer, settled-yes, settled-if}
 use Rattle.layers.proofs.Bridge.{Full, stood, labsAt, thinned-stood, trimmed-stood, quiet-stood, agrees-stood, stood-at, group_at, part-at, value-stood, later-stays}
@@ -56,34 +56,30 @@ module _ {S V : Type 0} (r : Round) (rule : RuleSense S) (self : (s : S) → rul
 
   pub swept-X : (Ls : Net) → Well Ls → swept r rule tally W (X Ls) ≡ X (sweep r rule tally Ls)
   unfolding swept sweep
-  swept-X Ls p = relaid-X Ls _ p ∙ ap (λ (N : List (List (Node S V))). X (tidied (thinned r rule tally 0 N))) (nodes-X Ls p)
-      ∙ ap (λ (z : Net). X (tidied z)) (thinned-stood r rule tally W w 0 (firsts r rule tally) Ls (omega (arith, p.deep)) (full Ls p))
+  swept-X Ls p = relaid-X Ls _ p ∙ rw (nodes-X Ls p) (ap (λ (z : Net). X (tidied z)) (thinned-stood r rule tally W w 0 (firsts r rule tally) Ls (omega (arith, p.deep)) (full Ls p)))
 
   pub cut-X : (c : V) (Ls : Net) → Well Ls → cut_at r rule tally W c (X Ls) ≡ X (cut r rule tally c Ls)
   unfolding cut_at cut
-  cut-X c Ls p = relaid-X Ls _ p ∙ ap (λ (N : List (List (Node S V))). X (tidied (trimmed r rule tally c N))) (nodes-X Ls p)
-      ∙ ap (λ (z : Net). X (tidied z)) (trimmed-stood r rule tally W w c (firsts r rule tally) Ls (full Ls p))
+  cut-X c Ls p = relaid-X Ls _ p ∙ rw (nodes-X Ls p) (ap (λ (z : Net). X (tidied z)) (trimmed-stood r rule tally W w c (firsts r rule tally) Ls (full Ls p)))
 
   pub at-X : (d : ℕ) (Ls : Net) (p : Well Ls) → d < r.n → (downsIn (layer r.n W d (X Ls)) ≡ labsAt r rule tally W w d (firsts r rule tally) Ls) × (arcsIn r.n (layer r.n W d (X Ls)) ≡ get_or Ls d []) × (length (layer r.n W d (X Ls)) ≡ length (get_or Ls d []))
   at-X d Ls p h =
       let q = stood-at r rule tally W w d (firsts r rule tally) Ls (full Ls p) (omega (arith, p.deep)) in
       let e = ap (λ (N : List (List (Node S V))). get_or N d []) (nodes-X Ls p) in
-      (ap downsIn e ∙ q.0, ap (arcsIn r.n) e ∙ q.1, ap (λ (N : List (Node S V)). length N) e ∙ q.2)
+      (ap downsIn e ∙ q.0, ap (arcsIn r.n) e ∙ q.1, rw e q.2)
 
   group-X : (i a c : ℕ) (Ls : Net) → Well Ls → 1 ≤ i → i < r.n → a - 1 ≡ c → oneGroupIn r rule tally W i a (X Ls) ≡ oneGroup r rule tally (i - 1) c (firsts r rule tally) Ls
   unfolding oneGroupIn arrivals
   group-X i a c Ls p lo hi e =
       let q = at-X (i - 1) Ls p (omega arith) in
-      ap (λ (z : List _). agreeing r rule tally z) (ap₂ (λ x y. ins (arrive r rule tally) (a - 1) x y) q.0 q.1 ∙ ap (λ (k : ℕ). ins (arrive r rule tally) k (labsAt r rule tally W w (i - 1) (firsts r rule tally) Ls) (get_or Ls (i - 1) [])) e)
-      ∙ sym (group_at r rule tally W w (i - 1) c (firsts r rule tally) Ls (omega (arith, p.deep)))
+      rw (ap₂ (λ x y. ins (arrive r rule tally) (a - 1) x y) q.0 q.1 ∙ ap (λ (k : ℕ). ins (arrive r rule tally) k (labsAt r rule tally W w (i - 1) (firsts r rule tally) Ls) (get_or Ls (i - 1) [])) e) (sym (group_at r rule tally W w (i - 1) c (firsts r rule tally) Ls (omega (arith, p.deep))))
 
   split-X : (i a c : ℕ) (Ls : Net) → Well Ls → 1 ≤ i → i < r.n → a - 1 ≡ c → split r rule tally W i a (X Ls) ≡ X (part_at r rule tally (i - 1) c (firsts r rule tally) Ls)
   unfolding split
   split-X i a c Ls p lo hi e =
       relaid-X Ls _ p ∙ ap X
       (ap₂ (λ x y. partedAt r rule tally (i - 1) (a - 1) x y) (at-X (i - 1) Ls p (omega arith)).0 (arcs-X Ls p)
-      ∙ ap (λ (k : ℕ). partedAt r rule tally (i - 1) k (labsAt r rule tally W w (i - 1) (firsts r rule tally) Ls) Ls) e
-      ∙ part-at r rule tally W w (i - 1) c (firsts r rule tally) Ls)
+      ∙ rw e (part-at r rule tally W w (i - 1) c (firsts r rule tally) Ls))
 
   -- ---- part and join: a refusal leaves the list
   refusals : (x y z t : Bool) (a b c d : ℕ) (A B : List (Node S V)) → cond (eqb (cond x (suc a) (cond y (suc b) (cond z (suc c) (cond t (suc d) 0)))) 0) A B ≡ cond x B (cond y B (cond z B (cond t B A)))
@@ -142,7 +138,7 @@ module _ {S V : Type 0} (r : Round) (rule : RuleSense S) (self : (s : S) → rul
   splits-X (suc k) i a Ls p lo hi =
       let n = (at-X i Ls p hi).2 in
       ap₂ (λ (x z : Bool). cond x (false, X Ls) (cond (oneGroupIn r rule tally W i (suc a) (X Ls)) (splits r rule tally W k i (suc (suc a)) (X Ls)) (cond z (true, X Ls) (splits r rule tally W k i (suc (suc a)) (split r rule tally W i (suc a) (X Ls))))))
-      (ap (λ (m : ℕ). ltb m (suc a)) n ∙ past (count r rule tally i Ls) a) (ap (leb W) n)
+      (rw n (past (count r rule tally i Ls) a)) (ap (leb W) n)
       ∙ ap (λ (y : Bool). cond (leb (count r rule tally i Ls) a) (false, X Ls) (cond y (splits r rule tally W k i (suc (suc a)) (X Ls)) (cond (leb W (count r rule tally i Ls)) (true, X Ls) (splits r rule tally W k i (suc (suc a)) (split r rule tally W i (suc a) (X Ls))))))
       (group-X i (suc a) a Ls p lo hi (omega arith))
       ∙ go (leb (count r rule tally i Ls) a) refl (oneGroup r rule tally (i - 1) a (firsts r rule tally) Ls) refl (leb W (count r rule tally i Ls)) refl (splits-X k i (suc a) Ls p lo hi)
@@ -162,7 +158,7 @@ module _ {S V : Type 0} (r : Round) (rule : RuleSense S) (self : (s : S) → rul
       go false e false f false g s t =
           let ei : suc (i - 1) ≡ i = omega arith in
           ap (splits r rule tally W k i (suc (suc a))) (split-X i (suc a) a Ls p lo hi (omega arith))
-          ∙ t (proper-part r rule self tally W w (i - 1) a Ls (subst (λ (k : ℕ). a < length (get_or Ls k [])) (sym ei) (leb-false (count r rule tally i Ls) a e)) (subst (λ (k : ℕ). length (get_or Ls k []) < W) (sym ei) (leb-false W (count r rule tally i Ls) g)) f p)
+          ∙ t (proper-part r rule self tally W w (i - 1) a Ls (rw ei (leb-false (count r rule tally i Ls) a e)) (rw ei (leb-false W (count r rule tally i Ls) g)) f p)
 
   splitsAll-X : (k i : ℕ) (Ls : Net) → Well Ls → 1 ≤ i → i + k ≤ r.n → splitsAll r rule tally W k i (X Ls) ≡ lift (refines r rule tally W k i Ls)
   unfolding splitsAll refines
@@ -188,7 +184,7 @@ module _ {S V : Type 0} (r : Round) (rule : RuleSense S) (self : (s : S) → rul
   sweptOut-X zero Ls p = refl
   sweptOut-X (suc k) Ls p =
       let s = sweep r rule tally Ls in
-      ap₂ (λ (x : Bool) (y : List (Node S V)). cond x y (sweptOut r rule tally W k y)) (ap (λ (m : ℕ). eqb m 0) (answer-X Ls p) ∙ nothing-less (countArcs Ls) (countArcs s) (sweep-fewer r rule tally Ls)) (swept-X Ls p)
+      ap₂ (λ (x : Bool) (y : List (Node S V)). cond x y (sweptOut r rule tally W k y)) (rw (answer-X Ls p) (nothing-less (countArcs Ls) (countArcs s) (sweep-fewer r rule tally Ls))) (swept-X Ls p)
       ∙ go (eqb (countArcs s) (countArcs Ls)) (sweptOut-X k s (proper-sweep r rule tally W w Ls p))
     where
       go : (x : Bool) → sweptOut r rule tally W k (X (sweep r rule tally Ls)) ≡ X (untilQuiet r rule tally W k (sweep r rule tally Ls)) → cond x (X (sweep r rule tally Ls)) (sweptOut r rule tally W k (X (sweep r rule tally Ls))) ≡ X (elim x [ true ↦ sweep r rule tally Ls | false ↦ untilQuiet r rule tally W k (sweep r rule tally Ls) ])
@@ -231,8 +227,7 @@ module _ {S V : Type 0} (r : Round) (rule : RuleSense S) (self : (s : S) → rul
   pub settled-X : (Ls : Net) → Well Ls → settled r rule tally W (X Ls) ≡ settled_of r rule tally Ls
   unfolding settled settled_of settles
   settled-X Ls p =
-      ap (λ (N : List (List (Node S V))). agreedAll r rule tally N && quietFrom r rule tally 0 N) (nodes-X Ls p)
-      ∙ ap₂ ◌&&◌ (agrees-stood r rule tally W w (firsts r rule tally) Ls (full Ls p)) (quiet-stood r rule tally W w 0 (firsts r rule tally) Ls (omega (arith, p.deep)) (full Ls p))
+      rw (nodes-X Ls p) (ap₂ ◌&&◌ (agrees-stood r rule tally W w (firsts r rule tally) Ls (full Ls p)) (quiet-stood r rule tally W w 0 (firsts r rule tally) Ls (omega (arith, p.deep)) (full Ls p)))
 
   -- settled is yes exactly when the in-arcs agree and a sweep would answer 0
   pub settled-means-X : (Ls : Net) → Well Ls → settled r rule tally W (X Ls) ≡ (agreedAll r rule tally (nodes r.n W (X Ls)) && eqb (sweepAnswer r rule tally W (X Ls)) 0)

@@ -1,13 +1,10 @@
 -- After tidying, every node lies on a path.
-use Rattle.std.proofs.Common.{◌≡◌, ℕ, zero, suc, ◌+◌, ◌-◌, ◌<◌, Bool, true, false, cond, List, [], ◌∷◌, map, length, get_or, Some, None, Option, sym, refl, ap, ◌∙◌, subst, inl, inr, le_of_suc-le-suc, not-suc-le-zero, arith}
+use Rattle.std.proofs.Common.{◌≡◌, ℕ, zero, suc, ◌+◌, ◌<◌, Bool, true, false, cond, List, [], ◌∷◌, length, get_or, Some, None, Option, sym, refl, ap, ◌∙◌, le_of_suc-le-suc, not-suc-le-zero, arith}
 use lib.ListN.{length-map}
-use Rattle.std.proofs.lemmas.Bool.{and_parts}
-use Rattle.layers.specs.Flow.{Outs, Layer, Net, node, target, width, is_some, eachDoor, eachNode, redirect, ins, gather, read, consO, outs, up, Mark, marksNext, marksUp, flags, rank, compress, renumber, tidy, tidied, Ranged, Led, Tied}
-use Rattle.layers.proofs.Flows.{Among, redirect-arc, has-arc, ins-from, next-some, up_at, mark-next, flags-at, compress-at, renumber-at}
-use Rattle.layers.proofs.Ways.{clashing}
-
-absurd-some : {A X : Type 0} (x : A) → None ≡ Some x → X
-absurd-some x e = let z : ◌≡◌ {A = ℕ} 0 1 = cc in absurd (omega arith)
+use Rattle.std.proofs.lemmas.Bool.{false≢true, and_parts}
+use Rattle.std.proofs.lemmas.Option.{none-some}
+use Rattle.layers.specs.Flow.{Outs, Layer, Net, node, target, width, is_some, eachDoor, eachNode, redirect, ins, gather, outs, up, Mark, marksNext, marksUp, flags, rank, compress, renumber, tidy, tidied, Ranged, Led, Tied}
+use Rattle.layers.proofs.Flows.{gather-any, outs-from, map-some, redirect-arc, has-arc, ins-from, next-some, up_at, mark-next, flags-at, compress-at, renumber-at}
 
 -- ---- redirecting, backwards
 eachDoor-back : (f : ℕ → ℕ → ℕ) (j : ℕ) (ts : Outs) (k m c : ℕ) → j + k ≡ m → get_or (eachDoor f j ts) k 0 ≡ suc c → (b : ℕ) × (get_or ts k 0 ≡ suc b) × (f m b ≡ suc c)
@@ -40,19 +37,19 @@ unfolding redirect
 redirect-length f L = eachNode-length f 0 L
 
 -- ---- flags
-some_of : (o : Option Mark) → is_some o ≡ true → o ≡ Some tt
-some_of None e = clashing (sym e)
+pub some_of : (o : Option Mark) → is_some o ≡ true → o ≡ Some tt
+some_of None e = absurd (false≢true e)
 some_of (Some tt) e = refl
 
-flags-back : (fr us : List (Option Mark)) (a : ℕ) → get_or (flags fr us) a false ≡ true → (get_or fr a None ≡ Some tt) × (get_or us a None ≡ Some tt)
+pub flags-back : (fr us : List (Option Mark)) (a : ℕ) → get_or (flags fr us) a false ≡ true → (get_or fr a None ≡ Some tt) × (get_or us a None ≡ Some tt)
 unfolding flags
-flags-back [] us a e = clashing (sym e)
-flags-back (x ∷ fr) [] a e = clashing (sym e)
+flags-back [] us a e = absurd (false≢true e)
+flags-back (x ∷ fr) [] a e = absurd (false≢true e)
 flags-back (x ∷ fr) (u ∷ us) zero e = let q = and_parts (is_some x) (is_some u) e in (some_of x q.0, some_of u q.1)
 flags-back (x ∷ fr) (u ∷ us) (suc a) e = flags-back fr us a e
 
 within : (us : List (Option Mark)) (a : ℕ) → get_or us a None ≡ Some tt → a < length us
-within [] a e = absurd-some tt e
+within [] a e = absurd (none-some tt e)
 within (u ∷ us) zero e = omega arith
 within (u ∷ us) (suc a) e = let h = within us a e in omega arith
 
@@ -63,10 +60,10 @@ ups-length (L ∷ Ls) = length-map L (λ nd. gather {A = Mark} (λ x y. tt) (out
 
 rank_lt : (fs : List Bool) (X : Layer) (b : ℕ) → get_or fs b false ≡ true → b < length X → rank fs b < length (compress fs X)
 unfolding rank compress
-rank_lt [] X b e h = clashing (sym e)
+rank_lt [] X b e h = absurd (false≢true e)
 rank_lt (f ∷ fs) [] b e h = absurd (not-suc-le-zero h)
 rank_lt (true ∷ fs) (x ∷ X) zero e h = omega arith
-rank_lt (false ∷ fs) (x ∷ X) zero e h = clashing (sym e)
+rank_lt (false ∷ fs) (x ∷ X) zero e h = absurd (false≢true e)
 rank_lt (true ∷ fs) (x ∷ X) (suc b) e h = let q = rank_lt fs X b e (le_of_suc-le-suc h) in omega arith
 rank_lt (false ∷ fs) (x ∷ X) (suc b) e h = rank_lt fs X b e (le_of_suc-le-suc h)
 
@@ -87,47 +84,20 @@ renumber-back fs b c e = go (get_or fs b false) refl e
     go false f g = absurd (omega arith)
 
 -- ---- what marks say
-gather-some : {A : Type 0} (merge : A → A → A) (l : List A) (m : A) → gather merge l ≡ Some m → (x : A) × Among x l
-unfolding gather
-gather-some merge [] m e = absurd-some m e
-gather-some merge (x ∷ l) m e = (x, inl refl)
-
 pub marked_from : (fr : List (Option Mark)) (L : Layer) (count b : ℕ) → get_or (marksNext fr L count) b None ≡ Some tt → (a : ℕ) × (j : ℕ) × (target (node L a) j ≡ suc b) × (get_or fr a None ≡ Some tt)
 unfolding marksNext
 marked_from fr L count b e =
-    let x = gather-some {A = Mark} (λ x y. tt) (ins {A = Mark} (λ m j. tt) b fr L) tt (next-some {A = Mark} (λ m j. tt) (λ x y. tt) fr L count b tt e) in
+    let x = gather-any {A = Mark} (λ x y. tt) (ins {A = Mark} (λ m j. tt) b fr L) tt (next-some {A = Mark} (λ m j. tt) (λ x y. tt) fr L count b tt e) in
     let f = ins-from {A = Mark} (λ m j. tt) b fr L x.0 x.1 in
     (f.source, f.door, f.arc, f.labelled)
-
-outs-from : (us : List (Option Mark)) (x : Mark) (j : ℕ) (ts : Outs) → Among x (outs {A = Mark} (λ m k. tt) us j ts) → (k : ℕ) × (b : ℕ) × (get_or ts k 0 ≡ suc b) × (get_or us b None ≡ Some tt)
-unfolding outs
-outs-from us x j [] i = absurd i
-outs-from us x j (t ∷ ts) i = go t (read us t) refl i (λ h. outs-from us x (suc j) ts h)
-  where
-    Found : Outs → Type 0
-    Found s = (k : ℕ) × (b : ℕ) × (get_or s k 0 ≡ suc b) × (get_or us b None ≡ Some tt)
-
-    at : (t : ℕ) → read us t ≡ Some tt → (b : ℕ) × (t ≡ suc b) × (get_or us b None ≡ Some tt)
-    at zero e = absurd-some tt e
-    at (suc b) e = (b, refl, e)
-
-    go : (s : ℕ) (o : Option Mark) → read us s ≡ o → Among x (consO {A = Mark} (λ m k. tt) j o (outs {A = Mark} (λ m k. tt) us (suc j) ts)) → (Among x (outs {A = Mark} (λ m k. tt) us (suc j) ts) → Found ts) → Found (s ∷ ts)
-    go s None e h f = let q = f h in (suc q.0, q.1, q.2, q.3)
-    go s (Some tt) e (inl h) f = let q = at s e in (0, q.0, q.1, q.2)
-    go s (Some tt) e (inr h) f = let q = f h in (suc q.0, q.1, q.2, q.3)
-
-map_back : (f : Outs → Option Mark) (L : Layer) (a : ℕ) → get_or (map f L) a None ≡ Some tt → f (node L a) ≡ Some tt
-map_back f [] a e = absurd-some tt e
-map_back f (nd ∷ L) zero e = e
-map_back f (nd ∷ L) (suc a) e = map_back f L a e
 
 pub climbs-from : (L : Layer) (Ls : Net) (a : ℕ) → get_or (marksUp (L ∷ Ls)) a None ≡ Some tt → (j : ℕ) × (b : ℕ) × (target (node L a) j ≡ suc b) × (get_or (marksUp Ls) b None ≡ Some tt)
 unfolding marksUp up
 climbs-from L Ls a e =
     let us = marksUp Ls in
-    let x = gather-some {A = Mark} (λ x y. tt) (outs {A = Mark} (λ m k. tt) us 1 (node L a)) tt (map_back (λ nd. gather {A = Mark} (λ x y. tt) (outs {A = Mark} (λ m k. tt) us 1 nd)) L a e) in
-    let q = outs-from us x.0 1 (node L a) x.1 in
-    (suc q.0, q.1, q.2, q.3)
+    let x = gather-any {A = Mark} (λ x y. tt) (outs {A = Mark} (λ m k. tt) us 1 (node L a)) tt (map-some (λ nd. gather {A = Mark} (λ x y. tt) (outs {A = Mark} (λ m k. tt) us 1 nd)) L a tt e) in
+    let c = outs-from {A = Mark} (λ m k. tt) us x.0 1 (node L a) x.1 in
+    (suc c.skip, c.to, c.arc, c.labelled)
 
 pub climbs : (L : Layer) (Ls : Net) (a j b : ℕ) → target (node L a) j ≡ suc b → get_or (marksUp Ls) b None ≡ Some tt → get_or (marksUp (L ∷ Ls)) a None ≡ Some tt
 unfolding marksUp
@@ -153,7 +123,7 @@ module _ (fr : List (Option Mark)) (L : Layer) (Ls : Net) where
       let q = redirect-back (λ a j b. renumber fs b) L a j c e in
       let h = renumber-back fs q.0 c q.2 in
       let w = flag-within q.0 h.0 in
-      subst (λ (z : ℕ). z < length (compress fs X)) h.1 (rank_lt fs X q.0 h.0 (omega arith))
+      rw (← h.1) (rank_lt fs X q.0 h.0 (omega arith))
 
   -- every node that is left is led to, from a node that is left
   fed_by : (X : Layer) (c : ℕ) → c < length (compress fs X) → (a : ℕ) × (j : ℕ) × (target (node RL a) j ≡ suc c) × (get_or fr a None ≡ Some tt) × (get_or (marksUp (L ∷ Ls)) a None ≡ Some tt)
@@ -184,7 +154,7 @@ module _ (fr : List (Option Mark)) (L : Layer) (Ls : Net) where
 ranged-compress : (gs : List Bool) (X : Layer) (m : ℕ) → Ranged X m → Ranged (compress gs X) m
 ranged-compress gs X m h c j b e =
     let q = compress-back gs X c (has-arc (compress gs X) c j b e) in
-    h q.0 j b (ap (λ (nd : Outs). target nd j) (sym (compress-at gs X q.0 q.1)) ∙ ap (λ (z : ℕ). target (node (compress gs X) z) j) q.2 ∙ e)
+    h q.0 j b (rw (← (compress-at gs X q.0 q.1), q.2) e)
 
 ranged-end : (fr : List (Option Mark)) (L : Layer) → Ranged (RL fr L []) 1
 ranged-end fr L a j c e =
@@ -211,7 +181,7 @@ tidy-tied fr (L ∷ M ∷ Ls) =
     let n = redirect-length (λ a j b. renumber (fs fr2 M Ls) b) M in (
       ranged-compress gs (RL fr L (M ∷ Ls)) (length (compress (fs fr L (M ∷ Ls)) X)) (arcs-lead fr L (M ∷ Ls) X n),
       (λ c h. let q = fed_by fr L (M ∷ Ls) X c h in
-          (rank gs q.0, q.1, ap (λ (nd : Outs). target nd q.1) (compress-at gs (RL fr L (M ∷ Ls)) q.0 (flags-at fr (marksUp (L ∷ M ∷ Ls)) q.0 q.3 q.4)) ∙ q.2)),
+          (rank gs q.0, q.1, rw (compress-at gs (RL fr L (M ∷ Ls)) q.0 (flags-at fr (marksUp (L ∷ M ∷ Ls)) q.0 q.3 q.4)) q.2)),
       leads-on fr2 M Ls,
       tidy-tied fr2 (M ∷ Ls),
     )

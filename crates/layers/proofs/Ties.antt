@@ -1,6 +1,7 @@
 -- Opening, part and join keep every node on a path.
-use Rattle.std.proofs.Common.{◌≡◌, ℕ, zero, suc, ◌+◌, ◌-◌, ◌<◌, ◌≤◌, Bool, true, false, cond, not, ◌&&◌, eqb, ltb, ◌⊎◌, List, [], ◌∷◌, ◌++◌, length, get_or, set, Some, None, Option, sym, refl, ap, ◌∙◌, subst, inl, inr, le_of_suc-le-suc, not-suc-le-zero, arith, length-append, length-set}
-use Rattle.std.proofs.lemmas.Bool.{ltb-true, ltb-false, eqb-true, lt-ltb, eq-eqb, ne_eqb, cases_lt, cases_eq}
+use Rattle.std.proofs.Common.{◌≡◌, ℕ, zero, suc, ◌-◌, ◌<◌, ◌≤◌, Bool, true, false, cond, not, ◌&&◌, eqb, ltb, ◌⊎◌, List, [], ◌∷◌, ◌++◌, length, get_or, set, Some, None, Option, sym, refl, ap, ◌∙◌, inl, inr, le_of_suc-le-suc, not-suc-le-zero, arith, length-set}
+use Rattle.std.proofs.lemmas.Bool.{true≢false, ltb-true, ltb-false, eqb-true, lt-ltb, eq-eqb, ne_eqb, cases_lt, cases_eq, and_cases}
+use Rattle.std.proofs.lemmas.List.{get_or_append_left, get_or_push, get_or-set_same, get_or-set_other}
 use Rattle.round.specs.declared.table.Round.{Round}
 use Rattle.rules.specs.Rules.{RuleSense}
 use Rattle.tallies.specs.Tallies.{TallySense}
@@ -8,9 +9,9 @@ use Rattle.layers.specs.Flow.{table, Outs, Layer, Net, node, target, redirect, i
 use Rattle.layers.specs.Labels.{Lab, arrive, labelsNext, agree, agreeAll, agreeing, leaves, headO, opened, allDoors}
 use Rattle.layers.specs.Calls.{partedAt}
 use Rattle.layers.proofs.Flows.{Among, redirect-arc, has-arc, table_at, From, ins-from}
-use Rattle.layers.proofs.Ways.{clashing}
+use Rattle.layers.proofs.Ways.{length-snoc}
 use Rattle.layers.proofs.Model.{part_at, oneGroup}
-use Rattle.layers.proofs.Shapes.{append-below, append-last, drop-below, drop-above, set_here, set_there, join-node}
+use Rattle.layers.proofs.Shapes.{drop-below, drop-above, join-node}
 use Rattle.layers.proofs.Tied.{redirect-back, redirect-length}
 
 -- ---- open
@@ -46,35 +47,32 @@ module _ {S V : Type 0} (r : Round) (rule : RuleSense S) (tally : TallySense V) 
       go (suc (suc k)) = (open-ranged, open-fed, open-led, go (suc k))
 
 -- ---- part
-pub length_more : (M : Layer) (nd : Outs) → length (M ++ (nd ∷ [])) ≡ suc (length M)
-length_more M nd = omega (arith, length-append M (nd ∷ []))
-
 -- the nodes of a layer with one more are those of the layer
 pub more-back : (M : Layer) (nd : Outs) (c : ℕ) → c < suc (length M) → ((c < length M) × (node (M ++ (nd ∷ [])) c ≡ node M c)) ⊎ ((c ≡ length M) × (node (M ++ (nd ∷ [])) c ≡ nd))
 more-back M nd c h = go (ltb c (length M)) refl
   where
     go : (q : Bool) → ltb c (length M) ≡ q → ((c < length M) × (node (M ++ (nd ∷ [])) c ≡ node M c)) ⊎ ((c ≡ length M) × (node (M ++ (nd ∷ [])) c ≡ nd))
-    go true e = let k = ltb-true c (length M) e in inl (k, append-below M nd c k)
+    go true e = let k = ltb-true c (length M) e in inl (k, get_or_append_left M (nd ∷ []) [] c k)
     go false e = let k : c ≡ length M = omega (arith, ltb-false c (length M) e) in
-        inr (k, ap (λ (z : ℕ). node (M ++ (nd ∷ [])) z) k ∙ append-last M nd)
+        inr (k, rw k (get_or_push M nd [] (length M) refl))
 
 module _ (M : Layer) (a : ℕ) (inn : a < length M) where
   more-ranged : (m : ℕ) → Ranged M m → Ranged (M ++ (node M a ∷ [])) m
   more-ranged m h c j b e =
-      elim (more-back M (node M a) c (let z = has-arc (M ++ (node M a ∷ [])) c j b e in omega (arith, length_more M (node M a)))) [
-        | inl q ↦ h c j b (ap (λ (nd : Outs). target nd j) (sym q.1) ∙ e)
-        | inr q ↦ h a j b (ap (λ (nd : Outs). target nd j) (sym q.1) ∙ e)
+      elim (more-back M (node M a) c (let z = has-arc (M ++ (node M a ∷ [])) c j b e in omega (arith, length-snoc M (node M a)))) [
+        | inl q ↦ h c j b (rw (← q.1) e)
+        | inr q ↦ h a j b (rw (← q.1) e)
       ]
 
   more-led : Led M → Led (M ++ (node M a ∷ []))
   more-led h c k =
-      elim (more-back M (node M a) c (omega (arith, length_more M (node M a)))) [
-        | inl q ↦ (let s = h c q.0 in (s.0, s.1, ap (λ (nd : Outs). target nd s.0) q.1 ∙ s.2))
-        | inr q ↦ (let s = h a inn in (s.0, s.1, ap (λ (nd : Outs). target nd s.0) q.1 ∙ s.2))
+      elim (more-back M (node M a) c (omega (arith, length-snoc M (node M a)))) [
+        | inl q ↦ (let s = h c q.0 in (s.0, s.1, rw q.1 s.2))
+        | inr q ↦ (let s = h a inn in (s.0, s.1, rw q.1 s.2))
       ]
 
   more-fed : (m : ℕ) → Fed M m → Fed (M ++ (node M a ∷ [])) m
-  more-fed m h b k = let s = h b k in (s.0, s.1, ap (λ (nd : Outs). target nd s.1) (append-below M (node M a) s.0 (has-arc M s.0 s.1 b s.2)) ∙ s.2)
+  more-fed m h b k = let s = h b k in (s.0, s.1, rw (get_or_append_left M (node M a ∷ []) [] s.0 (has-arc M s.0 s.1 b s.2)) s.2)
 
   more-tied : (Ls : Net) → Tied (M ∷ Ls) → Tied ((M ++ (node M a ∷ [])) ∷ Ls)
   more-tied [] t = more-ranged 1 t
@@ -85,24 +83,28 @@ module _ {S V : Type 0} (r : Round) (rule : RuleSense S) (self : (s : S) → rul
   unfolding agree
   agree-self x = rw (eq-eqb x.all x.all refl, eq-eqb x.some x.some refl, eq-eqb x.finish x.finish refl, eq-eqb x.lasts x.lasts refl) (self x.state)
 
-  and_no : (p q : Bool) → (p && q) ≡ false → (p ≡ false) ⊎ (q ≡ false)
-  and_no true q e = inr e
-  and_no false q e = inl refl
-
   odd-one : (x : Lab r rule tally) (l : List (Lab r rule tally)) → agreeAll r rule tally x l ≡ false → (y : Lab r rule tally) × Among y l × (agree r rule tally x y ≡ false)
   unfolding agreeAll
-  odd-one x [] e = clashing e
-  odd-one x (y ∷ l) e = go (and_no (agree r rule tally x y) (agreeAll r rule tally x l) e) (λ h. odd-one x l h)
-    where
-      go : (agree r rule tally x y ≡ false) ⊎ (agreeAll r rule tally x l ≡ false) → (agreeAll r rule tally x l ≡ false → (z : Lab r rule tally) × Among z l × (agree r rule tally x z ≡ false)) → (z : Lab r rule tally) × Among z (y ∷ l) × (agree r rule tally x z ≡ false)
-      go (inl h) f = (y, inl refl, h)
-      go (inr h) f = let q = f h in (q.0, inr q.1, q.2)
+  odd-one x [] e = absurd (true≢false e)
+  odd-one x (y ∷ l) e =
+      elim (and_cases (agree r rule tally x y) (agreeAll r rule tally x l) e) [
+        | inl h ↦ (y, inl refl, h)
+        | inr h ↦ (let q = odd-one x l h in (q.0, inr q.1, q.2))
+      ]
 
   -- two groups: a first arrival, and one that disagrees with it
-  groups : (l : List (Lab r rule tally)) → agreeing r rule tally l ≡ false → (x : Lab r rule tally) × (headO r rule tally l ≡ Some x) × Among x l × (y : Lab r rule tally) × Among y l × (agree r rule tally x y ≡ false)
+  record Groups (l : List (Lab r rule tally)) : Type 0 where
+    one : Lab r rule tally
+    is_first : headO r rule tally l ≡ Some one
+    one_in : Among one l
+    other : Lab r rule tally
+    other_in : Among other l
+    differ : agree r rule tally one other ≡ false
+
+  groups : (l : List (Lab r rule tally)) → agreeing r rule tally l ≡ false → Groups l
   unfolding agreeing
-  groups [] e = clashing e
-  groups (x ∷ l) e = let q = odd-one x l e in (x, refl, inl refl, q.0, inr q.1, q.2)
+  groups [] e = absurd (true≢false e)
+  groups (x ∷ l) e = let q = odd-one x l e in record { one = x; is_first = refl; one_in = inl refl; other = q.0; other_in = inr q.1; differ = q.2 }
 
   module _ (a : ℕ) (labs : List (Option (Lab r rule tally))) (L M : Layer) (inn : a < length M) (two : agreeing r rule tally (ins (arrive r rule tally) a labs L) ≡ false) where
     abbrev h : Option (Lab r rule tally)
@@ -118,8 +120,8 @@ module _ {S V : Type 0} (r : Round) (rule : RuleSense S) (self : (s : S) → rul
         go (eqb q.0 a && leaves r rule tally h (get_or labs u None) j) q.0 k q.2
       where
         go : (t : Bool) (b : ℕ) → b < length M → cond t (suc (length M)) (suc b) ≡ suc c → c < length (M ++ (node M a ∷ []))
-        go true b k e = omega (arith, length_more M (node M a))
-        go false b k e = omega (arith, length_more M (node M a))
+        go true b k e = omega (arith, length-snoc M (node M a))
+        go false b k e = omega (arith, length-snoc M (node M a))
 
     moves-to : (u j b : ℕ) (q : Bool) → target (node L u) j ≡ suc b → (eqb b a && leaves r rule tally h (get_or labs u None) j) ≡ q → target (node (redirect f L) u) j ≡ cond q (suc (length M)) (suc b)
     moves-to u j b q e t = redirect-arc f L u j b e ∙ ap (λ (z : Bool). cond z (suc (length M)) (suc b)) t
@@ -130,21 +132,21 @@ module _ {S V : Type 0} (r : Round) (rule : RuleSense S) (self : (s : S) → rul
     part-fed : Fed L (length M) → Fed (redirect f L) (length (M ++ (node M a ∷ [])))
     part-fed g c k = new (ltb c (length M)) refl (eqb c a) refl
       where
-        two' : (x : Lab r rule tally) × (h ≡ Some x) × Among x (ins (arrive r rule tally) a labs L) × (y : Lab r rule tally) × Among y (ins (arrive r rule tally) a labs L) × (agree r rule tally x y ≡ false)
+        two' : Groups (ins (arrive r rule tally) a labs L)
         two' = groups (ins (arrive r rule tally) a labs L) two
 
         new : (p : Bool) → ltb c (length M) ≡ p → (q : Bool) → eqb c a ≡ q → (u : ℕ) × (j : ℕ) × (target (node (redirect f L) u) j ≡ suc c)
         new true e true d =
-            let x = two'.0 in
-            let w = ins-from (arrive r rule tally) a labs L x two'.2 in
-            (w.source, w.door, moves-to w.source w.door a false w.arc (at_a x x two'.1 w ∙ ap not (agree-self x)) ∙ ap suc (sym (eqb-true c a d)))
+            let x = two'.one in
+            let w = ins-from (arrive r rule tally) a labs L x two'.one_in in
+            (w.source, w.door, moves-to w.source w.door a false w.arc (at_a x x two'.is_first w ∙ ap not (agree-self x)) ∙ ap suc (sym (eqb-true c a d)))
         new true e false d =
             let s = g c (ltb-true c (length M) e) in
             (s.0, s.1, moves-to s.0 s.1 c false s.2 (ap (λ (z : Bool). z && leaves r rule tally h (get_or labs s.0 None) s.1) d))
         new false e q d =
-            let w = ins-from (arrive r rule tally) a labs L two'.3 two'.4 in
-            let z : c ≡ length M = omega (arith, length_more M (node M a), ltb-false c (length M) e) in
-            (w.source, w.door, moves-to w.source w.door a true w.arc (at_a two'.0 two'.3 two'.1 w ∙ ap not two'.5) ∙ ap suc (sym z))
+            let w = ins-from (arrive r rule tally) a labs L two'.other two'.other_in in
+            let z : c ≡ length M = omega (arith, length-snoc M (node M a), ltb-false c (length M) e) in
+            (w.source, w.door, moves-to w.source w.door a true w.arc (at_a two'.one two'.other two'.is_first w ∙ ap not two'.differ) ∙ ap suc (sym z))
 
     part-led : Led L → Led (redirect f L)
     part-led g u k =
@@ -171,7 +173,7 @@ module _ {S V : Type 0} (r : Round) (rule : RuleSense S) (self : (s : S) → rul
       let labs' = labelsNext r rule tally labs L (length M) in
       let rest = part-tied zero a labs' (M ∷ N ∷ Ls) k e t.3 in
       let n = redirect-length (f a labs' M N k e) M in
-      (subst (Ranged L) (sym n) t.0, subst (Fed L) (sym n) t.1, part-led a labs' M N k e t.2, rest)
+      (rw n t.0, rw n t.1, part-led a labs' M N k e t.2, rest)
   part-tied (suc (suc d)) a labs (L ∷ M ∷ Ls) k e t =
       (t.0, t.1, t.2, part-tied (suc d) a (labelsNext r rule tally labs L (length M)) (M ∷ Ls) k e t.3)
 
@@ -191,7 +193,7 @@ module _ {S V : Type 0} (r : Round) (rule : RuleSense S) (self : (s : S) → rul
   parted-tied (suc zero) a labs (L ∷ M ∷ N ∷ Ls) k e t =
       let rest = parted-tied zero a labs (M ∷ N ∷ Ls) k e t.3 in
       let n = redirect-length (f a labs M N k e) M in
-      (subst (Ranged L) (sym n) t.0, subst (Fed L) (sym n) t.1, part-led a labs M N k e t.2, rest)
+      (rw n t.0, rw n t.1, part-led a labs M N k e t.2, rest)
   parted-tied (suc (suc d)) a labs (L ∷ M ∷ Ls) k e t = (t.0, t.1, t.2, parted-tied (suc d) a labs (M ∷ Ls) k e t.3)
 
 -- ---- join
@@ -219,7 +221,7 @@ target-back x y (suc k) b e = both-back x y k b e
 
 moved-below : (lo hi c : ℕ) → c < hi → moved lo hi c ≡ c
 unfolding moved
-moved-below lo hi c h = ap (λ (q : Bool). cond q lo (cond (ltb hi c) (c - 1) c)) (ne_eqb c hi (omega arith)) ∙ go (ltb hi c) refl
+moved-below lo hi c h = rw (ne_eqb c hi (omega arith)) (go (ltb hi c) refl)
   where
     go : (q : Bool) → ltb hi c ≡ q → cond q (c - 1) c ≡ c
     go true e = let z = ltb-true hi c e in absurd (omega arith)
@@ -227,8 +229,7 @@ moved-below lo hi c h = ap (λ (q : Bool). cond q lo (cond (ltb hi c) (c - 1) c)
 
 moved-above : (lo hi c : ℕ) → hi ≤ c → moved lo hi (suc c) ≡ c
 unfolding moved
-moved-above lo hi c h = ap (λ (q : Bool). cond q lo (cond (ltb hi (suc c)) (suc c - 1) (suc c))) (ne_eqb (suc c) hi (omega arith))
-    ∙ ap (λ (q : Bool). cond q (suc c - 1) (suc c)) (lt-ltb hi (suc c) (omega arith)) ∙ omega arith
+moved-above lo hi c h = rw ((ne_eqb (suc c) hi (omega arith)), (lt-ltb hi (suc c) (omega arith))) (omega arith)
 
 moved_at : (lo hi : ℕ) → moved lo hi hi ≡ lo
 unfolding moved
@@ -249,12 +250,12 @@ module _ (M : Layer) (lo hi : ℕ) (lt : lo < hi) (inn : hi < length M) (nc : cl
     where
       go : (c < hi) ⊎ (hi ≤ c) → (c ≡ lo) ⊎ (¬ (c ≡ lo)) → (a : ℕ) × (target (node M a) j ≡ suc b)
       go (inl k) (inl s) =
-          elim (target-back (node M lo) (node M hi) j b (ap (λ (nd : Outs). target nd j) (sym (drop-below hi c X k ∙ ap (λ (z : ℕ). node X z) s ∙ set_here M lo (bothOut (node M lo) (node M hi)) (omega arith))) ∙ e)) [
+          elim (target-back (node M lo) (node M hi) j b (ap (λ (nd : Outs). target nd j) (sym (drop-below hi c X k ∙ ap (λ (z : ℕ). node X z) s ∙ get_or-set_same M lo (bothOut (node M lo) (node M hi)) [] (omega arith))) ∙ e)) [
             | inl q ↦ (lo, q)
             | inr q ↦ (hi, q)
           ]
-      go (inl k) (inr s) = (c, ap (λ (nd : Outs). target nd j) (sym (drop-below hi c X k ∙ set_there M lo c (bothOut (node M lo) (node M hi)) s)) ∙ e)
-      go (inr k) s = (suc c, ap (λ (nd : Outs). target nd j) (sym (drop-above hi c X k ∙ set_there M lo (suc c) (bothOut (node M lo) (node M hi)) (omega arith))) ∙ e)
+      go (inl k) (inr s) = (c, rw (← (drop-below hi c X k ∙ get_or-set_other M lo c (bothOut (node M lo) (node M hi)) [] s)) e)
+      go (inr k) s = (suc c, rw (← (drop-above hi c X k ∙ get_or-set_other M lo (suc c) (bothOut (node M lo) (node M hi)) [] (omega arith))) e)
 
   join-ranged : (m : ℕ) → Ranged M m → Ranged M' m
   join-ranged m h c j b e = let q = back c j b e in h q.0 j b q.1
@@ -306,5 +307,5 @@ join_tied (suc d) lo hi (L ∷ []) a b n t = absurd (not-suc-le-zero b)
 join_tied (suc zero) lo hi (L ∷ M ∷ []) a b n t = t
 join_tied (suc zero) lo hi (L ∷ M ∷ N ∷ Ls) a b n t =
     let z = redirect-length (λ a j b. suc (moved lo hi b)) M in
-    (subst (Ranged L) (sym z) t.0, subst (Fed L) (sym z) t.1, in-led lo hi M t.2, join_tied zero lo hi (M ∷ N ∷ Ls) a b n t.3)
+    (rw z t.0, rw z t.1, in-led lo hi M t.2, join_tied zero lo hi (M ∷ N ∷ Ls) a b n t.3)
 join_tied (suc (suc d)) lo hi (L ∷ M ∷ Ls) a b n t = (t.0, t.1, t.2, join_tied (suc d) lo hi (M ∷ Ls) a b n t.3)

@@ -1,5 +1,5 @@
 -- Records that are laid out anew have no late finishes.
-use Rattle.std.proofs.Common.{◌≡◌, ℕ, zero, suc, ◌+◌, ◌*◌, ◌≤◌, List, [], ◌∷◌, ◌++◌, map, length, get_or, take, drop, Some, None, Option, sym, refl, ap, ◌∙◌, subst, append_assoc, suc-mul, suc-add, zero-add, zero-mul, arith}
+use Rattle.std.proofs.Common.{◌≡◌, ℕ, zero, suc, ◌+◌, ◌*◌, ◌≤◌, List, [], ◌∷◌, ◌++◌, map, length, get_or, take, drop, Some, None, Option, refl, ap, ◌∙◌, subst, append_assoc, suc-mul, suc-add, zero-add, zero-mul, arith}
 use Rattle.std.specs.List.{AllByRecursion as All}
 use Rattle.std.proofs.ByRecursion.{All-append}
 use Rattle.round.proofs.Clocks.{clock-laws}
@@ -19,7 +19,7 @@ use Rattle.layers.proofs.Ways.{leg-bound}
 -- ---- lists
 take_past : {A : Type 0} (m k : ℕ) (f : ℕ → A) (xs : List A) → take (m + k) (table m f ++ xs) ≡ table m f ++ take k xs
 take_past zero k f xs = ap (λ (c : ℕ). take c xs) (zero-add k)
-take_past (suc m) k f xs = ap (λ (c : ℕ). take c (f 0 ∷ table m (λ i. f (suc i)) ++ xs)) (suc-add m k) ∙ ap (λ (l : List _). f 0 ∷ l) (take_past m k (λ i. f (suc i)) xs)
+take_past (suc m) k f xs = rw (suc-add m k) (ap (λ (l : List _). f 0 ∷ l) (take_past m k (λ i. f (suc i)) xs))
 
 all-table : {A : Type 0} (P : A → Type 0) (m : ℕ) (f : ℕ → A) → ((k : ℕ) → P (f k)) → All P (table m f)
 all-table P zero f h = tt
@@ -37,8 +37,8 @@ module _ {S V : Type 0} (r : Round) (rule : RuleSense S) (tally : TallySense V) 
 
   soon-first : Soon 0 (firsts r rule tally)
   unfolding Soon
-  soon-first zero l e = let x : first r rule tally ≡ l = cc in subst (λ (y : Lab r rule tally). y.finish ≤ latest 0) x (omega arith)
-  soon-first (suc a) l e = let z : ◌≡◌ {A = ℕ} 0 1 = cc in absurd (omega arith)
+  soon-first zero l e = let x : first r rule tally ≡ l = cc in rw (← x) (omega arith)
+  soon-first (suc a) l e = absurd cc
 
   soon-next : (i : ℕ) (labs : List (Option (Lab r rule tally))) (L : Layer) (count : ℕ) → Soon i labs → Soon (suc i) (labelsNext r rule tally labs L count)
   unfolding Soon labelsNext arrive merge
@@ -49,8 +49,7 @@ module _ {S V : Type 0} (r : Round) (rule : RuleSense S) (tally : TallySense V) 
       each : (x : Lab r rule tally) → From (arrive r rule tally) b labs L x → x.finish ≤ latest (suc i)
       each x f =
           let l = f.label in
-          subst (λ (y : Lab r rule tally). y.finish ≤ latest (suc i)) (sym f.is)
-          ((clock-laws r).bound i l.finish (leg r l.lasts f.door) f.door (soon f.source l f.labelled) (leg-bound r l.lasts f.door))
+          rw f.is ((clock-laws r).bound i l.finish (leg r l.lasts f.door) f.door (soon f.source l f.labelled) (leg-bound r l.lasts f.door))
 
   -- a place of such a layer; a blank one has finish 0
   soon-place : (i : ℕ) (labs : List (Option (Lab r rule tally))) → i ≤ 15 → Soon i labs → (k : ℕ) → (orBlank r rule tally (get_or labs k None)).finish ≤ latest 15
@@ -68,7 +67,7 @@ module _ {S V : Type 0} (r : Round) (rule : RuleSense S) (tally : TallySense V) 
   laid-early : (W i : ℕ) (labs : List (Option (Lab r rule tally))) (Ls : Net) (later : List (Node S V)) → i + length Ls ≤ 16 → Soon i labs
       → All Early (take (length Ls * W) (laidFrom r rule tally W labs Ls ++ later))
   unfolding laidFrom
-  laid-early W i labs [] later h soon = subst (λ (c : ℕ). All Early (take c (laidFrom r rule tally W labs [] ++ later))) (sym (zero-mul W)) tt
+  laid-early W i labs [] later h soon = rw (zero-mul W) tt
   laid-early W i labs (L ∷ Ls) later h soon =
       let f = place r rule tally L labs (ups (L ∷ Ls)) in
       let X = laidFrom r rule tally W (labelsNext r rule tally labs L (width Ls)) Ls in
@@ -76,8 +75,7 @@ module _ {S V : Type 0} (r : Round) (rule : RuleSense S) (tally : TallySense V) 
       let both : suc (length Ls) * W ≡ W + m = omega (arith, suc-mul (length Ls) W) in
       let split : take (suc (length Ls) * W) ((table W f ++ X) ++ later) ≡ table W f ++ take m (X ++ later) =
       ap (λ (c : ℕ). take c ((table W f ++ X) ++ later)) both ∙ ap (take (W + m)) (append_assoc (table W f) X later) ∙ take_past W m f (X ++ later) in
-      subst (All Early) (sym split)
-      (All-append Early (table W f) (take m (X ++ later)) (all-table Early W f (soon-place i labs (omega arith) soon))
+      rw split (All-append Early (table W f) (take m (X ++ later)) (all-table Early W f (soon-place i labs (omega arith) soon))
       (laid-early W (suc i) (labelsNext r rule tally labs L (width Ls)) Ls later (omega arith) (soon-next i labs L (width Ls) soon)))
 
 -- the finishes of records that are laid out anew are in time

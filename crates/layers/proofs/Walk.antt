@@ -1,9 +1,9 @@
 -- A label on the way agrees with the beginning that leads to it; so no arc of an allowed order is swept or cut.
-use Rattle.std.proofs.Common.{◌≡◌, ℕ, zero, suc, ◌+◌, ◌-◌, ◌<◌, ◌≤◌, Bool, true, false, cond, ◌||◌, ltb, List, [], ◌∷◌, ◌++◌, length, get_or, Some, None, Option, sym, refl, ap, ◌∙◌, subst, inl, inr, le_trans, le_of_suc-le-suc, not-suc-le-zero, arith}
+use Rattle.std.proofs.Common.{◌≡◌, ℕ, zero, suc, ◌+◌, ◌<◌, ◌≤◌, Bool, true, false, cond, ◌||◌, ltb, List, [], ◌∷◌, ◌++◌, length, get_or, Some, None, Option, sym, refl, ap, ◌∙◌, subst, inl, inr, le_trans, le_of_suc-le-suc, not-suc-le-zero, arith}
 use lib.Bits.{bit_or}
 use lib.Count.{ones}
-use Rattle.std.proofs.lemmas.Bool.{le-ltb, ne_eqb}
-use Rattle.doors.proofs.Orders.{part-next, next-part}
+use Rattle.std.proofs.lemmas.Bool.{le-ltb, ne_eqb, false_from_ne_true}
+use Rattle.doors.proofs.Orders.{in_left, part-next, next-part}
 use Rattle.doors.specs.Orders.{Door, In, PartOrder}
 use Rattle.doors.specs.Sets.{has}
 use Rattle.round.proofs.Clocks.{clock-laws}
@@ -15,13 +15,12 @@ use Rattle.orders.proofs.Times.{trip-van}
 use Rattle.orders.specs.Allowed.{Allowed}
 use Rattle.orders.specs.Costs.{Trip, cost, rides, tripAfter}
 use Rattle.orders.specs.Times.{vanAfter}
-use Rattle.orders.specs.declared.van.Van.{Van}
 use Rattle.layers.specs.declared.node.Up.{Up}
 use Rattle.layers.specs.Flow.{Outs, Layer, Net, node, target, width, Path-from, ins, up}
 use Rattle.layers.specs.Labels.{one, leg, climb, mergeUp, noUp, ups, Lab, first, arrive, merge, firsts, labelsNext, barred}
 use Rattle.layers.proofs.Flows.{Among, redirect-arc, inside, has-arc, next-at, up_at, tidy-keeps, From, ins-from, next-some, gather-all}
 use Rattle.layers.proofs.Sets.{or_left, or_right, or_split, and_left, and_right, one-self, one_only, none_has, ones_in}
-use Rattle.layers.proofs.Ways.{in_split, in-fst, in-snd, part-tail, trip-snoc, van-snoc, length-snoc, snoc-assoc, TimelyFrom, timely-from, leg-le, leg-bound}
+use Rattle.layers.proofs.Ways.{in_split, in-snd, part-tail, trip-snoc, van-snoc, length-snoc, snoc-assoc, TimelyFrom, timely-from, leg-le, leg-bound}
 use Rattle.layers.proofs.Model.{sweeps, sweep}
 
 -- each node has no more targets than there are doors
@@ -41,7 +40,7 @@ node-among [] a h = absurd (not-suc-le-zero h)
 node-among (nd ∷ L) zero h = inl refl
 node-among (nd ∷ L) (suc a) h = inr (node-among L a (le_of_suc-le-suc h))
 
-door-at : (ts : Outs) (k b : ℕ) → get_or ts k 0 ≡ suc b → k < length ts
+pub door-at : (ts : Outs) (k b : ℕ) → get_or ts k 0 ≡ suc b → k < length ts
 door-at [] k b e = absurd (omega arith)
 door-at (t ∷ ts) zero b e = omega arith
 door-at (t ∷ ts) (suc k) b e = let h = door-at ts k b e in omega arith
@@ -50,10 +49,6 @@ pub neat-door : (r : Round) (L : Layer) → NeatLayer r.n L → (a j b : ℕ) �
 neat-door r L neat a zero b e = absurd (omega arith)
 neat-door r L neat a (suc k) b e =
     let h = door-at (node L a) k b e in let g = neat (node L a) (node-among L a (has-arc L a (suc k) b e)) in record { low = omega arith; high = omega arith }
-
-not_so : (b : Bool) → (b ≡ true → ⊥) → b ≡ false
-not_so true f = absurd (f refl)
-not_so false f = refl
 
 module _ {S V : Type 0} {Keeps : List ℕ → Type 0} {Stands : S → List ℕ → Type 0} {Allows : ℕ → V → Type 0} (r : Round) (rule : RuleSense S) (ruled : RuleLaws r.n rule Keeps Stands) (tally : TallySense V) (tallied : TallyLaws r.n tally Allows) where
   -- ---- an order under way
@@ -65,9 +60,9 @@ module _ {S V : Type 0} {Keeps : List ℕ → Type 0} {Stands : S → List ℕ �
 
   pub going_next : (p w : List ℕ) (j : ℕ) → Going p (j ∷ w) → Going (p ++ (j ∷ [])) w
   going_next p w j g = record {
-    part = subst (PartOrder r.n) (sym (snoc-assoc p w j)) g.part;
-    keeps = subst (Keeps) (sym (snoc-assoc p w j)) g.keeps;
-    timely = subst (λ (a : Van). TimelyFrom r a w) (sym (van-snoc r p j)) g.timely.1;
+    part = rw (snoc-assoc p w j) g.part;
+    keeps = rw (snoc-assoc p w j) g.keeps;
+    timely = rw (van-snoc r p j) g.timely.1;
     total = omega (arith, length-snoc p j, g.total);
   }
 
@@ -96,14 +91,14 @@ module _ {S V : Type 0} {Keeps : List ℕ → Type 0} {Stands : S → List ℕ �
   fits-first = record { part = tt; all = λ j h. absurd (none_has j h); some = λ j i. absurd i; finish = omega arith; lasts = refl; state = ruled.start-stands; value = tallied.order-self tally.start }
 
   lesser-left : (a b : V) → tally.notAbove (tally.lesser a b) a ≡ true
-  lesser-left a b = subst (λ (v : V). tally.notAbove v a ≡ true) (sym (tallied.lesser-is a b)) (go (tally.notAbove a b) refl)
+  lesser-left a b = rw (tallied.lesser-is a b) (go (tally.notAbove a b) refl)
     where
       go : (q : Bool) → tally.notAbove a b ≡ q → tally.notAbove (cond q a b) a ≡ true
       go true e = tallied.order-self a
       go false e = tallied.order-total a b e
 
   lesser-right : (a b : V) → tally.notAbove (tally.lesser a b) b ≡ true
-  lesser-right a b = subst (λ (v : V). tally.notAbove v b ≡ true) (sym (tallied.lesser-is a b)) (go (tally.notAbove a b) refl)
+  lesser-right a b = rw (tallied.lesser-is a b) (go (tally.notAbove a b) refl)
     where
       go : (q : Bool) → tally.notAbove a b ≡ q → tally.notAbove (cond q a b) b ≡ true
       go true e = e
@@ -143,11 +138,11 @@ module _ {S V : Type 0} {Keeps : List ℕ → Type 0} {Stands : S → List ℕ �
       let s = (clock-laws r).bound (length p) (tripAfter r tally p).van.finish (drive r (tripAfter r tally p).van.last j) j t.soon le in
       record {
         part = next-part r.n p j t.part d f;
-        soon = subst (λ (z : Trip V). z.van.finish ≤ latest (length (p ++ (j ∷ [])))) (sym e) (subst (λ (k : ℕ). (rides r tally (tripAfter r tally p) j).van.finish ≤ latest k) (sym (length-snoc p j)) s);
+        soon = rw (e, (length-snoc p j)) s;
         fine = subst (λ (z : Trip V). Allows (length (p ++ (j ∷ []))) z.cost) (sym e)
             (subst (λ (z : ℕ). Allows z (rides r tally (tripAfter r tally p) j).cost) (sym (length-snoc p j))
             (tallied.step-allowed (length p) (cost r tally p) j (drive r (tripAfter r tally p).van.last j) (rides r tally (tripAfter r tally p) j).van.finish k d le (within (length p) _ k s) t.fine));
-        here = subst (λ (z : Trip V). z.van.last ≤ r.n) (sym e) d.high;
+        here = rw e d.high;
         last = λ i g h x. g (in-snd i p (j ∷ []) (inl (sym x ∙ ap (λ (z : Trip V). z.van.last) e)));
       }
 
@@ -162,13 +157,13 @@ module _ {S V : Type 0} {Keeps : List ℕ → Type 0} {Stands : S → List ℕ �
       let s = (clock-laws r).bound (length p) (tripAfter r tally p).van.finish (drive r (tripAfter r tally p).van.last j) j t.soon dl in
       record {
         part = (told-next p j t d k n).part;
-        all = λ i h. elim (or_split l.all (one j) i h) [ inl x ↦ in-fst i p (j ∷ []) (f.all i x) | inr x ↦ in-snd i p (j ∷ []) (inl (one_only j i x)) ];
+        all = λ i h. elim (or_split l.all (one j) i h) [ inl x ↦ in_left p (j ∷ []) i (f.all i x) | inr x ↦ in-snd i p (j ∷ []) (inl (one_only j i x)) ];
         some = λ i h. elim (in_split i p (j ∷ []) h) [
           | inl x ↦ or_left l.some (one j) i (f.some i x)
-          | inr x ↦ or_right l.some (one j) i (elim x [ inl y ↦ subst (λ (z : ℕ). has (one j) z ≡ true) (sym y) (one-self j) | inr y ↦ absurd y ])
+          | inr x ↦ or_right l.some (one j) i (elim x [ inl y ↦ rw y (one-self j) | inr y ↦ absurd y ])
         ];
-        finish = subst (λ (z : Trip V). finish r l.finish (leg r l.lasts j) j ≤ z.van.finish) (sym e) early;
-        lasts = subst (λ (z : Trip V). has (one j) z.van.last ≡ true) (sym e) (one-self j);
+        finish = rw e early;
+        lasts = rw e (one-self j);
         state = ruled.step-stands l.state p j (record { part = t.part; door = d; new = n }) f.state;
         value = subst (λ (z : Trip V). tally.notAbove (tally.step l.value j (leg r l.lasts j) (finish r l.finish (leg r l.lasts j) j)) z.cost ≡ true) (sym e)
             (tallied.step-rises (length p) l.value (cost r tally p) j (leg r l.lasts j) (drive r (tripAfter r tally p).van.last j) (finish r l.finish (leg r l.lasts j) j) (rides r tally (tripAfter r tally p) j).van.finish
@@ -181,11 +176,11 @@ module _ {S V : Type 0} {Keeps : List ℕ → Type 0} {Stands : S → List ℕ �
 
   pub good-first : Good 0 (firsts r rule tally)
   unfolding Good
-  good-first zero l e = let x : first r rule tally ≡ l = cc in subst (λ (y : Lab r rule tally). (Allows 0 y.value) × (y.finish ≤ latest 0)) x (tallied.start-allowed, omega arith)
-  good-first (suc a) l e = let z : ◌≡◌ {A = ℕ} 0 1 = cc in absurd (omega arith)
+  good-first zero l e = let x : first r rule tally ≡ l = cc in rw (← x) (tallied.start-allowed, omega arith)
+  good-first (suc a) l e = absurd cc
 
   lesser-fine : (k : ℕ) (a b : V) → Allows k a → Allows k b → Allows k (tally.lesser a b)
-  lesser-fine k a b x y = subst (Allows k) (sym (tallied.lesser-is a b)) (go (tally.notAbove a b))
+  lesser-fine k a b x y = rw (tallied.lesser-is a b) (go (tally.notAbove a b))
     where
       go : (q : Bool) → Allows k (cond q a b)
       go true = x
@@ -207,8 +202,7 @@ module _ {S V : Type 0} {Keeps : List ℕ → Type 0} {Stands : S → List ℕ �
           let lb = leg-bound r f.label.lasts f.door in
           let fin = finish r f.label.finish (leg r f.label.lasts f.door) f.door in
           let early : fin ≤ latest (suc k) = (clock-laws r).bound k f.label.finish (leg r f.label.lasts f.door) f.door g.1 lb in
-          subst (λ (y : Lab r rule tally). (Allows (suc k) y.value) × (y.finish ≤ latest (suc k))) (sym f.is)
-          (tallied.step-allowed k f.label.value f.door (leg r f.label.lasts f.door) fin h d lb (within k fin h early) g.0, early)
+          rw f.is (tallied.step-allowed k f.label.value f.door (leg r f.label.lasts f.door) fin h d lb (within k fin h early) g.0, early)
 
   -- ---- the label at a place fits the beginning p
   unfoldable pub At : List (Option (Lab r rule tally)) → ℕ → List ℕ → Type 0
@@ -233,7 +227,7 @@ pub record FitsUp (u : Up) (w : List ℕ) : Type 0 where
 climb-fits : (u : Up) (j : ℕ) (w : List ℕ) → FitsUp u w → FitsUp (climb u j) (j ∷ w)
 climb-fits u j w f = record {
   all = λ i h. elim (or_split u.allup (one j) i h) [ inl x ↦ inr (f.all i x) | inr x ↦ inl (one_only j i x) ];
-  some = λ i h. elim h [ inl e ↦ or_right u.someup (one j) i (subst (λ (z : ℕ). has (one j) z ≡ true) (sym e) (one-self j)) | inr x ↦ or_left u.someup (one j) i (f.some i x) ];
+  some = λ i h. elim h [ inl e ↦ or_right u.someup (one j) i (rw e (one-self j)) | inr x ↦ or_left u.someup (one j) i (f.some i x) ];
 }
 
 up_left : (x y : Up) (w : List ℕ) → FitsUp x w → FitsUp (mergeUp x y) w
@@ -274,18 +268,18 @@ module _ {S V : Type 0} {Keeps : List ℕ → Type 0} {Stands : S → List ℕ �
       let facts = going-facts p w j g in
       or-none (has l.all j) (ltb (ones (bit_or l.some (one j))) (suc (length p))) (ltb (door r j).closes (finish r l.finish (leg r l.lasts j) j))
       (rule.bars l.state j) (has u.allup j) (ltb (ones (bit_or u.someup (one j))) (suc (length w)))
-      (not_so (has l.all j) (λ h. facts.1 (f.all j h)))
+      (false_from_ne_true (has l.all j) (λ h. facts.1 (f.all j h)))
       (le-ltb (ones (bit_or l.some (one j))) (suc (length p))
-      (subst (λ (k : ℕ). k ≤ ones (bit_or l.some (one j))) (length-snoc p j) (ones_in r.n (bit_or l.some (one j)) (p ++ (j ∷ [])) a.part a.some)))
+      (rw (← (length-snoc p j)) (ones_in r.n (bit_or l.some (one j)) (p ++ (j ∷ [])) a.part a.some)))
       (le-ltb (door r j).closes (finish r l.finish (leg r l.lasts j) j) (le_trans a.finish closing))
-      (not_so (rule.bars l.state j) (λ h. ruled.bars-breaks l.state p j (part-next r.n p j w g.part) f.state h
-      (ruled.keeps-front (p ++ (j ∷ [])) w (subst (PartOrder r.n) (sym (snoc-assoc p w j)) g.part) (subst Keeps (sym (snoc-assoc p w j)) g.keeps))))
-      (not_so (has u.allup j) (λ h. (part-tail r.n p (j ∷ w) g.part).1 (fu.all j h)))
+      (false_from_ne_true (rule.bars l.state j) (λ h. ruled.bars-breaks l.state p j (part-next r.n p j w g.part) f.state h
+      (ruled.keeps-front (p ++ (j ∷ [])) w (rw (snoc-assoc p w j) g.part) (rw (snoc-assoc p w j) g.keeps))))
+      (false_from_ne_true (has u.allup j) (λ h. (part-tail r.n p (j ∷ w) g.part).1 (fu.all j h)))
       (le-ltb (ones (bit_or u.someup (one j))) (suc (length w))
       (ones_in r.n (bit_or u.someup (one j)) (j ∷ w) (part-tail r.n p (j ∷ w) g.part) (climb-fits u j w fu).some))
     where
       closing : (tripAfter r tally (p ++ (j ∷ []))).van.finish ≤ (door r j).closes
-      closing = subst (λ (v : Van). v.finish ≤ (door r j).closes) (sym (van-snoc r p j) ∙ sym (trip-van r tally (p ++ (j ∷ [])))) g.timely.0
+      closing = rw (← (sym (van-snoc r p j) ∙ sym (trip-van r tally (p ++ (j ∷ []))))) g.timely.0
 
   pub sweeps-keep : (p w : List ℕ) (labs : List (Option (Lab r rule tally))) (Ls : Net) (a : ℕ) → Going r rule ruled tally tallied p w → Told r rule ruled tally tallied p → At r rule ruled tally tallied labs a p
       → Good r rule ruled tally tallied (length p) labs → Neat r.n Ls → Path-from Ls a w → Path-from (sweeps r rule tally (length p) labs Ls) a w
@@ -305,10 +299,10 @@ module _ {S V : Type 0} {Keeps : List ℕ → Type 0} {Stands : S → List ℕ �
       let good' = good-next r rule ruled tally tallied (length p) labs L (width Ls) facts.2 good neat.0 in
       let rest = sweeps-keep (p ++ (j ∷ [])) w (labelsNext r rule tally labs L (width Ls)) Ls b (going_next r rule ruled tally tallied p w j g)
       (told-next r rule ruled tally tallied p j t facts.0 facts.2 facts.1) next'
-      (subst (λ (k : ℕ). Good r rule ruled tally tallied k (labelsNext r rule tally labs L (width Ls))) (sym (length-snoc p j)) good') neat.1 q.2 in (
+      (rw (length-snoc p j) good') neat.1 q.2 in (
         b,
         redirect-arc (λ a j b. cond (barred r rule tally (length p) (suc (length Ls)) j (get_or labs a None) (get_or (ups Ls) b None)) 0 (suc b)) L a j b q.1 ∙ ap (λ (z : Bool). cond z 0 (suc b)) nb',
-        subst (λ (k : ℕ). Path-from (sweeps r rule tally k (labelsNext r rule tally labs L (width Ls)) Ls) b w) (length-snoc p j) rest,
+        rw (← (length-snoc p j)) rest,
       )
 
   -- an allowed order, not yet under way

@@ -1,7 +1,7 @@
 -- Part orders and their beginnings, the van on its way, and legs.
 use Rattle.std.proofs.Common.{◌≡◌, ℕ, zero, suc, ◌+◌, ◌<◌, ◌≤◌, min, Bool, true, false, not, ◌&&◌, eqb, ◌⊎◌, List, [], ◌∷◌, ◌++◌, length, Some, None, fold, Option, sym, refl, ap, ◌∙◌, subst, inl, inr, append_assoc, arith, length-append}
 use Rattle.std.proofs.lemmas.List.Sums.{fold_push}
-use Rattle.std.proofs.lemmas.Bool.{eqb-true, eqb-false}
+use Rattle.std.proofs.lemmas.Bool.{eqb-true, eqb-false, and_parts}
 use Rattle.std.specs.List.{range_with_len}
 use Rattle.doors.specs.Orders.{In, PartOrder}
 use Rattle.doors.specs.Sets.{has}
@@ -25,11 +25,6 @@ in_split j (x ∷ u) v (inr h) = go (in_split j u v h)
     go (inl a) = inl (inr a)
     go (inr a) = inr a
 
-pub in-fst : (j : ℕ) (u v : List ℕ) → In j u → In j (u ++ v)
-in-fst j [] v h = absurd h
-in-fst j (x ∷ u) v (inl e) = inl e
-in-fst j (x ∷ u) v (inr h) = inr (in-fst j u v h)
-
 pub in-snd : (j : ℕ) (u v : List ℕ) → In j v → In j (u ++ v)
 in-snd j [] v h = h
 in-snd j (x ∷ u) v h = inr (in-snd j u v h)
@@ -38,7 +33,7 @@ pub part-tail : (n : ℕ) (u v : List ℕ) → PartOrder n (u ++ v) → PartOrde
 part-tail n [] v p = p
 part-tail n (x ∷ u) v p = part-tail n u v p.2
 
-pub length-snoc : (p : List ℕ) (j : ℕ) → length (p ++ (j ∷ [])) ≡ suc (length p)
+pub length-snoc : {A : Type 0} (p : List A) (j : A) → length (p ++ (j ∷ [])) ≡ suc (length p)
 length-snoc p j = omega (arith, length-append p (j ∷ []))
 
 pub snoc-assoc : (p w : List ℕ) (j : ℕ) → (p ++ (j ∷ [])) ++ w ≡ p ++ (j ∷ w)
@@ -63,12 +58,8 @@ pub timely-from : (r : Round) (p w : List ℕ) → Timely r (p ++ w) → TimelyF
 timely-from r p [] h = tt
 timely-from r p (j ∷ w) h = (
   subst (λ (a : Van). a.finish ≤ (door r j).closes) (van-snoc r p j) (h p j w refl),
-  subst (λ (a : Van). TimelyFrom r a w) (van-snoc r p j) (timely-from r (p ++ (j ∷ [])) w (subst (Timely r) (sym (snoc-assoc p w j)) h)),
+  rw (← (van-snoc r p j)) (timely-from r (p ++ (j ∷ [])) w (rw (snoc-assoc p w j) h)),
 )
-
--- ---- tests
-pub clashing : {X : Type 0} → true ≡ false → X
-clashing e = let z : ◌≡◌ {A = ℕ} 0 1 = cc in absurd (omega arith)
 
 -- ---- legs
 -- the places i, i + 1, .. , k of them, after what is known from those below
@@ -100,11 +91,9 @@ module _ (r : Round) (m j : ℕ) where
           → or_zero (legs r m j k (i + 1) (nearestIf (has m i && not (eqb i j)) o (drive r i j))) ≤ drive r t j
       go true e f =
           let s : i ≡ t = eqb-true i t e in
-          let x : (has m i && not (eqb i j)) ≡ true = subst (λ (y : ℕ). (has m y && not (eqb y j)) ≡ true) (sym s) (rw (h, g) refl) in
+          let x : (has m i && not (eqb i j)) ≡ true = rw (s, h, g) refl in
           let y = near o (drive r i j) in
-          subst (λ (b : Bool). or_zero (legs r m j k (i + 1) (nearestIf b o (drive r i j))) ≤ drive r t j) (sym x)
-          (subst (λ (p : Option ℕ). or_zero (legs r m j k (i + 1) p) ≤ drive r t j) (sym y.1)
-          (legs-below k (i + 1) y.0 (drive r t j) (subst (λ (z : ℕ). y.0 ≤ drive r z j) s y.2)))
+          rw (x, y.1) (legs-below k (i + 1) y.0 (drive r t j) (rw (← s) y.2))
       go false e f = f (differ i t a e)
         where
           differ : (x y : ℕ) → x ≤ y → eqb x y ≡ false → x + 1 ≤ y
@@ -134,15 +123,11 @@ module _ (r : Round) (t j : ℕ) where
   near-stay true i f = let e = f refl in ap (λ (x : ℕ). Some x) (let y : drive r i j ≡ drive r t j = ap (λ (z : ℕ). drive r z j) e in omega arith)
   near-stay false i f = refl
 
-  and-fst : (p q : Bool) → (p && q) ≡ true → p ≡ true
-  and-fst true q e = refl
-  and-fst false q e = e
-
   legs-stay : (k i : ℕ) → legs r (one t) j k i (Some (drive r t j)) ≡ Some (drive r t j)
   unfolding legStep
   legs-stay zero i = refl
   legs-stay (suc k) i =
-      ap (legs r (one t) j k (i + 1)) (near-stay (has (one t) i && not (eqb i j)) i (λ e. one_only t i (and-fst (has (one t) i) (not (eqb i j)) e))) ∙ legs-stay k (i + 1)
+      ap (legs r (one t) j k (i + 1)) (near-stay (has (one t) i && not (eqb i j)) i (λ e. one_only t i (and_parts (has (one t) i) (not (eqb i j)) e).0)) ∙ legs-stay k (i + 1)
 
   legs_one : (k i : ℕ) → i ≤ t → t < i + k → eqb t j ≡ false → legs r (one t) j k i None ≡ Some (drive r t j)
   unfolding legStep
@@ -153,11 +138,11 @@ module _ (r : Round) (t j : ℕ) where
           → legs r (one t) j k (i + 1) (nearestIf (has (one t) i && not (eqb i j)) None (drive r i j)) ≡ Some (drive r t j)
       go true e f =
           let s : i ≡ t = eqb-true i t e in
-          let x : (has (one t) i && not (eqb i j)) ≡ true = subst (λ (y : ℕ). (has (one t) y && not (eqb y j)) ≡ true) (sym s) (rw (one-self t, g) refl) in
+          let x : (has (one t) i && not (eqb i j)) ≡ true = rw (s, one-self t, g) refl in
           ap (λ (b : Bool). legs r (one t) j k (i + 1) (nearestIf b None (drive r i j))) x ∙ ap (λ (y : ℕ). legs r (one t) j k (i + 1) (Some (drive r y j))) s ∙ legs-stay k (i + 1)
       go false e f =
           let x : (has (one t) i && not (eqb i j)) ≡ false = off (has (one t) i) refl in
-          ap (λ (b : Bool). legs r (one t) j k (i + 1) (nearestIf b None (drive r i j))) x ∙ f (omega (arith, eqb-false i t e))
+          rw x (f (omega (arith, eqb-false i t e)))
         where
           off : (q : Bool) → has (one t) i ≡ q → (q && not (eqb i j)) ≡ false
           off true h = absurd (eqb-false i t e (one_only t i h))

@@ -1,6 +1,6 @@
 -- Refine that answers whole leaves a settled diagram: each layer that it has parted through has keys, and keeps them while later layers are swept and parted.
-use Rattle.std.proofs.Common.{◌≡◌, ℕ, zero, suc, ◌+◌, ◌-◌, ◌*◌, ◌<◌, ◌≤◌, Bool, true, false, cond, not, ◌&&◌, eqb, leb, ◌⊎◌, List, [], ◌∷◌, length, get_or, drop, Some, None, Option, sym, refl, ap, ◌∙◌, subst, inl, inr, not-suc-le-zero, arith}
-use Rattle.std.proofs.lemmas.Bool.{not-false, leb-true, leb-false, eqb-true, eqb-false, eq-eqb, cases_eq}
+use Rattle.std.proofs.Common.{◌≡◌, ℕ, zero, suc, ◌+◌, ◌-◌, ◌*◌, ◌<◌, ◌≤◌, Bool, true, false, cond, ◌&&◌, eqb, leb, ◌⊎◌, List, [], ◌∷◌, length, get_or, drop, Some, None, Option, sym, refl, ap, ◌∙◌, subst, inl, inr, not-suc-le-zero, arith}
+use Rattle.std.proofs.lemmas.Bool.{true≢false, not-false, leb-true, leb-false, eqb-true, eqb-false, eq-eqb, cases_eq}
 use Rattle.round.specs.declared.table.Round.{Round}
 use Rattle.rules.specs.Rules.{RuleLaws, RuleSense}
 use Rattle.tallies.specs.Tallies.{TallySense}
@@ -11,7 +11,6 @@ use Rattle.layers.specs.Records.{orBlank}
 use Rattle.layers.specs.Calls.{Refine, refined, settled}
 use Rattle.layers.specs.Claim.{Whole-settles}
 use Rattle.layers.proofs.Flows.{Among, From, has-arc, ins-in, ins-from, next-some, next-at, gather-all}
-use Rattle.layers.proofs.Ways.{clashing}
 use Rattle.layers.proofs.Model.{sweep, part_at, oneGroup, count, swept, parted, refines, refine, act, after, settled as settled_of}
 use Rattle.layers.proofs.Calls.{either}
 use Rattle.layers.proofs.Counts.{sweep-fewer, settled-yes, settled-if}
@@ -62,11 +61,10 @@ module _ {S V : Type 0} {Keeps : List ℕ → Type 0} {Stands : S → List ℕ �
         go w c e true t g = absurd (omega arith)
         go w c e false t g =
             let z : c ≡ b = omega arith in record {
-              here = subst (λ (m : Lab r rule tally). Among m (arrivals b L)) (sym w.is) (ins-in (arrive r rule tally) (merge r rule tally) b labs L w.source w.door w.label (e ∙ ap suc z) w.labelled);
+              here = rw w.is (ins-in (arrive r rule tally) (merge r rule tally) b labs L w.source w.door w.label (e ∙ ap suc z) w.labelled);
               stays = λ n x m. not-false (agree r rule tally x y)
-                  (ap (λ (v : Lab r rule tally). not (agree r rule tally x v)) w.is
-                  ∙ sym (rw (eq-eqb c a (z ∙ n), m, w.labelled) refl)
-                  ∙ t);
+                  (rw w.is (sym (rw (eq-eqb c a (z ∙ n), m, w.labelled) refl)
+                  ∙ t));
             }
 
     head_of : (l : List (Lab r rule tally)) (y : Lab r rule tally) → Among y l → (x : Lab r rule tally) × (headO r rule tally l ≡ Some x)
@@ -78,7 +76,7 @@ module _ {S V : Type 0} {Keeps : List ℕ → Type 0} {Stands : S → List ℕ �
       where
         go : (b ≡ a) ⊎ (b ≡ a → ⊥) → (y z : Lab r rule tally) → Was b y → Was b z → Agree r rule ruled tally y z
         go (inl e) y z p q =
-            let x = head_of (arrivals a L) y (subst (λ (c : ℕ). Among y (arrivals c L)) e p.here) in
+            let x = head_of (arrivals a L) y (rw (← e) p.here) in
             agree-back r rule ruled tally x.0 y z (agree-yes r rule ruled tally x.0 y (p.stays e x.0 x.1)) (agree-yes r rule ruled tally x.0 z (q.stays e x.0 x.1))
         go (inr n) y z p q = pairs r rule ruled tally (arrivals b L) (g b (omega arith)) y z p.here q.here
 
@@ -118,7 +116,7 @@ module _ {S V : Type 0} {Keeps : List ℕ → Type 0} {Stands : S → List ℕ �
             let m = gather-all (merge r rule tally) (Agree r rule ruled tally x) (agree-merge r rule ruled tally x) l0 n.0
             (λ z i. agree-back r rule ruled tally y x z (agree-back r rule ruled tally x y x p (agree-self r rule ruled tally x)) (pairs r rule ruled tally l0 (g b h) y z (ins-in (arrive r rule tally) (merge r rule tally) b labs L a j l.0 e l.1) i))
             (next-some (arrive r rule tally) (merge r rule tally) labs L (length M) b n.0 n.1) in
-            subst (λ (o : Option (Lab r rule tally)). Agree r rule ruled tally x (orBlank r rule tally o)) (sym n.1) m
+            rw n.1 m
     keyed-more (suc d) K labs (L ∷ M ∷ Ls) t fit full k g =
         (k.0, k.1, keyed-more d k.0 (labelsNext r rule tally labs L (length M)) (M ∷ Ls) t.3 (fit_next r rule ruled tally labs K k.0 fit L k.1 (length M)) (labels_full r rule tally W w labs L M Ls t full) k.2 g)
 
@@ -132,7 +130,7 @@ module _ {S V : Type 0} {Keeps : List ℕ → Type 0} {Stands : S → List ℕ �
     through d Ls p k g = keyed-more d (λ a. first r rule tally) (firsts r rule tally) Ls p.tied (fit-first r rule ruled tally) (filled Ls p.one-first) k g
 
     one_more : (P : ℕ → Type 0) (a : ℕ) → ((b : ℕ) → b < a → P b) → P a → (b : ℕ) → b < suc a → P b
-    one_more P a g e b h = elim (cases_eq b a) [ inl n ↦ subst P (sym n) e | inr n ↦ g b (omega arith) ]
+    one_more P a g e b h = elim (cases_eq b a) [ inl n ↦ rw n e | inr n ↦ g b (omega arith) ]
 
     -- a layer is parted without being found full: k nodes more, from the one at place a on
     parted-keyed : (k d a : ℕ) (Ls : Net) → W ≤ a + k → Proper r.n W Ls → KeyedTo r rule ruled tally d Ls → ((b : ℕ) → b < a → oneGroup r rule tally d b (firsts r rule tally) Ls ≡ true)
@@ -142,10 +140,9 @@ module _ {S V : Type 0} {Keeps : List ℕ → Type 0} {Stands : S → List ℕ �
     parted-keyed (suc k) d a Ls u p q g =
         either Done (leb (count r rule tally (suc d) Ls) a) (false, Ls) _ (λ x e. through d Ls p q (λ b h. g b (omega (arith, leb-true (count r rule tally (suc d) Ls) a x)))) (λ x.
         either Done (oneGroup r rule tally (suc d - 1) a (firsts r rule tally) Ls) (parted r rule tally W k (suc d) (suc a) Ls) _ (λ y. parted-keyed k d (suc a) Ls (omega arith) p q (one_more (λ b. oneGroup r rule tally d b (firsts r rule tally) Ls ≡ true) a g (group true y))) (λ y.
-        either Done (leb W (count r rule tally (suc d) Ls)) (true, Ls) (parted r rule tally W k (suc d) (suc a) (P (suc d - 1))) (λ z e. clashing e) (λ z.
+        either Done (leb W (count r rule tally (suc d) Ls)) (true, Ls) (parted r rule tally W k (suc d) (suc a) (P (suc d - 1))) (λ z e. absurd (true≢false e)) (λ z.
         let inn = leb-false (count r rule tally (suc d) Ls) a x in
-        subst (λ (m : ℕ). Done (parted r rule tally W k (suc d) (suc a) (P m))) (sym less)
-        (parted-keyed k d (suc a) (P d) (omega arith) (proper-part r rule ruled.same_self tally W w d a Ls inn (leb-false W (count r rule tally (suc d) Ls) z) (group false y) p) (keyed-part r rule ruled tally d d a Ls p.tied q) (part-groups d a (firsts r rule tally) Ls inn g)))))
+        rw less (parted-keyed k d (suc a) (P d) (omega arith) (proper-part r rule ruled.same_self tally W w d a Ls inn (leb-false W (count r rule tally (suc d) Ls) z) (group false y) p) (keyed-part r rule ruled tally d d a Ls p.tied q) (part-groups d a (firsts r rule tally) Ls inn g)))))
       where
         P : ℕ → Net
         P m = part_at r rule tally m a (firsts r rule tally) Ls
@@ -157,7 +154,7 @@ module _ {S V : Type 0} {Keeps : List ℕ → Type 0} {Stands : S → List ℕ �
         less = omega arith
 
         group : (t : Bool) → oneGroup r rule tally (suc d - 1) a (firsts r rule tally) Ls ≡ t → oneGroup r rule tally d a (firsts r rule tally) Ls ≡ t
-        group t y = subst (λ (m : ℕ). oneGroup r rule tally m a (firsts r rule tally) Ls ≡ t) less y
+        group t y = rw (← less) y
 
     -- k layers, from layer d + 1 on
     refines-keyed : (k d : ℕ) (Ls : Net) → Proper r.n W Ls → KeyedTo r rule ruled tally d Ls → (refines r rule tally W k (suc d) Ls).0 ≡ 0 → KeyedTo r rule ruled tally (d + k) (refines r rule tally W k (suc d) Ls).1
@@ -182,7 +179,7 @@ module _ {S V : Type 0} {Keeps : List ℕ → Type 0} {Stands : S → List ℕ �
         let s = sweep r rule tally Ls in
         either (λ (z : Net). settled_of r rule tally z ≡ true) (eqb (countArcs s) (countArcs Ls)) s (swept r rule tally W k s)
         (λ e. let t = settled-if r rule tally Ls (keyed-agrees r rule ruled tally (r.n - 1) Ls (omega (arith, p.deep)) q) (eqb-true (countArcs s) (countArcs Ls) e) in
-        subst (λ (z : Net). settled_of r rule tally z ≡ true) (sym (settled-yes r rule tally Ls p.one-first p.tied t).1) t)
+        rw (settled-yes r rule tally Ls p.one-first p.tied t).1 t)
         (λ e. swept-settles k s (omega (arith, sweep-fewer r rule tally Ls, eqb-false (countArcs s) (countArcs Ls) e)) (proper-sweep r rule tally W w Ls p) (keyed-sweep r rule ruled tally (r.n - 1) Ls q))
 
     pub refine-settles : (Ls : Net) → Proper r.n W Ls → (refine r rule tally W Ls).0 ≡ 0 → settled_of r rule tally (refine r rule tally W Ls).1 ≡ true
@@ -201,5 +198,4 @@ whole-settles {S} {V} A rule tally ruled r e W a b lent cs =
     let p = proper-after r rule x.same_self tally W a cs (opened r rule tally) (proper-opened r rule tally W a) in
     let q = proper-after r rule x.same_self tally W a (Refine ∷ []) D p in
     let Goal : ℕ × List (Node S V) → Type 0 = λ z. z.0 ≡ 0 → settled r rule tally W z.1 ≡ true in
-    subst Goal (sym (ap (refined r rule tally W) (run-opened r rule x.same_self tally W a lent cs) ∙ refined-X r rule x.same_self tally W a l D p))
-    (λ h. settled-X r rule x.same_self tally W a l (refine r rule tally W D).1 q ∙ refine-settles r rule x tally W a D p h)
+    rw (ap (refined r rule tally W) (run-opened r rule x.same_self tally W a lent cs) ∙ refined-X r rule x.same_self tally W a l D p) (λ h. settled-X r rule x.same_self tally W a l (refine r rule tally W D).1 q ∙ refine-settles r rule x tally W a D p h)

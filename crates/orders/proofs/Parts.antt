@@ -1,21 +1,18 @@
 -- A set of the doors seen so far tells whether a list is a part order.
-use Rattle.std.proofs.Common.{◌≡◌, ℕ, ◌+◌, ◌^◌, ◌<◌, ◌≤◌, true, false, not, ◌&&◌, ◌⊎◌, List, [], ◌∷◌, ◌++◌, length, get_or, take, drop, sym, refl, ap, ◌∙◌, subst, inl, inr, ⊎_elim, arith, take-append-drop}
+use Rattle.std.proofs.Common.{◌≡◌, ℕ, ◌+◌, ◌^◌, ◌<◌, false, not, ◌&&◌, List, [], ◌∷◌, ◌++◌, length, get_or, take, drop, sym, ap, ◌∙◌, subst, inl, inr, ⊎_elim, take-append-drop}
 use lib.Bits.{bit_or}
 use Rattle.std.proofs.lemmas.List.{take_more, drop_more}
 use Rattle.std.proofs.lemmas.Bool.{cases_Bool, both_ways, and_from, not_from_false}
-use Rattle.doors.specs.Orders.{In, Door, PartOrder, Next, isDoor, isPartOrder}
+use Rattle.doors.specs.Orders.{In, Door, PartOrder, isDoor, isPartOrder}
 use Rattle.doors.specs.Sets.{Has, has}
 use Rattle.doors.proofs.Orders.{door-is, is-part, next-part, part-next, in-last, last-in}
-use Rattle.doors.proofs.Sets.{has-none, has-true, has_left, has-added, has_more}
+use Rattle.doors.proofs.Sets.{has-true, has_left, has-added, has_more}
 
 -- w is a part order, and the set has its doors and no other
 pub record Seen (n set : ℕ) (w : List ℕ) : Type 0 where
   pub part : PartOrder n w
   pub has_in : (j : ℕ) → Has set j → In j w
   pub in-has : (j : ℕ) → In j w → Has set j
-
-pub seen_none : (n : ℕ) → Seen n 0 []
-seen_none n = record { part = tt; has_in = λ j h. absurd (has-none j h); in-has = λ j h. absurd h }
 
 seen_last : (n set : ℕ) (w : List ℕ) (j : ℕ) → Seen n set w → Door n j → (Has set j → ⊥) → Seen n (bit_or set (2 ^ j)) (w ++ j ∷ [])
 seen_last n set w j s d new = record {

@@ -1,5 +1,5 @@
 -- Finishes on the way of a list of doors.
-use Rattle.std.proofs.Common.{◌≡◌, ℕ, suc, ◌+◌, ◌*◌, ◌<◌, ◌≤◌, true, List, [], ◌∷◌, ◌++◌, map, length, get_or, take, fold, sym, refl, ap, ◌∙◌, subst, ap₂, ⊎_elim, arith, length-take}
+use Rattle.std.proofs.Common.{◌≡◌, ℕ, suc, ◌+◌, ◌<◌, ◌≤◌, true, List, [], ◌∷◌, ◌++◌, map, length, get_or, take, fold, sym, refl, ap, ◌∙◌, ap₂, ⊎_elim, arith, length-take}
 use Rattle.std.specs.List.{range_with_len}
 use Rattle.std.proofs.lemmas.List.FromFn.{get_or-map-range_with_len, length-map-range_with_len, map-range_with_len_more}
 use Rattle.std.proofs.lemmas.List.{get_or_past}
@@ -9,7 +9,7 @@ use Rattle.doors.specs.Orders.{isPartOrder}
 use Rattle.doors.proofs.Orders.{is-part}
 use Rattle.doors.proofs.Sets.{part_length}
 use Rattle.round.specs.declared.table.Round.{Round}
-use Rattle.round.specs.Clock.{latest, finish, drive}
+use Rattle.round.specs.Clock.{latest, drive}
 use Rattle.round.proofs.Clocks.{clock-laws}
 use Rattle.orders.specs.declared.van.Van.{Van}
 use Rattle.tallies.specs.Tallies.{TallySense}

@@ -1,6 +1,5 @@
 -- A verdict, door by door, and what it means.
-use Rattle.std.proofs.Common.{◌≡◌, ℕ, ◌+◌, ◌<◌, ◌≤◌, Bool, true, false, cond, ltb, ◌⊎◌, List, [], ◌∷◌, ◌++◌, length, get_or, drop, fold, sym, refl, ap, ◌∙◌, subst, inl, inr, ⊎_elim, append_assoc, append-nil, arith}
-use Rattle.std.proofs.lemmas.List.{drop_more}
+use Rattle.std.proofs.Common.{◌≡◌, ℕ, ◌≤◌, true, false, ltb, List, [], ◌∷◌, ◌++◌, length, sym, refl, ap, ◌∙◌, subst, ⊎_elim, append_assoc, append-nil, arith}
 use Rattle.std.proofs.lemmas.List.Sums.{fold_push}
 use Rattle.std.proofs.lemmas.Bool.{cases_Bool, cond-true, cond-false, ltb-true, ltb-false}
 use Rattle.doors.specs.Orders.{PartOrder, Next}
@@ -10,24 +9,9 @@ use Rattle.round.specs.Clock.{door}
 use Rattle.rules.specs.Rules.{RuleSense, RuleLaws, state_of}
 use Rattle.rules.proofs.States.{state-stands}
 use Rattle.orders.specs.declared.van.Van.{Van}
-use Rattle.orders.specs.declared.verdict.Verdict.{Verdict}
 use Rattle.orders.specs.declared.verdict.Verdict.TheVariants as is
-use Rattle.orders.specs.Allowed.{Allowed}
 use Rattle.orders.specs.Times.{yard, goes, vanAfter, finishOf, Timely}
-use Rattle.orders.specs.Verdicts.{verdictFrom, Fault, Judged}
-
-module _ {S : Type 0} (r : Round) (R : RuleSense S) (a : Van) (s : S) (w : List ℕ) (i : ℕ) where
-  next : i < length w → verdictFrom r R a s (drop i w) ≡ verdictFrom r R a s (get_or w i 0 ∷ drop (i + 1) w)
-  next h = ap (verdictFrom r R a s) (drop_more w i 0 h)
-
-  pub closes_at : i < length w → ltb (door r (get_or w i 0)).closes (goes r a (get_or w i 0)).finish ≡ true → verdictFrom r R a s (drop i w) ≡ is.Closes (get_or w i 0)
-  closes_at h e = next h ∙ cond-true _ _ _ e
-
-  pub breaks-at : i < length w → ltb (door r (get_or w i 0)).closes (goes r a (get_or w i 0)).finish ≡ false → R.bars s (get_or w i 0) ≡ true → verdictFrom r R a s (drop i w) ≡ is.Breaks (get_or w i 0)
-  breaks-at h e b = next h ∙ cond-false _ _ _ e ∙ cond-true _ _ _ b
-
-  pub goes_on : i < length w → ltb (door r (get_or w i 0)).closes (goes r a (get_or w i 0)).finish ≡ false → R.bars s (get_or w i 0) ≡ false → verdictFrom r R a s (drop i w) ≡ verdictFrom r R (goes r a (get_or w i 0)) (R.step s (get_or w i 0)) (drop (i + 1) w)
-  goes_on h e b = next h ∙ cond-false _ _ _ e ∙ cond-false _ _ _ b
+use Rattle.orders.specs.Verdicts.{verdictFrom, Judged}
 
 -- ---- the meaning
 

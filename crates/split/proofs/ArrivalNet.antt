@@ -14,45 +14,10 @@ use Rattle.layers.specs.Records.{standing, arcsIn, downsIn, padded, arcsAt}
 use Rattle.layers.specs.Calls.{arrivals as arrivalsIn}
 use Rattle.layers.proofs.Flows.{table_at}
 use Rattle.labels.specs.Passes.{byDoor, fromNode, arrivals}
+use Rattle.labels.proofs.Inward.{over-door, doors-in}
 use Rattle.labels.proofs.Laying.{arcsOf}
 
 module _ {S V : Type 0} (r : Round) (R : RuleSense S) (T : TallySense V) where
-  abbrev over-door : ℕ → List ℕ → Down S V → ℕ → List (Down S V)
-  over-door t to l k = cond (eqb (get_or to k 0) t) (arrive r R T l (k + 1) ∷ []) []
-
-  put-cond : (q : Bool) (x : Down S V) (rest : List (Down S V)) → cond q (x ∷ []) [] ++ rest ≡ put q x rest
-  put-cond true x rest = refl
-  put-cond false x rest = refl
-
-  no-door : (b : ℕ) (to : List ℕ) (l : Down S V) (k : ℕ) → get_or to k 0 ≡ 0 → over-door (suc b) to l k ≡ []
-  no-door b to l k e = cond-false (eqb (get_or to k 0) (suc b)) _ [] (ne_eqb (get_or to k 0) (suc b) (λ h. omega arith))
-
-  -- over m doors from a on, of which those past ts have no arc
-  doors-in : (b : ℕ) (l : Down S V) (ts to : List ℕ) (a m : ℕ) → length ts ≤ m → ((i : ℕ) → i < m → get_or to (a + i) 0 ≡ get_or ts i 0)
-      → flat_map (over-door (suc b) to l) (range_with_len a m) ≡ insDoor (arrive r R T) b l (suc a) ts
-  unfolding insDoor
-  doors-in b l [] to a zero h e = refl
-  doors-in b l (x ∷ ts) to a zero h e = absurd (omega arith)
-  doors-in b l [] to a (suc m) h e =
-      ap (λ ys. ys ++ flat_map (over-door (suc b) to l) (range_with_len (a + 1) m)) (no-door b to l a (here ∙ e 0 (omega arith)))
-      ∙ doors-in b l [] to (a + 1) m (omega arith) (λ i g. ap (λ (k : ℕ). get_or to k 0) (there i) ∙ e (suc i) (omega arith))
-    where
-      here : get_or to a 0 ≡ get_or to (a + 0) 0
-      here = ap (λ (k : ℕ). get_or to k 0) (omega arith)
-
-      there : (i : ℕ) → a + 1 + i ≡ a + suc i
-      there i = omega arith
-  doors-in b l (x ∷ ts) to a (suc m) h e =
-      ap₂ (λ (d : ℕ) (j : ℕ). cond (eqb d (suc b)) (arrive r R T l j ∷ []) [] ++ flat_map (over-door (suc b) to l) (range_with_len (a + 1) m)) (here ∙ e 0 (omega arith)) (add-one a)
-      ∙ ap (λ ys. cond (eqb x (suc b)) (arrive r R T l (suc a) ∷ []) [] ++ ys) (doors-in b l ts to (a + 1) m (omega arith) (λ i g. ap (λ (k : ℕ). get_or to k 0) (there i) ∙ e (suc i) (omega arith)) ∙ ap (λ (k : ℕ). insDoor (arrive r R T) b l (suc k) ts) (add-one a))
-      ∙ put-cond (eqb x (suc b)) (arrive r R T l (suc a)) (insDoor (arrive r R T) b l (suc (suc a)) ts)
-    where
-      here : get_or to a 0 ≡ get_or to (a + 0) 0
-      here = ap (λ (k : ℕ). get_or to k 0) (omega arith)
-
-      there : (i : ℕ) → a + 1 + i ≡ a + suc i
-      there i = omega arith
-
   -- a record that is not in use, one that is, and one without arcs
   from-unused : (t : ℕ) (u : Node S V) → eqb u.label.down.lasts 0 ≡ true → fromNode r R T t u ≡ []
   unfolding fromNode
@@ -62,8 +27,8 @@ module _ {S V : Type 0} (r : Round) (R : RuleSense S) (T : TallySense V) where
       → fromNode r R T (suc b) u ≡ insDoor (arrive r R T) b u.label.down 1 nd
   unfolding fromNode byDoor
   from-used b nd u h is e =
-      ap (λ (q : Bool). cond q [] (flat_map (over-door (suc b) u.arcs.to u.label.down) (range_with_len 0 16))) e
-      ∙ doors-in b u.label.down nd u.arcs.to 0 16 h (λ i g. ap₂ (λ (x : Arcs) (k : ℕ). get_or x.to k 0) is (zero-add i) ∙ table_at 16 i (λ k. get_or nd k 0) 0 g)
+      ap (λ (q : Bool). cond q [] (flat_map (over-door r R T (suc b) u.arcs.to u.label.down) (range_with_len 0 16))) e
+      ∙ doors-in r R T b u.label.down nd u.arcs.to 0 16 h (λ i g. ap₂ (λ (x : Arcs) (k : ℕ). get_or x.to k 0) is (zero-add i) ∙ table_at 16 i (λ k. get_or nd k 0) 0 g)
 
   from-bare : (b : ℕ) (u : Node S V) → u.arcs ≡ record { to = padded [] } → fromNode r R T (suc b) u ≡ []
   unfolding insDoor

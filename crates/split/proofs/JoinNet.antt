@@ -8,7 +8,6 @@ use Rattle.layers.specs.Flow.{table, Outs, Layer, Net, node, pickT, bothOut, apa
 use Rattle.layers.specs.Records.{padded, arcsAt}
 use Rattle.layers.proofs.Bridge.{table-long, table-ext}
 use Rattle.layers.proofs.Flows.{table_at}
-use Rattle.layers.proofs.Shapes.{set_here, set_there}
 use Rattle.labels.proofs.Laying.{arcsOf, Arranged, Good}
 use Rattle.layers.specs.Targets.{targets}
 use Rattle.split.specs.Joined.{movedTo, movedNode, joinedNode, joinedLayer, joinedSecond}
@@ -92,8 +91,8 @@ drop-table (suc w) (suc hi) (nd ∷ M) h le = ap (λ xs. arcsAt (nd ∷ M) 0 ∷
 set-table : (w lo : ℕ) (M : Layer) (nd : Outs) → lo < length M → length M ≤ w → set (table w (arcsAt M)) lo (record { to = padded nd }) ≡ table w (arcsAt (set M lo nd))
 set-table w lo M nd lt le = table-list w (arcsAt (set M lo nd)) (set (table w (arcsAt M)) lo new) (length-set (table w (arcsAt M)) lo new ∙ table-long w (arcsAt M)) (λ k d k<w. ⊎_elim
     (λ (e : k ≡ lo). ap (λ (i : ℕ). get_or (set (table w (arcsAt M)) lo new) i d) e ∙ get_or-set_same (table w (arcsAt M)) lo new d (omega (arith, table-long w (arcsAt M)))
-    ∙ ap (λ (x : Outs). record { to = padded x }) (sym (ap (node (set M lo nd)) e ∙ set_here M lo nd lt)))
-    (λ (ne : k ≢ lo). get_or-set_other (table w (arcsAt M)) lo k new d ne ∙ table_at w k (arcsAt M) d k<w ∙ ap (λ (x : Outs). record { to = padded x }) (sym (set_there M lo k nd ne)))
+    ∙ ap (λ (x : Outs). record { to = padded x }) (sym (ap (node (set M lo nd)) e ∙ get_or-set_same M lo nd [] lt)))
+    (λ (ne : k ≢ lo). get_or-set_other (table w (arcsAt M)) lo k new d ne ∙ table_at w k (arcsAt M) d k<w ∙ ap (λ (x : Outs). record { to = padded x }) (sym (get_or-set_other M lo k nd [] ne)))
     (cases_eq k lo))
   where
     new : Arcs

@@ -18,7 +18,7 @@ use Rattle.layers.proofs.Proper.{Proper, proper-part, proper-parted}
 use Rattle.layers.proofs.Shaped.{shaped-proper}
 use Rattle.layers.proofs.Standing.{at-X, splits-X}
 use Rattle.layers.proofs.Tied.{redirect-length}
-use Rattle.layers.proofs.Ties.{length_more}
+use Rattle.layers.proofs.Ways.{length-snoc}
 use Rattle.labels.specs.Passes.{part, relabelled}
 use Rattle.labels.proofs.Laying.{Arranged, arranged-of}
 use Rattle.split.specs.Steps.{placeCode, countAt, alike, partedOne, partsFrom, layerSteps}
@@ -62,7 +62,7 @@ module _ {S V : Type 0} (r : Round) (R : RuleSense S) (T : TallySense V) (W : �
   after-grows zero a ls [] lt = absurd (omega arith)
   after-grows (suc d) a ls [] lt = absurd (omega arith)
   after-grows zero a ls (L ∷ []) lt = absurd (omega arith)
-  after-grows zero a ls (L ∷ M ∷ Ls) lt = length_more M (node M a)
+  after-grows zero a ls (L ∷ M ∷ Ls) lt = length-snoc M (node M a)
   after-grows (suc d) a ls (L ∷ Ls) lt = after-grows d a (labelsNext r R T ls L (width Ls)) Ls (omega arith)
 
 -- ---- the records: p is what is left of a net, and q of the records xs

@@ -1,7 +1,7 @@
 -- Parting a node of the records comes to parting the node of the net.
 use Rattle.std.proofs.Common.{◌≡◌, ℕ, suc, ◌+◌, ◌-◌, ◌*◌, ◌<◌, ◌≤◌, Bool, cond, not, ◌&&◌, eqb, ◌≢◌, List, [], ◌∷◌, ◌++◌, map, length, get_or, take, drop, set, None, Option, sym, refl, ap, ◌∙◌, subst, ap₂, ⊎_elim, arith}
 use lib.Seq.{take-set-lt}
-use Rattle.std.proofs.lemmas.List.{take_at, drop_at, drop-drop, drop-set-lt, map-set, length-set, length-map, length-append, length_push, length-take-le, length-drop, take-append-drop, get_or-take, get_or-drop, get_or_past, get_or-set_same, get_or-set_other}
+use Rattle.std.proofs.lemmas.List.{get_or_append_left, get_or_push, take_at, drop_at, drop-drop, drop-set-lt, map-set, length-set, length-map, length-append, length_push, length-take-le, length-drop, take-append-drop, get_or-take, get_or-drop, get_or_past, get_or-set_same, get_or-set_other}
 use Rattle.std.proofs.lemmas.Bool.{cases_lt, cases_eq}
 use Rattle.round.specs.declared.table.Round.{Round}
 use Rattle.rules.specs.Rules.{RuleSense}
@@ -16,7 +16,6 @@ use Rattle.layers.specs.Records.{padded, arcsAt}
 use Rattle.layers.specs.Calls.{partedAt}
 use Rattle.layers.proofs.Bridge.{table-long}
 use Rattle.layers.proofs.Flows.{table_at}
-use Rattle.layers.proofs.Shapes.{append-below, append-last}
 use Rattle.labels.proofs.Laying.{arcsOf, Arranged, Good}
 use Rattle.layers.specs.Targets.{redirected}
 use Rattle.split.specs.Parted.{partedTo, partedNode, partedSecond}
@@ -26,14 +25,14 @@ use Rattle.split.proofs.DepthNet.{good-drop, two-fit, at-depth, later-stays, lon
 -- ---- a node more at the end of a layer
 push-node : (M : Layer) (nd : Outs) (k : ℕ) → k ≢ length M → node M k ≡ node (M ++ (nd ∷ [])) k
 push-node M nd k ne = ⊎_elim
-    (λ (lt : k < length M). sym (append-below M nd k lt))
+    (λ (lt : k < length M). sym (get_or_append_left M (nd ∷ []) [] k lt))
     (λ (ge : length M ≤ k). get_or_past M k [] ge ∙ sym (get_or_past (M ++ (nd ∷ [])) k [] (omega (arith, length_push M nd))))
     (cases_lt k (length M))
 
 push-table : (w m : ℕ) (M : Layer) (nd : Outs) → m ≡ length M → m < w → set (table w (arcsAt M)) m (record { to = padded nd }) ≡ table w (arcsAt (M ++ (nd ∷ [])))
 push-table w m M nd em lt = table-list w (arcsAt M') (set (table w (arcsAt M)) m new) (length-set (table w (arcsAt M)) m new ∙ table-long w (arcsAt M)) (λ k d k<w. ⊎_elim
     (λ (e : k ≡ m). ap (λ (i : ℕ). get_or (set (table w (arcsAt M)) m new) i d) e ∙ get_or-set_same (table w (arcsAt M)) m new d (omega (arith, table-long w (arcsAt M)))
-    ∙ ap (λ (x : Outs). record { to = padded x }) (sym (ap (node M') (e ∙ em) ∙ append-last M nd)))
+    ∙ ap (λ (x : Outs). record { to = padded x }) (sym (ap (node M') (e ∙ em) ∙ get_or_push M nd [] (length M) refl)))
     (λ (ne : k ≢ m). get_or-set_other (table w (arcsAt M)) m k new d ne ∙ table_at w k (arcsAt M) d k<w ∙ ap (λ (x : Outs). record { to = padded x }) (push-node M nd k (λ e. ne (e ∙ sym em))))
     (cases_eq k m))
   where

@@ -2,15 +2,16 @@
 use Rattle.std.proofs.Common.{◌≡◌, ℕ, zero, suc, ◌+◌, ◌-◌, ◌*◌, ◌<◌, ◌≤◌, Bool, true, false, cond, List, [], ◌∷◌, ◌++◌, map, length, get_or, take, drop, replicate, Some, None, filter, Option, sym, refl, ap, ◌∙◌, subst, ap₂, ⊎_elim, suc-mul, add-one, arith}
 use Rattle.std.proofs.lemmas.List.FromFn.{get_or-map-range_with_len, length-map-range_with_len}
 use Rattle.std.proofs.lemmas.List.{get_or-map, get_or_past, get_or_append_left, get_or-append_right, get_or-set_other, length-map, length-append, length-drop, length-take-le, take_at, drop_at, drop-drop}
-use Rattle.std.proofs.lemmas.Bool.{cases_lt, and_parts}
+use Rattle.std.proofs.lemmas.Bool.{true≢false, false≢true, cases_lt, and_parts}
 use Rattle.layers.specs.declared.node.Arcs.{Arcs}
 use Rattle.layers.specs.declared.node.Node.{Node}
 use Rattle.layers.specs.Flow.{table, Outs, Layer, Net, node, target, width, is_some, redirect, up, Mark, marksNext, marksUp, flags, rank, compress, renumber, tidy, tidied as tidiedNet, Ranged}
 use Rattle.layers.specs.Records.{padded, arcsAt}
-use Rattle.layers.proofs.Flows.{has-arc, redirect-arc, mark-next, flags-at, renumber-at}
-use Rattle.layers.proofs.Tied.{redirect-back, redirect-length, renumber-back, marked_from, climbs, climbs-from}
+use Rattle.layers.proofs.Flows.{rank-zero, has-arc, redirect-arc, mark-next, flags-at, renumber-at}
+use Rattle.layers.proofs.Tied.{some_of, flags-back, redirect-back, redirect-length, renumber-back, marked_from, climbs, climbs-from}
 use Rattle.layers.proofs.Bridge.{table-ext}
-use Rattle.layers.proofs.Ways.{clashing}
+use Rattle.layers.proofs.Standing.{same_bool}
+use Rattle.layers.proofs.Walk.{door-at}
 use Rattle.labels.proofs.Laying.{arcsOf, Arranged, Good}
 use Rattle.layers.specs.Targets.{targets, atDoor}
 use Rattle.tidying.specs.Tidied.{lively, reachedNext, renewed, renewAt, renewals, together, number_of, numbering, numbers, endNumbers, tidied, firstMark}
@@ -22,40 +23,14 @@ use Rattle.tidying.proofs.Words.{on-or-off, zero-or-suc, lively-has, lively-from
 use Rattle.tidying.proofs.Stay.{kept-none, all-blank, long-together}
 use Rattle.labels.proofs.RedirectNet.{table-list, padded-is, padded-at, each_at, redirect-node, arranged-long, targets-is, targets-arranged}
 
--- ---- tests and marks
-both : (p q : Bool) → (p ≡ true → q ≡ true) → (q ≡ true → p ≡ true) → p ≡ q
-both true q f g = sym (f refl)
-both false true f g = g refl
-both false false f g = refl
-
-some_of : (o : Option Mark) → is_some o ≡ true → o ≡ Some tt
-some_of None e = clashing (sym e)
-some_of (Some tt) e = refl
-
-flags-back : (fr us : List (Option Mark)) (a : ℕ) → get_or (flags fr us) a false ≡ true → (get_or fr a None ≡ Some tt) × (get_or us a None ≡ Some tt)
-unfolding flags
-flags-back [] us a e = clashing (sym e)
-flags-back (x ∷ fr) [] a e = clashing (sym e)
-flags-back (x ∷ fr) (u ∷ us) zero e = let q = and_parts (is_some x) (is_some u) e in (some_of x q.0, some_of u q.1)
-flags-back (x ∷ fr) (u ∷ us) (suc a) e = flags-back fr us a e
-
 -- ---- targets
 padded-back : (nd : Outs) (k b : ℕ) → get_or (padded nd) k 0 ≡ suc b → get_or nd k 0 ≡ suc b
 padded-back nd k b e = ⊎_elim (λ (lt : k < 16). sym (padded-at nd k lt) ∙ e) (λ (ge : 16 ≤ k). absurd (omega (arith, e, get_or_past (padded nd) k 0 ge))) (cases_lt k 16)
-
-door-within : (nd : Outs) (k b : ℕ) → get_or nd k 0 ≡ suc b → k < length nd
-door-within nd k b e = ⊎_elim (λ (lt : k < length nd). lt) (λ (ge : length nd ≤ k). absurd (omega (arith, e, get_or_past nd k 0 ge))) (cases_lt k (length nd))
 
 none-padded : (k : ℕ) → get_or (padded []) k 0 ≡ 0
 none-padded k = ⊎_elim (λ (e : get_or (padded []) k 0 ≡ 0). e) (λ h. absurd (let q : 0 ≡ suc h.0 = padded-back [] k h.0 h.1 in omega arith)) (zero-or-suc (get_or (padded []) k 0))
 
 -- ---- those kept by a test are those with a flag
-rank-zero : (gs : List Bool) → rank gs 0 ≡ 0
-unfolding rank
-rank-zero [] = refl
-rank-zero (true ∷ gs) = refl
-rank-zero (false ∷ gs) = refl
-
 -- how many stand before a place
 rank-kept : {X : Type 0} (p : X → Bool) (vs : List X) (gs : List Bool) (z : X) (a : ℕ) → ((i : ℕ) → i < length vs → p (get_or vs i z) ≡ get_or gs i false) → a ≤ length vs → length (filter p (take a vs)) ≡ rank gs a
 unfolding rank
@@ -99,16 +74,16 @@ compress-one : (gs : List Bool) (R : Layer) → length R ≡ 1 → get_or gs 0 f
 unfolding compress
 compress-one gs [] n e = absurd (omega arith)
 compress-one gs (x ∷ y ∷ R) n e = absurd (omega arith)
-compress-one [] (x ∷ []) n e = clashing (sym e)
+compress-one [] (x ∷ []) n e = absurd (false≢true e)
 compress-one (true ∷ gs) (x ∷ []) n e = ap (λ (ys : Layer). x ∷ ys) (compress-none gs)
-compress-one (false ∷ gs) (x ∷ []) n e = clashing (sym e)
+compress-one (false ∷ gs) (x ∷ []) n e = absurd (false≢true e)
 
 compress-gone : (gs : List Bool) (R : Layer) → length R ≡ 1 → get_or gs 0 false ≡ false → compress gs R ≡ []
 unfolding compress
 compress-gone gs [] n e = absurd (omega arith)
 compress-gone gs (x ∷ y ∷ R) n e = absurd (omega arith)
 compress-gone [] (x ∷ []) n e = refl
-compress-gone (true ∷ gs) (x ∷ []) n e = clashing e
+compress-gone (true ∷ gs) (x ∷ []) n e = absurd (true≢false e)
 compress-gone (false ∷ gs) (x ∷ []) n e = compress-none gs
 
 -- the marks by number are those by place
@@ -122,7 +97,7 @@ module _ {S V : Type 0} (w : ℕ) (z : Node S V) (zb : z.arcs ≡ arcsAt [] 0) (
   -- ---- marks
   marks-same : (L : Layer) (m : ℕ) (from : List Bool) (fr : List (Option Mark)) (us : List (Node S V)) → ((a : ℕ) → length (node L a) ≤ 16) → length L ≤ w → Ranged L m → m < 256
       → map arcsOf us ≡ table w (arcsAt L) → Same from fr → Same (reachedNext z from us) (marksNext fr L m)
-  marks-same L m from fr us short room ranged fits arr same b = both (get_or (reachedNext z from us) (suc b) false) (is_some (get_or (marksNext fr L m) b None)) there back
+  marks-same L m from fr us short room ranged fits arr same b = same_bool (get_or (reachedNext z from us) (suc b) false) (is_some (get_or (marksNext fr L m) b None)) there back
     where
       long : length us ≡ w
       long = arranged-long w L us arr
@@ -141,7 +116,7 @@ module _ {S V : Type 0} (w : ℕ) (z : Node S V) (zb : z.arcs ≡ arcsAt [] 0) (
       from-door a zero arc mark = absurd (omega arith)
       from-door a (suc k) arc mark =
           let in' : a < w = omega (arith, has-arc L a (suc k) b arc, room) in
-          let low : k < 16 = omega (arith, door-within (node L a) k b arc, short a) in
+          let low : k < 16 = omega (arith, door-at (node L a) k b arc, short a) in
           let on : On from (a + 1) = subst (On from) (sym (add-one a)) (same a ∙ ap is_some mark) in
           marks-has z from us a k (suc b) (omega (arith, in', long)) on (omega (arith, low, length-targets (get_or us a z)))
           (ap (λ (ts : List ℕ). get_or ts k 0) (targets-arranged w L us a z arr in') ∙ padded-at (node L a) k low ∙ arc) (omega (arith, ranged a (suc k) b arc, fits))
@@ -155,11 +130,11 @@ module _ {S V : Type 0} (w : ℕ) (z : Node S V) (zb : z.arcs ≡ arcsAt [] 0) (
   renewed-yes : (new : List ℕ) (x : Node S V) (q : Bool) → q ≡ true → (renewed z q new x).arcs ≡ record { to = map (λ t. get_or new t 0) (targets x) }
   unfolding renewed
   renewed-yes new x true e = refl
-  renewed-yes new x false e = clashing (sym e)
+  renewed-yes new x false e = absurd (false≢true e)
 
   renewed-no : (new : List ℕ) (x : Node S V) (q : Bool) → q ≡ false → renewed z q new x ≡ z
   unfolding renewed
-  renewed-no new x true e = clashing e
+  renewed-no new x true e = absurd (true≢false e)
   renewed-no new x false e = refl
 
   module _ (L : Layer) (Ls : Net) (from : List Bool) (fr : List (Option Mark)) (us : List (Node S V)) (new : List ℕ)
@@ -224,7 +199,7 @@ module _ {S V : Type 0} (w : ℕ) (z : Node S V) (zb : z.arcs ≡ arcsAt [] 0) (
 
     -- a renewed node has arcs exactly if its flag is set
     live : (a : ℕ) → a < w → lively (get_or vs a z) ≡ get_or gs a false
-    live a lt = both (lively (get_or vs a z)) (get_or gs a false) there back
+    live a lt = same_bool (lively (get_or vs a z)) (get_or gs a false) there back
       where
         there : lively (get_or vs a z) ≡ true → get_or gs a false ≡ true
         there l = ⊎_elim
@@ -243,7 +218,7 @@ module _ {S V : Type 0} (w : ℕ) (z : Node S V) (zb : z.arcs ≡ arcsAt [] 0) (
         by-door zero c mark e = absurd (omega arith)
         by-door (suc k) c mark e =
             let q = redirect-back (λ a j b. renumber fs b) L a (suc k) c e in
-            let low : k < 16 = omega (arith, door-within (node L a) k q.0 q.1, short a) in
+            let low : k < 16 = omega (arith, door-at (node L a) k q.0 q.1, short a) in
             let is : get_or (targets (get_or vs a z)) k 0 ≡ suc c = ap (λ (ts : List ℕ). get_or ts k 0) (on-targets a lt mark) ∙ padded-at (node RL a) k low ∙ e in
             lively-from (get_or vs a z) k (λ none. absurd (omega (arith, is, none)))
 
@@ -320,7 +295,7 @@ module _ {S V : Type 0} (w : ℕ) (z : Node S V) (zb : z.arcs ≡ arcsAt [] 0) (
         single = redirect-length (λ a j b. renumber fs b) L ∙ one
 
         no-arc : get_or gs 0 false ≡ false → (i : ℕ) → get_or (node RL 0) i 0 ≡ 0
-        no-arc off i = ⊎_elim (λ (e : get_or (node RL 0) i 0 ≡ 0). e) (λ h. clashing (sym (left-flag 0 (suc i) h.0 mark h.1) ∙ off)) (zero-or-suc (get_or (node RL 0) i 0))
+        no-arc off i = ⊎_elim (λ (e : get_or (node RL 0) i 0 ≡ 0). e) (λ h. absurd (true≢false (sym (left-flag 0 (suc i) h.0 mark h.1) ∙ off))) (zero-or-suc (get_or (node RL 0) i 0))
 
         blank : get_or gs 0 false ≡ false → (k : ℕ) → padded (node RL k) ≡ padded []
         blank off zero = padded-is (padded (node RL 0)) [] refl (λ i lt. padded-at (node RL 0) i lt ∙ no-arc off i)
@@ -344,7 +319,7 @@ module _ {S V : Type 0} (w : ℕ) (z : Node S V) (zb : z.arcs ≡ arcsAt [] 0) (
       none : renumber (flags fr (marksUp [])) (suc b) ≡ 0
       none = ⊎_elim
           (λ (e : renumber (flags fr (marksUp [])) (suc b) ≡ 0). e)
-          (λ h. let q = (flags-back fr (marksUp []) (suc b) (renumber-back (flags fr (marksUp [])) (suc b) h.0 h.1).0).1 in clashing (sym (ap is_some (sym past ∙ q))))
+          (λ h. let q = (flags-back fr (marksUp []) (suc b) (renumber-back (flags fr (marksUp [])) (suc b) h.0 h.1).0).1 in absurd (false≢true (ap is_some (sym past ∙ q))))
           (zero-or-suc (renumber (flags fr (marksUp [])) (suc b)))
 
   -- the new number of a marked node

@@ -1,4 +1,4 @@
-use Rattle.std.proofs.Common.{◌≡◌, ℕ, ◌+◌, ◌≤◌, List, take, sym, ap, ◌∙◌, subst, arith, take_all}
+use Rattle.std.proofs.Common.{◌≡◌, ℕ, ◌≤◌, List, take, sym, ap, ◌∙◌, subst, arith, take_all}
 use Rattle.round.specs.Clock.{latest}
 use Rattle.orders.specs.declared.van.Van.{Van}
 use Rattle.orders.specs.Costs.{Trip, tripAfter}

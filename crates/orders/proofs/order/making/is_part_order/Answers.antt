@@ -1,4 +1,4 @@
-use Rattle.std.proofs.Common.{◌≡◌, ℕ, ◌+◌, ◌<◌, List, get_or, take, sym, ap, ◌∙◌, subst, arith, take_all}
+use Rattle.std.proofs.Common.{ℕ, ◌+◌, get_or, take, sym, subst, arith, take_all}
 use Rattle.std.proofs.lemmas.Bool.{and_parts, not-true}
 use Rattle.doors.specs.Orders.{PartOrder}
 use Rattle.doors.proofs.Orders.{is-door, part-is}
