@@ -7,6 +7,7 @@
 //!     morvuges-bench repeat library|twin WIDTH TIMES    one of the two alone, for a profiler
 
 mod chance;
+mod clock;
 mod compare;
 mod diagram;
 mod library;
