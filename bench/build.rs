@@ -1,7 +1,7 @@
-// Links target/staticlib/libcapi.a of the repository.
+// Links crates/capi/out/libcapi.a of the repository.
 fn main() {
-    let top = std::path::Path::new(env!("CARGO_MANIFEST_DIR")).join("../target/staticlib");
-    println!("cargo:rustc-link-search=native={}", top.display());
+    let out = std::path::Path::new(env!("CARGO_MANIFEST_DIR")).join("../crates/capi/out");
+    println!("cargo:rustc-link-search=native={}", out.display());
     println!("cargo:rustc-link-lib=static=capi");
-    println!("cargo:rerun-if-changed={}", top.join("libcapi.a").display());
+    println!("cargo:rerun-if-changed={}", out.join("libcapi.a").display());
 }

@@ -2,14 +2,19 @@
 //!
 //!     morvuges-bench compare [ROUNDS]    the same answers on so many rounds by chance
 //!     morvuges-bench measure             open and refine at 16 doors: times and ratios
+//!     morvuges-bench stack               how much stack a call of the library takes
+//!     morvuges-bench texts | sheets      rounds by chance, and their sheets as the twin works them out
 //!     morvuges-bench repeat library|twin WIDTH TIMES    one of the two alone, for a profiler
 
 mod chance;
+mod clock;
 mod compare;
 mod diagram;
 mod library;
 mod measure;
 mod round;
+mod sheets;
+mod stack;
 
 use std::process::ExitCode;
 
@@ -20,11 +25,20 @@ fn main() -> ExitCode {
         ["compare"] => compare::compare(20_000),
         ["compare", rounds] => compare::compare(rounds.parse().expect("how many rounds")),
         ["measure"] => measure::measure(),
+        ["stack"] => stack::print(),
+        ["texts"] => {
+            sheets::print_texts();
+            ExitCode::SUCCESS
+        }
+        ["sheets"] => {
+            sheets::print_sheets();
+            ExitCode::SUCCESS
+        }
         ["repeat", who, width, times] => {
             measure::repeat(who, width.parse().expect("a width"), times.parse().expect("how many times"))
         }
         _ => {
-            eprintln!("usage: morvuges-bench compare [ROUNDS] | measure | repeat library|twin WIDTH TIMES");
+            eprintln!("usage: morvuges-bench compare [ROUNDS] | measure | stack | texts | sheets | repeat library|twin WIDTH TIMES");
             ExitCode::from(2)
         }
     }

@@ -1,12 +1,12 @@
 //! The time of open and refine at 16 doors, in the library and in the twin.
 
 use crate::chance::Chance;
+use crate::clock;
 use crate::diagram::Diagram;
 use crate::library;
 use crate::round::Round;
 use std::hint::black_box;
 use std::process::ExitCode;
-use std::time::Instant;
 
 const ROUNDS: usize = 24;
 const TRIES: usize = 5;
@@ -36,20 +36,20 @@ fn of_twin(round: &Round, width: usize, times: usize) -> i64 {
     answer
 }
 
-/// The least of some tries, in microseconds for one open and refine.
+/// The least of some tries, in microseconds of processor time for one open and refine.
 fn least(times: usize, mut f: impl FnMut() -> i64) -> f64 {
     (0..TRIES)
         .map(|_| {
-            let start = Instant::now();
+            let start = clock::now();
             black_box(f());
-            start.elapsed().as_secs_f64() * 1e6 / times as f64
+            (clock::now() - start).as_secs_f64() * 1e6 / times as f64
         })
         .fold(f64::MAX, f64::min)
 }
 
 pub fn measure() -> ExitCode {
     let rounds = tight();
-    println!("open and refine, 16 doors, {ROUNDS} rounds, least of {TRIES} tries, microseconds each");
+    println!("open and refine, 16 doors, {ROUNDS} rounds, least of {TRIES} tries, microseconds of processor time each");
     println!("width  full  library     twin  ratio (least to most)");
     for width in [16, 32, 64, 128] {
         let times = 256 / width;

@@ -1,7 +1,7 @@
 /*
  * The round sheet for C: a round's text in, the answers of a list of calls out.
  *
- * Link target/staticlib/libcapi.a, which `rt staticlib capi` proves and writes. The functions keep nothing between calls, allocate
+ * Link out/libcapi.a, which `rt lib` in this folder proves and writes. The functions keep nothing between calls, allocate
  * nothing and may be called from several threads at once. Each takes at most 300 KiB of stack. The side rule is pairs and load
  * together; the cost of an order is its late doors, then its late minutes.
  *

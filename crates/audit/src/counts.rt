@@ -27,7 +27,11 @@ pub(crate) struct Counts {
     pub(crate) whole: usize,
     pub(crate) full: usize,
     pub(crate) refused: usize,
-    // by the refusal's number
+    // calls that are the call before once more
+    pub(crate) repeated: usize,
+    // cuts whose ceiling is the cost of an allowed order
+    pub(crate) equalled: usize,
+    // all refusals by their number, those to open, to answer must, and of a short list too
     pub(crate) numbers: [usize; 32],
 }
 
@@ -46,14 +50,16 @@ impl Counts {
             whole: 0,
             full: 0,
             refused: 0,
+            repeated: 0,
+            equalled: 0,
             numbers: [0; 32],
         }
     }
 
-    fn refuse(&mut self, number: u8) {
+    // One more refusal, if there is one: 10 or above, since must answers 0 or 1.
+    pub(crate) fn refuse(&mut self, number: u8) {
         let k = usize::from(number);
-        self.refused = self.refused.saturating_add(1);
-        if k < 32 {
+        if 10 <= k && k < 32 {
             self.numbers[k] = self.numbers[k].saturating_add(1);
         }
     }
@@ -78,7 +84,10 @@ impl Counts {
         match answer {
             Answer::Gone(gone) => self.take_out(sort, gone > 0),
             Answer::Done => self.do_it(sort),
-            Answer::Refused(number) => self.refuse(number),
+            Answer::Refused(number) => {
+                self.refused = self.refused.saturating_add(1);
+                self.refuse(number);
+            }
             Answer::Whole => self.whole = more(self.whole, true),
             Answer::Full(_) => self.full = more(self.full, true),
         }
@@ -100,6 +109,8 @@ impl Counts {
         self.whole = self.whole.saturating_add(more.whole);
         self.full = self.full.saturating_add(more.full);
         self.refused = self.refused.saturating_add(more.refused);
+        self.repeated = self.repeated.saturating_add(more.repeated);
+        self.equalled = self.equalled.saturating_add(more.equalled);
         self.add_numbers(more);
     }
 }

@@ -9,6 +9,7 @@ mod checks;
 mod counts;
 mod dice;
 mod draw;
+mod kinds;
 mod paths;
 mod run;
 mod same;
@@ -21,6 +22,7 @@ use case::LENT;
 use counts::{Counts, more};
 use dice::Dice;
 use draw::draw;
+use kinds::{Kinds, kinds_of};
 use lister::list::list;
 use round::table::Round;
 use rules::both::Both;
@@ -48,6 +50,7 @@ struct Sums {
     // rounds that end settled with more than one path wanted
     telling: usize,
     faults: usize,
+    kinds: Kinds,
     counts: Counts,
 }
 
@@ -117,6 +120,8 @@ fn late_round(
         dice, round, &rule, &tally, width, orders, &mut nodes, &mut log,
     );
     note(sums, &outcome);
+    sums.kinds
+        .add(&kinds_of(rt.alloc(), round, &rule, &tally, orders)?);
     print_start(rt, sums, Line { n: round.n, width }, &outcome)?;
     match outcome.bound {
         Some((doors, minutes)) => print!(rt; "{doors} {minutes}")?,
@@ -144,6 +149,8 @@ fn driving_round(
         dice, round, &rule, &Driving, width, orders, &mut nodes, &mut log,
     );
     note(sums, &outcome);
+    sums.kinds
+        .add(&kinds_of(rt.alloc(), round, &rule, &Driving, orders)?);
     print_start(rt, sums, Line { n: round.n, width }, &outcome)?;
     match outcome.bound {
         Some(minutes) => print!(rt; "{minutes}")?,
@@ -212,7 +219,26 @@ fn print_numbers(rt: &HostRuntime, counts: &Counts) -> anyhow::Result<()> {
     Ok(())
 }
 
+// How many rounds are of each kind, and how many have so many doors.
+fn print_kinds(rt: &HostRuntime, kinds: &Kinds) -> anyhow::Result<()> {
+    for n in 1..7 {
+        let count = kinds.doors[n];
+        println!(rt; "rounds of {n} doors\t{count}")?;
+    }
+    let ring = kinds.ring;
+    let pairs = kinds.pairs;
+    println!(rt; "pairs that close a ring\t{ring}\tpairs that rule out an order\t{pairs}")?;
+    let tight = kinds.tight;
+    let loose = kinds.loose;
+    println!(rt; "hours that rule out an order\t{tight}\tloose hours\t{loose}")?;
+    let load = kinds.load;
+    let equal = kinds.equal;
+    println!(rt; "a load that rules out an order\t{load}\ttwo orders of the least cost\t{equal}")?;
+    Ok(())
+}
+
 fn print_mix(rt: &HostRuntime, sums: &Sums) -> anyhow::Result<()> {
+    print_kinds(rt, &sums.kinds)?;
     let none = sums.none;
     let one = sums.one;
     let many = sums.many;
@@ -225,6 +251,9 @@ fn print_mix(rt: &HostRuntime, sums: &Sums) -> anyhow::Result<()> {
     let sweeps = sums.counts.sweeps;
     let cuts = sums.counts.cuts;
     println!(rt; "sweeps that took out arcs\t{sweeps}\tcuts that did\t{cuts}")?;
+    let repeated = sums.counts.repeated;
+    let equalled = sums.counts.equalled;
+    println!(rt; "the call before again\t{repeated}\tcuts at the cost of an order\t{equalled}")?;
     let parted = sums.counts.parted;
     let joined = sums.counts.joined;
     let whole = sums.counts.whole;
@@ -260,6 +289,7 @@ fn main(rt: HostRuntime) -> anyhow::Result<()> {
         settled: 0,
         telling: 0,
         faults: 0,
+        kinds: Kinds::none(),
         counts: Counts::none(),
     };
     all_rounds(&rt, &mut dice, true, &mut sums)?;

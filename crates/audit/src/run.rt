@@ -5,7 +5,7 @@ ghost use Rattle.std.specs.Prelude.{◌+◌, ◌*◌, ◌≤◌, length};
 use crate::calls::{draw_call, on_diagram, on_records};
 use crate::case::{Answer, Call, Case, LENT, bound_of, end_place};
 use crate::checks::{Ceilings, check_all, count_wanted};
-use crate::counts::{Counts, sort_of};
+use crate::counts::{Counts, more, sort_of};
 use crate::dice::Dice;
 use crate::same::{same_from, same_value};
 use crate::sets::check_sets;
@@ -149,11 +149,14 @@ fn check_asked<S: Copy, V: Copy>(
     n: usize,
     width: usize,
     i: usize,
+    counts: &mut Counts,
 ) -> Result<(), &'static str> {
     for j in 0..8 {
-        if asked(diagram, i, j) != must_number(nodes, n, width, i, j) {
+        let number = asked(diagram, i, j);
+        if number != must_number(nodes, n, width, i, j) {
             return Err("the diagram answers a must otherwise");
         }
+        counts.refuse(number);
     }
     Ok(())
 }
@@ -163,9 +166,10 @@ fn check_all_asked<S: Copy, V: Copy>(
     diagram: &Diagram<'_, '_, S, V>,
     n: usize,
     width: usize,
+    counts: &mut Counts,
 ) -> Result<(), &'static str> {
     for i in 0..8 {
-        check_asked(nodes, diagram, n, width, i)?;
+        check_asked(nodes, diagram, n, width, i, counts)?;
     }
     Ok(())
 }
@@ -176,6 +180,7 @@ fn check_diagram<R: Rule, T: Tally>(
     nodes: &[Node<R::State, T::Value>],
     diagram: &Diagram<'_, '_, R::State, T::Value>,
     settled: bool,
+    counts: &mut Counts,
 ) -> Result<(), &'static str> {
     let bound = bound_of(nodes, case.round, case.width);
     if !same_bound(case.tally, diagram.bound(), bound) {
@@ -184,7 +189,7 @@ fn check_diagram<R: Rule, T: Tally>(
     if diagram.settled(case.rule) != settled {
         return Err("the diagram is settled otherwise");
     }
-    check_all_asked(nodes, diagram, case.round.n, case.width)
+    check_all_asked(nodes, diagram, case.round.n, case.width, counts)
 }
 
 // Keeps the ceiling of a cut.
@@ -197,31 +202,81 @@ fn note_ceiling<V: Copy>(ceilings: &mut Ceilings<V>, call: Call<V>) {
     }
 }
 
+// Whether no node of the layer can be parted, since all in-arcs of each agree.
+fn agrees_in<R: Rule, T: Tally>(
+    case: &Case<'_, R, T, T::Value>,
+    nodes: &mut [Node<R::State, T::Value>],
+    layer: usize,
+) -> bool {
+    for a in 0..case.width {
+        let call = Call::Part(layer, a.saturating_add(1));
+        match on_records(case, nodes, call) {
+            Answer::Refused(21) => return true,
+            Answer::Refused(23) => {}
+            _ => return false,
+        }
+    }
+    true
+}
+
+// Whether on a copy of the records nothing can be parted and a sweep takes out nothing.
+fn is_settled<R: Rule, T: Tally>(
+    case: &Case<'_, R, T, T::Value>,
+    nodes: &[Node<R::State, T::Value>; LENT],
+) -> bool {
+    let mut copy = copied(case.rule, case.tally, nodes);
+    for layer in 1..case.round.n {
+        if !agrees_in(case, &mut copy, layer) {
+            return false;
+        }
+    }
+    on_records(case, &mut copy, Call::Sweep) == Answer::Gone(0)
+}
+
 // All that holds of the records as they are.
 fn check_now<R: Rule, T: Tally>(
     case: &Case<'_, R, T, T::Value>,
-    nodes: &[Node<R::State, T::Value>],
+    nodes: &[Node<R::State, T::Value>; LENT],
     diagram: &Diagram<'_, '_, R::State, T::Value>,
     ceilings: &Ceilings<T::Value>,
+    counts: &mut Counts,
 ) -> Result<bool, &'static str> {
     check_shape(case, nodes)?;
     check_sets(case, nodes)?;
     let settled = check_all(case, nodes, ceilings)?;
-    check_diagram(case, nodes, diagram, settled)?;
+    if settled != is_settled(case, nodes) {
+        return Err("settled says otherwise than part and sweep");
+    }
+    check_diagram(case, nodes, diagram, settled, counts)?;
     Ok(settled)
 }
 
+// The call before once more, or another one.
 fn next_call<R: Rule, T: Tally>(
     case: &Case<'_, R, T, T::Value>,
     nodes: &[Node<R::State, T::Value>],
     dice: &mut Dice,
-    last: Call<T::Value>,
+    log: &mut Log<T::Value>,
 ) -> Call<T::Value> {
     if dice.roll(7) == 0 {
-        last
+        log.counts.repeated = more(log.counts.repeated, true);
+        log.last
     } else {
         draw_call(case, nodes, dice)
     }
+}
+
+// Whether it is a cut at the cost of an allowed order.
+fn is_equalled<R: Rule, T: Tally>(case: &Case<'_, R, T, T::Value>, call: Call<T::Value>) -> bool {
+    let Call::Cut(ceiling) = call else {
+        return false;
+    };
+    for order in case.orders {
+        if same_value(case.tally, order.cost, ceiling) {
+            return true;
+        }
+    }
+    false
 }
 
 // Does the call on both, and looks at what it altered.
@@ -248,13 +303,14 @@ fn one_call<R: Rule, T: Tally>(
     diagram: &mut Diagram<'_, '_, R::State, T::Value>,
     log: &mut Log<T::Value>,
 ) -> Result<(), &'static str> {
-    let call = next_call(case, nodes, dice, log.last);
+    let call = next_call(case, nodes, dice, log);
     log.last = call;
+    log.counts.equalled = more(log.counts.equalled, is_equalled(case, call));
     note_ceiling(&mut log.ceilings, call);
-    check_short(case, nodes, call)?;
+    check_short(case, nodes, call, &mut log.counts)?;
     let answer = call_both(case, nodes, diagram, call)?;
     log.counts.note(sort_of(call), answer);
-    log.settled = check_now(case, nodes, diagram, &log.ceilings)?;
+    log.settled = check_now(case, nodes, diagram, &log.ceilings, &mut log.counts)?;
     if answer == Answer::Whole && !log.settled {
         return Err("whole, but not settled");
     }
@@ -268,7 +324,7 @@ fn some_calls<R: Rule, T: Tally>(
     diagram: &mut Diagram<'_, '_, R::State, T::Value>,
     log: &mut Log<T::Value>,
 ) -> Result<(), &'static str> {
-    log.settled = check_now(case, nodes, diagram, &log.ceilings)?;
+    log.settled = check_now(case, nodes, diagram, &log.ceilings, &mut log.counts)?;
     let count = dice.roll(5).saturating_add(6);
     for _ in 0..count {
         one_call(case, dice, nodes, diagram, log)?;
@@ -285,14 +341,22 @@ fn room_number(round: &Round, width: usize, len: usize) -> u8 {
 }
 
 // A width out of range is refused with 10, also where the list is too short, and a list that is too short by one record with 11.
-fn check_rooms(round: &Round, width: usize) -> Result<(), &'static str> {
+fn check_rooms(round: &Round, width: usize, counts: &mut Counts) -> Result<(), &'static str> {
     let end = end_place(round, width);
-    let widths = room_number(round, 0, LENT) == 10 && room_number(round, 129, 0) == 10;
-    let short = room_number(round, width, end) == 11;
-    if widths && short && room_number(round, width, end.saturating_add(1)) == 0 {
-        return Ok(());
+    let asked = [
+        (0, LENT, 10),
+        (129, 0, 10),
+        (width, end, 11),
+        (width, end.saturating_add(1), 0),
+    ];
+    for (wide, len, expected) in asked {
+        let number = room_number(round, wide, len);
+        if number != expected {
+            return Err("the check of the room is wrong");
+        }
+        counts.refuse(number);
     }
-    Err("the check of the room is wrong")
+    Ok(())
 }
 
 // What a call answers on a list that is too short.
@@ -321,11 +385,15 @@ fn check_short<R: Rule, T: Tally>(
     case: &Case<'_, R, T, T::Value>,
     nodes: &mut [Node<R::State, T::Value>; LENT],
     call: Call<T::Value>,
+    counts: &mut Counts,
 ) -> Result<(), &'static str> {
     let before = copied(case.rule, case.tally, nodes);
     let answer = on_short(case, nodes, call);
     if answer != short_answer(call) || !same_from(case.rule, case.tally, &before, nodes, 0) {
         return Err("a call on a short list is not refused, or alters it");
+    }
+    if let Answer::Refused(number) = answer {
+        counts.refuse(number);
     }
     Ok(())
 }
@@ -337,7 +405,7 @@ fn run_calls<R: Rule, T: Tally>(
     nodes: &mut [Node<R::State, T::Value>; LENT],
     log: &mut Log<T::Value>,
 ) -> Result<(), &'static str> {
-    check_rooms(case.round, case.width)?;
+    check_rooms(case.round, case.width, &mut log.counts)?;
     let Ok(room) = Room::check(case.round, case.width, LENT) else {
         return Err("the check refuses the room");
     };

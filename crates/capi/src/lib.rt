@@ -2,10 +2,10 @@
 #![tactic(auto)]
 
 ghost use Rattle.std.specs.Prelude.{◌≡◌, ◌+◌, ◌-◌, ◌*◌, ◌/◌, ◌≤◌, min, negsuc, length};
-ghost use Rattle.layers.specs.Calls.{openedOn, refined};
 ghost use Rattle.tallies.specs.Late.{lateSense};
+ghost use Rattle.capi.specs.Answers.{Answers, Sheeted, Refines, Refines_times, Often};
 ghost use Rattle.capi.specs.Bytes.{Answered};
-ghost use Rattle.capi.specs.Senses.{sideSense};
+ghost use Rattle.capi.specs.Senses.{sideSense, side_of, late_of};
 
 use diagram::diagram::Diagram;
 use diagram::room::Room;
@@ -52,7 +52,8 @@ fn write_sheet(room: Room<'_>, calls: &[u8], out: &mut [u8])
 }
 
 fn sheet_of(round: &Round, width: usize, calls: &[u8], out: &mut [u8]) -> i64
-    ensures { Answered result (88 + length calls.now / 4) (out.new ≡ out.old) }
+    ensures answered { Answered result (88 + length calls.now / 4) (out.new ≡ out.old) }
+    ensures sheet { Sheeted (length calls.now) (length out.old) round.now width result }
 {
     match Room::check(round, width, RECORDS) {
         Ok(room) => {
@@ -73,7 +74,9 @@ fn sheet_of(round: &Round, width: usize, calls: &[u8], out: &mut [u8]) -> i64
 // Reads a round, opens its diagram, makes the calls, and writes their answers and what the diagram then says.
 #[unsafe(no_mangle)]
 pub extern "C" fn morvuges_sheet(text: &[u8], width: usize, calls: &[u8], out: &mut [u8]) -> i64
-    ensures { Answered result (88 + length calls.now / 4) (out.new ≡ out.old) }
+    ensures answered { Answered result (88 + length calls.now / 4) (out.new ≡ out.old) }
+    ensures long { length out.new ≡ length out.old }
+    ensures sheet { Answers text.now (λ r. Sheeted (length calls.now) (length out.old) r width) result }
 {
     let mut round = Round::fresh();
     match read_bounded(&mut round, text) {
@@ -89,8 +92,10 @@ fn refine_once(
     tally: &LateDoors,
     records: &mut [work::Place],
 ) -> u32
-    requires { room.round.now.n * room.width + 1 ≤ length records.old }
-    ensures { result ≡ min (refined room.entry.round.now (sideSense rule.now) (lateSense tally.now.n tally.now.doors) room.entry.width (openedOn room.entry.round.now (sideSense rule.now) (lateSense tally.now.n tally.now.doors) room.entry.width records.old)).0 4294967295 }
+    requires lent { room.round.now.n * room.width + 1 ≤ length records.old }
+    requires rule { sideSense rule.now ≡ side_of room.round.now }
+    requires tally { lateSense tally.now.n tally.now.doors ≡ late_of room.round.now }
+    ensures { Refines room.entry.round.now room.entry.width result }
 {
     let mut diagram = Diagram::open(room, rule, tally, records);
     work::layer_of(diagram.refine(rule, tally))
@@ -98,18 +103,21 @@ fn refine_once(
 
 fn refine_times(room: Room<'_>, times: usize) -> u32
     requires { room.round.now.n * room.width + 1 ≤ 2049 }
+    ensures { Refines_times room.entry.round.now room.entry.width times result }
 {
     let rule = work::side(room.round);
     let tally = LateDoors::of(room.round);
     let mut records = [work::empty(rule.start()); RECORDS];
     let mut answer = 0;
-    for _ in 0..times {
+    for turn in 0..times {
         answer = refine_once(room, &rule, &tally, &mut records);
     }
     answer
 }
 
-fn refine_on(round: &Round, width: usize, times: usize) -> i64 {
+fn refine_on(round: &Round, width: usize, times: usize) -> i64
+    ensures { Often times round.now width result }
+{
     match Room::check(round, width, RECORDS) {
         Ok(room) => i64::from(refine_times(room, times)),
         Err(refusal) => refused(refusal.number()),
@@ -118,7 +126,9 @@ fn refine_on(round: &Round, width: usize, times: usize) -> i64 {
 
 // Reads a round, and so many times over opens its diagram and refines it; answers as the last refine did.
 #[unsafe(no_mangle)]
-pub extern "C" fn morvuges_refine_often(text: &[u8], width: usize, times: usize) -> i64 {
+pub extern "C" fn morvuges_refine_often(text: &[u8], width: usize, times: usize) -> i64
+    ensures { Answers text.now (λ r. Often times r width) result }
+{
     let mut round = Round::fresh();
     match read_bounded(&mut round, text) {
         Ok(()) => refine_on(&round, width, times),

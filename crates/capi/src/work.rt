@@ -1,6 +1,7 @@
 // A diagram over records of its own: made, put to work, and asked.
 ghost use Rattle.std.specs.Prelude.{◌≡◌, ◌+◌, ◌*◌, ◌/◌, ◌≤◌, min, length};
 ghost use Rattle.refine.specs.Answers.{answer_of};
+ghost use Rattle.capi.specs.Senses.{sideSense, side_of};
 
 use crate::call::{CALL, Call};
 use crate::words::{put_word, word};
@@ -25,7 +26,9 @@ pub(crate) type Side = Both<Pairs, Load>;
 pub(crate) type Place = Node<Held, Cost>;
 
 // The rule of pairs and load together.
-pub(crate) fn side(round: &Round) -> Side {
+pub(crate) fn side(round: &Round) -> Side
+    ensures { sideSense result ≡ side_of round.now }
+{
     Both {
         first: Pairs::of(round),
         second: Load::of(round),

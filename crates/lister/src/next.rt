@@ -1,5 +1,5 @@
 // From one order to the next, as in a dictionary.
-ghost use Rattle.std.specs.Prelude.{◌-◌, ◌<◌, ◌≤◌, length};
+ghost use Rattle.std.specs.Prelude.{◌≡◌, ◌-◌, ◌<◌, ◌≤◌, false, length};
 ghost use Rattle.std.specs.List.Sorted.{IsPermutation};
 
 // The last place whose number is above the one before it; 0 if there is none.
@@ -31,7 +31,8 @@ fn last_above(doors: &[usize], k: usize) -> usize
 
 // The next list of the same numbers, if this is not the last one.
 pub fn next_order(doors: &mut [usize]) -> bool
-    ensures { IsPermutation doors.old doors.new }
+    ensures same_doors { IsPermutation doors.old doors.new }
+    ensures last { result ≡ false → doors.new ≡ doors.old }
 {
     let rise = last_rise(doors);
     if rise == 0 {

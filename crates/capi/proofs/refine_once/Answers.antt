@@ -1,8 +1,7 @@
-use mathlib.Core.Path.{◌≡◌, ap, ◌∙◌}
-use Prim.Native.Nat.{min}
-use Rattle.layers.specs.Calls.{refined}
+use Rattle.std.proofs.Common.{◌≡◌, ap, ◌∙◌, subst, sym, min}
+use Rattle.layers.specs.Calls.{refined, openedOn}
 use Rattle.tallies.specs.Late.{lateSense}
-use Rattle.capi.specs.Senses.{sideSense}
+use Rattle.capi.specs.Senses.{sideSense, side_of, late_of}
 use Rattle.capi.proofs.refine_once.Goals as goal
 
 -- the diagram that is refined is the one that was opened, in the same room
@@ -10,10 +9,17 @@ pub returns : goal.returns
 returns c =
     let R = sideSense c.args.rule.now in
     let T = lateSense c.args.tally.now.n c.args.tally.now.doors in
+    let r = c.args.room.round.now in
+    let W = c.args.room.width in
     let d = c.open-diagram.result in
-    let e = c.open-diagram.ensures in
-    c.layer_of.ensures
-    ∙ ap (λ k. min k 4294967295) (
-    c.refine.ensures.answer
-    ∙ ap (λ m. (refined m.round.now R T m.width d.nodes.now).0) e.room
-    ∙ ap (λ xs. (refined c.args.room.round.now R T c.args.room.width xs).0) e.records)
+    let e = c.open-diagram.ensures in (
+      c.args.records.now,
+      c.requires.lent,
+      c.layer_of.ensures
+          ∙ ap (λ k. min k 4294967295) (
+          c.refine.ensures.answer
+          ∙ ap (λ m. (refined m.round.now R T m.width d.nodes.now).0) e.room
+          ∙ ap (λ xs. (refined r R T W xs).0) e.records
+          ∙ ap (λ Q. (refined r Q T W (openedOn r Q T W c.args.records.now)).0) c.requires.rule
+          ∙ ap (λ Q. (refined r (side_of r) Q W (openedOn r (side_of r) Q W c.args.records.now)).0) c.requires.tally),
+    )

@@ -1,6 +1,7 @@
-use mathlib.Core.Path.{◌≡◌}
-use lib.ListN.{length}
+-- The answer is that of the refine before, if there was one.
+use Rattle.std.proofs.Common.{◌≡◌, length}
+use Rattle.capi.specs.Answers.{Refines_times}
 use Rattle.capi.proofs.refine_times.Given as goal
 
-abbrev pub invariant-loop : goal.invariant-loop
-invariant-loop l = length l.records ≡ 2049
+abbrev pub invariant-loop-turn : goal.invariant-loop-turn
+invariant-loop-turn l = (length l.records ≡ 2049) × Refines_times l.room.round.now l.room.width l.turn l.answer
