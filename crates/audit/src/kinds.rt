@@ -59,7 +59,7 @@ impl Kinds {
 }
 
 // The doors that can be done, if those in the set are: once more over all of them.
-fn pass(pairs: &Pairs, done: u32) -> u32 {
+fn pass(pairs: &Pairs<'_>, done: u32) -> u32 {
     let mut all = done;
     for j in 1..17 {
         if !pairs.bars(all, j) {
@@ -70,7 +70,7 @@ fn pass(pairs: &Pairs, done: u32) -> u32 {
 }
 
 // Whether some door can never be done, as it comes ahead of itself over other doors.
-fn has_ring(pairs: &Pairs, n: usize) -> bool {
+fn has_ring(pairs: &Pairs<'_>, n: usize) -> bool {
     let mut done = pairs.start();
     for _ in 0..n {
         done = pass(pairs, done);

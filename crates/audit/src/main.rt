@@ -107,10 +107,7 @@ fn late_round(
     width: usize,
     sums: &mut Sums,
 ) -> anyhow::Result<()> {
-    let rule = Both {
-        first: Pairs::of(round),
-        second: Load::of(round),
-    };
+    let rule = Both::of(round);
     let tally = LateDoors::of(round);
     let listing = list(rt.alloc(), round, &rule, &tally)?;
     let orders = listing.allowed.as_slice();
@@ -137,10 +134,7 @@ fn driving_round(
     width: usize,
     sums: &mut Sums,
 ) -> anyhow::Result<()> {
-    let rule = Both {
-        first: Pairs::of(round),
-        second: Load::of(round),
-    };
+    let rule = Both::of(round);
     let listing = list(rt.alloc(), round, &rule, &Driving)?;
     let orders = listing.allowed.as_slice();
     let mut nodes = [mark(&rule, &Driving); LENT];

@@ -13,7 +13,7 @@ use Rattle.tallies.specs.Late.{lateSense}
 use Rattle.tallies.specs.Tallies.{TallySense}
 
 abbrev pub sideSense : Both Pairs Load → RuleSense (ℕ × Interval)
-sideSense b = bothSense (pairsSense b.first.n b.first.ahead) (loadSense b.second.n b.second.load b.second.limit b.second.doors)
+sideSense b = bothSense (pairsSense b.first.round.now.n b.first.round.now.ahead) (loadSense b.second.round.now.n b.second.round.now.load b.second.round.now.limit b.second.round.now.doors)
 
 -- the rule and the tally of a round
 abbrev pub side_of : Round → RuleSense (ℕ × Interval)

@@ -9,10 +9,9 @@ ghost use Rattle.capi.specs.Senses.{sideSense, side_of, late_of};
 
 use diagram::diagram::Diagram;
 use diagram::room::Room;
+use labels::blank::blank_node;
 use round::table::Round;
-use rules::rule::Rule;
 use tallies::late::LateDoors;
-use tallies::tally::Tally;
 use text::reading::read_bounded;
 
 mod call;
@@ -41,7 +40,7 @@ fn write_sheet(room: Room<'_>, calls: &[u8], out: &mut [u8])
 {
     let rule = work::side(room.round);
     let tally = LateDoors::of(room.round);
-    let mut records = [work::empty(rule.start()); RECORDS];
+    let mut records = [blank_node(&rule, &tally); RECORDS];
     let mut diagram = Diagram::open(room, &rule, &tally, &mut records);
     work::make_all(&mut diagram, &rule, &tally, calls, HEAD, out);
     words::put_word(out, 0, words::word(room.round.n));
@@ -88,13 +87,13 @@ pub extern "C" fn morvuges_sheet(text: &[u8], width: usize, calls: &[u8], out: &
 // Opens a diagram and refines it, and gives refine's answer as a word.
 fn refine_once(
     room: Room<'_>,
-    rule: &work::Side,
-    tally: &LateDoors,
+    rule: &work::Side<'_>,
+    tally: &LateDoors<'_>,
     records: &mut [work::Place],
 ) -> u32
     requires lent { room.round.now.n * room.width + 1 ≤ length records.old }
     requires rule { sideSense rule.now ≡ side_of room.round.now }
-    requires tally { lateSense tally.now.n tally.now.doors ≡ late_of room.round.now }
+    requires tally { lateSense tally.now.round.now.n tally.now.round.now.doors ≡ late_of room.round.now }
     ensures { Refines room.entry.round.now room.entry.width result }
 {
     let mut diagram = Diagram::open(room, rule, tally, records);
@@ -107,7 +106,7 @@ fn refine_times(room: Room<'_>, times: usize) -> u32
 {
     let rule = work::side(room.round);
     let tally = LateDoors::of(room.round);
-    let mut records = [work::empty(rule.start()); RECORDS];
+    let mut records = [blank_node(&rule, &tally); RECORDS];
     let mut answer = 0;
     for turn in 0..times {
         answer = refine_once(room, &rule, &tally, &mut records);

@@ -7,53 +7,28 @@ use crate::call::{CALL, Call};
 use crate::words::{put_word, word};
 use diagram::diagram::Diagram;
 use doors::DoorSet;
-use layers::node::{Arcs, Down, Label, Node, Up};
+use layers::node::Node;
 use layers::refusal::Refusal;
 use refine::answer::Refined;
 use round::table::Round;
 use rules::both::Both;
 use rules::load::{Interval, Load};
 use rules::pairs::Pairs;
-use rules::rule::Rule;
 use tallies::late::LateDoors;
 
 pub(crate) type Held = (DoorSet, Interval);
 
 pub(crate) type Cost = (u32, u32);
 
-pub(crate) type Side = Both<Pairs, Load>;
+pub(crate) type Side<'a> = Both<Pairs<'a>, Load<'a>>;
 
 pub(crate) type Place = Node<Held, Cost>;
 
 // The rule of pairs and load together.
-pub(crate) fn side(round: &Round) -> Side
+pub(crate) fn side<'a>(round: &'a Round) -> Side<'a>
     ensures { sideSense result ≡ side_of round.now }
 {
-    Both {
-        first: Pairs::of(round),
-        second: Load::of(round),
-    }
-}
-
-// A place with no arcs and no label yet.
-pub(crate) fn empty(state: Held) -> Place {
-    Node {
-        arcs: Arcs { to: [0; 16] },
-        label: Label {
-            down: Down {
-                all: 0,
-                some: 0,
-                finish: 0,
-                lasts: 0,
-                state,
-                value: (0, 0),
-            },
-            up: Up {
-                allup: 0,
-                someup: 0,
-            },
-        },
-    }
+    Both::of(round)
 }
 
 fn done(answer: Result<(), Refusal>) -> u32 {
@@ -75,8 +50,8 @@ pub(crate) fn layer_of(refined: Refined) -> u32
 // Makes one call, and gives its answer as a word.
 fn make(
     diagram: &mut Diagram<'_, '_, Held, Cost>,
-    rule: &Side,
-    tally: &LateDoors,
+    rule: &Side<'_>,
+    tally: &LateDoors<'_>,
     call: Call,
 ) -> u32 {
     match call {
@@ -95,8 +70,8 @@ fn make(
 // Makes the calls in turn, and writes their answers from byte `at` on.
 pub(crate) fn make_all(
     diagram: &mut Diagram<'_, '_, Held, Cost>,
-    rule: &Side,
-    tally: &LateDoors,
+    rule: &Side<'_>,
+    tally: &LateDoors<'_>,
     calls: &[u8],
     at: usize,
     out: &mut [u8],

@@ -8,7 +8,7 @@ use Rattle.capi.proofs.refine_once.Goals as goal
 pub returns : goal.returns
 returns c =
     let R = sideSense c.args.rule.now in
-    let T = lateSense c.args.tally.now.n c.args.tally.now.doors in
+    let T = lateSense c.args.tally.now.round.now.n c.args.tally.now.round.now.doors in
     let r = c.args.room.round.now in
     let W = c.args.room.width in
     let d = c.open-diagram.result in
