@@ -1,3 +1,2 @@
 mod Arcs_laid
 mod Opened
-mod Rooms

@@ -14,6 +14,9 @@ room-facts n w long e =
     let b = and_parts _ _ a.1 in
     record { low = leb-true 1 w a.0; high = leb-true w 128 b.0; enough = leb-true (n * w + 1) long b.1 }
 
+pub room-from : (n w long : ℕ) → 1 ≤ w → w ≤ 128 → n * w + 1 ≤ long → fits n w long ≡ true
+room-from n w long a b c = and_from _ _ (le-leb 1 w a) (and_from _ _ (le-leb w 128 b) (le-leb (n * w + 1) long c))
+
 -- a diagram has at most 2,048 records before the end
 pub few-records : (n w : ℕ) → n ≤ 16 → w ≤ 128 → n * w ≤ 2048
 few-records n w a b = le_trans (mul-le-mul_right w a) (omega arith)

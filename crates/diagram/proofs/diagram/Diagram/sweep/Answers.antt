@@ -1,11 +1,11 @@
 use Rattle.std.proofs.Common.{length, arith}
-use Rattle.diagram.proofs.Rooms.{roomy}
+use Rattle.labels.proofs.Rooms.{room-from}
 use Rattle.diagram.proofs.diagram.Diagram.sweep.Goals as goal
 
 pub invariant_of-self : goal.invariant_of-self
 invariant_of-self g c =
     let d = c.args.self.now in
-    let done = c.sweep.ensures.words (roomy d.room.round.now.n d.room.width (length d.nodes.now) d.room.wide d.room.narrow d.fits) d.shaped in
+    let done = c.sweep.ensures.words (room-from d.room.round.now.n d.room.width (length d.nodes.now) d.room.wide d.room.narrow d.fits) d.shaped in
     record {
       fits = omega (arith, d.fits);
       shaped = done.shaped;
