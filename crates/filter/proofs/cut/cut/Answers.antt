@@ -35,15 +35,6 @@ trim-requires g c =
       all_early = timely-all (take (r.n * W) xs) p.1;
     }
 
-pub redo-requires : goal.redo-requires
-redo-requires g c =
-    let r = c.args.round.now in
-    let W = c.args.width in
-    let xs = c.args.nodes.now in
-    let p = and_parts (fits r.n W (length xs)) (timely (take (r.n * W) xs)) (sym c.if-not-may_cut.ensures) in
-    let long : length c.trim.new.nodes ≡ length xs = c.trim.auto.nodes in
-    ap (fits r.n W) long ∙ p.0
-
 pub returns : goal.returns
 unfolding arcCount cutSteps
 returns g c =

@@ -1,20 +1,10 @@
-use Rattle.std.proofs.Common.{◌≡◌, true, eqb, length, sym, ◌∙◌, ap₂, arith}
+use Rattle.std.proofs.Common.{◌≡◌, true, eqb, length, sym, ◌∙◌, ap₂}
 use Rattle.std.proofs.lemmas.Bool.{cond-true}
 use Rattle.tallies.specs.Tallies.{TallySense}
 use Rattle.labels.specs.Passes.{fits}
-use Rattle.labels.proofs.Rooms.{room-facts}
 use Rattle.filter.specs.Steps.{arcCount, quietSteps}
 use Rattle.filter.proofs.QuietWords.{quiet-words}
 use Rattle.filter.proofs.quiet.quiet.Goals as goal
-
-pub kept_from-left-requires : goal.kept_from-left-requires
-kept_from-left-requires g c =
-    let f = room-facts c.args.round.now.n c.args.width (length c.args.nodes.now) (sym c.if-not-has_room.ensures) in
-    record {
-      counts_left = omega arith;
-      w_in_bounds = omega (arith, f.enough);
-      w_bound = f.high;
-    }
 
 pub returns : goal.returns
 unfolding arcCount quietSteps

@@ -1,20 +1,11 @@
-use Rattle.std.proofs.Common.{◌≡◌, ℕ, ◌-◌, true, length, sym, ap, ◌∙◌, subst, ap₂, arith}
+use Rattle.std.proofs.Common.{◌≡◌, ℕ, ◌-◌, true, length, sym, ap, ◌∙◌, subst, ap₂}
 use Rattle.std.proofs.lemmas.Bool.{cond-true}
 use Rattle.layers.specs.Shape.{Shaped, Timely}
 use Rattle.layers.specs.Calls.{swept, fewer}
 use Rattle.labels.specs.Passes.{fits}
-use Rattle.labels.proofs.Rooms.{room-facts}
 use Rattle.filter.specs.Steps.{arcCount, redone, sweepSteps}
 use Rattle.filter.proofs.FilterWords.{sweep-words, swept-shaped, swept-timely, fewer-words}
 use Rattle.filter.proofs.sweep.sweep.Goals as goal
-
-pub thin_from-requires : goal.thin_from-requires
-thin_from-requires g c =
-    let f = room-facts c.args.round.now.n c.args.width (length c.args.nodes.now) (sym c.if-not-has_room.ensures) in
-    record {
-      counts_left = omega arith;
-      w_in_bounds = omega (arith, f.enough);
-    }
 
 pub returns : goal.returns
 unfolding arcCount sweepSteps

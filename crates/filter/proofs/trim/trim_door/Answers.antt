@@ -1,13 +1,6 @@
-use Rattle.std.proofs.Common.{◌+◌, true, false, get_or, sym, ap}
-use Rattle.layers.specs.Targets.{atDoor}
-use Rattle.filter.specs.Trimmed.{trimmedTo}
+use Rattle.std.proofs.Common.{◌+◌, true, false, get_or}
 use Rattle.filter.proofs.Trims.{trim-here}
 use Rattle.filter.proofs.trim.trim_door.Goals as goal
-
-pub returns-then-t-eq0 : goal.returns-then-t-eq0
-returns-then-t-eq0 g c q =
-    let u = c.args.u.now in
-    ap (atDoor (trimmedTo c.args.round.now q (g.T.Tally.sense c.args.tally.now) c.args.ceiling u) (c.args.k + 1)) (sym c.if-t-eq0.true)
 
 pub returns-then-too_dear : goal.returns-then-too_dear
 returns-then-too_dear g c q =
