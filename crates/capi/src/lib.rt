@@ -4,7 +4,7 @@
 ghost use Rattle.std.specs.Prelude.{◌≡◌, ◌+◌, ◌-◌, ◌*◌, ◌/◌, ◌≤◌, min, negsuc, length};
 ghost use Rattle.tallies.specs.Late.{lateSense};
 ghost use Rattle.capi.specs.Answers.{Answers, Sheeted, Refines, Refines_times, Often};
-ghost use Rattle.capi.specs.Bytes.{Answered};
+ghost use Rattle.capi.specs.Bytes.{Answered, Kept};
 ghost use Rattle.capi.specs.Senses.{sideSense, side_of, late_of};
 
 use diagram::diagram::Diagram;
@@ -36,7 +36,8 @@ fn refused(number: u8) -> i64
 fn write_sheet(room: Room<'_>, calls: &[u8], out: &mut [u8])
     requires width_bound { room.round.now.n * room.width + 1 ≤ 2049 }
     requires calls_in_bounds { 88 + length calls.now / 4 ≤ length out.old }
-    ensures { length out.new ≡ length out.old }
+    ensures long { length out.new ≡ length out.old }
+    ensures kept { Kept (88 + length calls.now / 4) out.old out.new }
 {
     let rule = work::side(room.round);
     let tally = LateDoors::of(room.round);
@@ -52,6 +53,7 @@ fn write_sheet(room: Room<'_>, calls: &[u8], out: &mut [u8])
 
 fn sheet_of(round: &Round, width: usize, calls: &[u8], out: &mut [u8]) -> i64
     ensures answered { Answered result (88 + length calls.now / 4) (out.new ≡ out.old) }
+    ensures kept { Kept (88 + length calls.now / 4) out.old out.new }
     ensures sheet { Sheeted (length calls.now) (length out.old) round.now width result }
 {
     match Room::check(round, width, RECORDS) {
@@ -74,6 +76,7 @@ fn sheet_of(round: &Round, width: usize, calls: &[u8], out: &mut [u8]) -> i64
 #[unsafe(no_mangle)]
 pub extern "C" fn morvuges_sheet(text: &[u8], width: usize, calls: &[u8], out: &mut [u8]) -> i64
     ensures answered { Answered result (88 + length calls.now / 4) (out.new ≡ out.old) }
+    ensures kept { Kept (88 + length calls.now / 4) out.old out.new }
     ensures long { length out.new ≡ length out.old }
     ensures sheet { Answers text.now (λ r. Sheeted (length calls.now) (length out.old) r width) result }
 {

@@ -1,6 +1,6 @@
 // Words of 32 bits in bytes, the lowest byte first.
 ghost use Rattle.std.specs.Prelude.{◌≡◌, ◌+◌, ◌≤◌, min, length};
-ghost use Rattle.capi.specs.Bytes.{word_at};
+ghost use Rattle.capi.specs.Bytes.{word_at, Kept};
 
 // The word whose first byte stands at `at`.
 pub(crate) fn word_at(bytes: &[u8], at: usize) -> u32
@@ -13,7 +13,8 @@ pub(crate) fn word_at(bytes: &[u8], at: usize) -> u32
 // Writes a word whose first byte comes to stand at `at`.
 pub(crate) fn put_word(out: &mut [u8], at: usize, word: u32)
     requires { at + 4 ≤ length out.old }
-    ensures { length out.new ≡ length out.old }
+    ensures long { length out.new ≡ length out.old }
+    ensures kept { Kept (at + 4) out.old out.new }
 {
     let bytes = word.to_le_bytes();
     out[at] = bytes[0];

@@ -1,6 +1,7 @@
 // A diagram over records of its own: made, put to work, and asked.
 ghost use Rattle.std.specs.Prelude.{◌≡◌, ◌+◌, ◌*◌, ◌/◌, ◌≤◌, min, length};
 ghost use Rattle.refine.specs.Answers.{answer_of};
+ghost use Rattle.capi.specs.Bytes.{Kept};
 ghost use Rattle.capi.specs.Senses.{sideSense, side_of};
 
 use crate::call::{CALL, Call};
@@ -77,7 +78,8 @@ pub(crate) fn make_all(
     out: &mut [u8],
 )
     requires { at + length calls.now / 4 ≤ length out.old }
-    ensures { length out.new ≡ length out.old }
+    ensures long { length out.new ≡ length out.old }
+    ensures kept { Kept (at + length calls.now / 4) out.old out.new }
 {
     for k in 0..calls.len() / CALL {
         if let Some(call) = Call::read(calls, k * CALL) {
@@ -100,7 +102,8 @@ fn behind(diagram: &Diagram<'_, '_, Held, Cost>, i: usize) -> DoorSet {
 // Sixteen words from byte `at` on: for each door, the doors behind it.
 pub(crate) fn put_musts(diagram: &Diagram<'_, '_, Held, Cost>, at: usize, out: &mut [u8])
     requires { at + 64 ≤ length out.old }
-    ensures { length out.new ≡ length out.old }
+    ensures long { length out.new ≡ length out.old }
+    ensures kept { Kept (at + 64) out.old out.new }
 {
     for k in 0..16 {
         put_word(out, at + 4 * k, behind(diagram, k + 1));
@@ -110,7 +113,8 @@ pub(crate) fn put_musts(diagram: &Diagram<'_, '_, Held, Cost>, at: usize, out: &
 // Three words from byte `at` on: 1 and the bound, or three zeros if there is none.
 pub(crate) fn put_bound(bound: Option<Cost>, at: usize, out: &mut [u8])
     requires { at + 12 ≤ length out.old }
-    ensures { length out.new ≡ length out.old }
+    ensures long { length out.new ≡ length out.old }
+    ensures kept { Kept (at + 12) out.old out.new }
 {
     let (some, (doors, minutes)) = match bound {
         Some(cost) => (1, cost),

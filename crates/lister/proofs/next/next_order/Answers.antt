@@ -13,4 +13,5 @@ returns c =
     let ys = c.reverse.new.self in
     record {
       same_doors = IsPermutation-trans xs ws (put_mid a (length ws - a) ws ys) c.swap.ensures.permutation (shuffled-mid a (length ws - a) ws ys c.reverse.ensures.permutation);
-      last = λ e. grind (arith, e) }
+      last = λ e. grind (arith, e);
+    }
