@@ -5,19 +5,19 @@ use Rattle.rules.specs.declared.both.Both.{Both}
 use Rattle.rules.specs.declared.load.Interval.{Interval}
 use Rattle.rules.specs.declared.load.Load.{Load}
 use Rattle.rules.specs.declared.pairs.Pairs.{Pairs}
-use Rattle.rules.specs.Boths.{bothSense}
-use Rattle.rules.specs.Loads.{loadSense}
-use Rattle.rules.specs.Pairs.{pairsSense}
+use Rattle.rules.specs.Boths.{both_sense}
+use Rattle.rules.specs.Loads.{load_sense}
+use Rattle.rules.specs.Pairs.{pairs_sense}
 use Rattle.rules.specs.Rules.{RuleSense}
-use Rattle.tallies.specs.Late.{lateSense}
+use Rattle.tallies.specs.Late.{late_sense}
 use Rattle.tallies.specs.Tallies.{TallySense}
 
-abbrev pub sideSense : Both Pairs Load → RuleSense (ℕ × Interval)
-sideSense b = bothSense (pairsSense b.first.round.now.n b.first.round.now.ahead) (loadSense b.second.round.now.n b.second.round.now.load b.second.round.now.limit b.second.round.now.doors)
+abbrev pub side_sense : Both Pairs Load → RuleSense (ℕ × Interval)
+side_sense b = both_sense (pairs_sense b.first.round.now.n b.first.round.now.ahead) (load_sense b.second.round.now.n b.second.round.now.load b.second.round.now.cap b.second.round.now.doors)
 
 -- the rule and the tally of a round
 abbrev pub side_of : Round → RuleSense (ℕ × Interval)
-side_of r = bothSense (pairsSense r.n r.ahead) (loadSense r.n r.load r.limit r.doors)
+side_of r = both_sense (pairs_sense r.n r.ahead) (load_sense r.n r.load r.cap r.doors)
 
 abbrev pub late_of : Round → TallySense (ℕ × ℕ)
-late_of r = lateSense r.n r.doors
+late_of r = late_sense r.n r.doors

@@ -2,10 +2,10 @@
 #![tactic(auto)]
 
 ghost use Rattle.std.specs.Prelude.{◌≡◌, ◌+◌, ◌-◌, ◌*◌, ◌/◌, ◌≤◌, min, negsuc, length};
-ghost use Rattle.tallies.specs.Late.{lateSense};
-ghost use Rattle.capi.specs.Answers.{Answers, Sheeted, Refines, Refines_times, Often};
+ghost use Rattle.tallies.specs.Late.{late_sense};
+ghost use Rattle.capi.specs.Answers.{Answers, Sheeted, Refines, RefinesTimes, Often};
 ghost use Rattle.capi.specs.Bytes.{Answered, Kept};
-ghost use Rattle.capi.specs.Senses.{sideSense, side_of, late_of};
+ghost use Rattle.capi.specs.Senses.{side_sense, side_of, late_of};
 
 use diagram::diagram::Diagram;
 use diagram::room::Room;
@@ -95,8 +95,8 @@ fn refine_once(
     records: &mut [work::Place],
 ) -> u32
     requires lent { room.round.now.n * room.width + 1 ≤ length records.old }
-    requires rule { sideSense rule.now ≡ side_of room.round.now }
-    requires tally { lateSense tally.now.round.now.n tally.now.round.now.doors ≡ late_of room.round.now }
+    requires rule { side_sense rule.now ≡ side_of room.round.now }
+    requires tally { late_sense tally.now.round.now.n tally.now.round.now.doors ≡ late_of room.round.now }
     ensures { Refines room.entry.round.now room.entry.width result }
 {
     let mut diagram = Diagram::open(room, rule, tally, records);
@@ -105,7 +105,7 @@ fn refine_once(
 
 fn refine_times(room: Room<'_>, times: usize) -> u32
     requires { room.round.now.n * room.width + 1 ≤ 2049 }
-    ensures { Refines_times room.entry.round.now room.entry.width times result }
+    ensures { RefinesTimes room.entry.round.now room.entry.width times result }
 {
     let rule = work::side(room.round);
     let tally = LateDoors::of(room.round);

@@ -2,7 +2,7 @@
 ghost use Rattle.std.specs.Prelude.{◌≡◌, ◌+◌, ◌*◌, ◌/◌, ◌≤◌, min, length};
 ghost use Rattle.refine.specs.Answers.{answer_of};
 ghost use Rattle.capi.specs.Bytes.{Kept};
-ghost use Rattle.capi.specs.Senses.{sideSense, side_of};
+ghost use Rattle.capi.specs.Senses.{side_sense, side_of};
 
 use crate::call::{CALL, Call};
 use crate::words::{put_word, word};
@@ -27,7 +27,7 @@ pub(crate) type Place = Node<Held, Cost>;
 
 // The rule of pairs and load together.
 pub(crate) fn side<'a>(round: &'a Round) -> Side<'a>
-    ensures { sideSense result ≡ side_of round.now }
+    ensures { side_sense result ≡ side_of round.now }
 {
     Both::of(round)
 }

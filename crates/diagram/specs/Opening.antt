@@ -6,23 +6,23 @@ use Rattle.layers.specs.Flow.{table}
 use Rattle.layers.specs.Records.{padded}
 
 -- an arc for each of n doors, to node 1
-abbrev pub everyDoor : ℕ → Arcs
-everyDoor n = record { to = padded (table n (λ k. 1)) }
+abbrev pub every_door : ℕ → Arcs
+every_door n = record { to = padded (table n (λ k. 1)) }
 
-abbrev pub noDoor : Arcs
-noDoor = record { to = padded [] }
+abbrev pub no_door : Arcs
+no_door = record { to = padded [] }
 
 -- the arcs of place k, with n layers of arcs: the first node of each has them all, and no other place has any
-unfoldable pub arcsOpened : Arcs → ℕ → ℕ → ℕ → Arcs
-arcsOpened all n W k = cond (nat_lt k (n * W) && k % W == 0) all noDoor
+unfoldable pub arcs_opened : Arcs → ℕ → ℕ → ℕ → Arcs
+arcs_opened all n W k = cond (nat_lt k (n * W) && k % W == 0) all no_door
 
 module _ {S V : Type 0} where
   -- a record with other arcs
-  abbrev pub withArcs : Node S V → Arcs → Node S V
-  withArcs x a = record { arcs = a; label = x.label }
+  abbrev pub with_arcs : Node S V → Arcs → Node S V
+  with_arcs x a = record { arcs = a; label = x.label }
 
   -- the first m records, each with the arcs of its place
   abbrev pub arced : (ℕ → Arcs) → ℕ → List (Node S V) → List (Node S V)
   arced f zero xs = xs
   arced f (suc m) [] = []
-  arced f (suc m) (x ∷ xs) = withArcs x (f 0) ∷ arced (λ k. f (suc k)) m xs
+  arced f (suc m) (x ∷ xs) = with_arcs x (f 0) ∷ arced (λ k. f (suc k)) m xs

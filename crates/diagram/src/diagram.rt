@@ -1,6 +1,6 @@
 // A diagram over a lent list of records, which it keeps with its round and width.
 ghost use Rattle.std.specs.Prelude.{◌≡◌, ◌+◌, ◌*◌, ◌≤◌, List, length};
-ghost use Rattle.layers.specs.Calls.{Call, openedOn, run};
+ghost use Rattle.layers.specs.Calls.{Call, opened_on, run};
 ghost use Rattle.layers.specs.Claim.{Sure, WholeSettles};
 ghost use Rattle.layers.specs.Shape.{Shaped, Timely};
 ghost use Rattle.std.proofs.Props.{props};
@@ -36,7 +36,7 @@ impl<'a, 'n, S: Copy, V: Copy> Diagram<'a, 'n, S, V> {
     ) -> Diagram<'a, 'n, S, V>
         requires { room.round.now.n * room.width + 1 ≤ length nodes.old }
         ensures room { result.room ≡ room.entry }
-        ensures records { result.nodes.now ≡ openedOn room.entry.round.now (R.Rule.sense rule.now) (T.Tally.sense tally.now) room.entry.width nodes.old }
+        ensures records { result.nodes.now ≡ opened_on room.entry.round.now (R.Rule.sense rule.now) (T.Tally.sense tally.now) room.entry.width nodes.old }
         ensures lender { result.nodes.ghost_name ≡ nodes.entry.ghost_name }
         ensures claim { R.Rule.serves rule.now room.entry.round.now.n → T.Tally.serves tally.now room.entry.round.now.n → (cs : List (Call V)) → Sure room.entry.round.now (R.Rule.sense rule.now) (R.Rule.keeps rule.now) (T.Tally.sense tally.now) room.entry.width cs (run room.entry.round.now (R.Rule.sense rule.now) (T.Tally.sense tally.now) room.entry.width cs result.nodes.now) }
         ensures whole { R.Rule.serves rule.now room.entry.round.now.n → (cs : List (Call V)) → WholeSettles room.entry.round.now (R.Rule.sense rule.now) (T.Tally.sense tally.now) room.entry.width (run room.entry.round.now (R.Rule.sense rule.now) (T.Tally.sense tally.now) room.entry.width cs result.nodes.now) }

@@ -1,7 +1,7 @@
 // Lays the arcs of a diagram that is just opened.
 ghost use Rattle.std.specs.Prelude.{◌≡◌, ℕ, ◌+◌, ◌*◌, ◌<◌, ◌≤◌, length, slice_index_or, slice_set};
 ghost use Rattle.layers.specs.declared.node.Node.{Node as ANode};
-ghost use Rattle.diagram.specs.Opening.{everyDoor, arcsOpened, withArcs, arced};
+ghost use Rattle.diagram.specs.Opening.{every_door, arcs_opened, with_arcs, arced};
 
 use layers::node::{Arcs, Node};
 
@@ -10,7 +10,7 @@ const NONE: Arcs = Arcs { to: [0; 16] };
 // An arc for each of n doors, to node 1.
 fn every_door(n: usize) -> Arcs
     requires { n ≤ 16 }
-    ensures { result ≡ everyDoor n }
+    ensures { result ≡ every_door n }
 {
     let mut to = [0u8; 16];
     for k in 0..n {
@@ -24,7 +24,7 @@ fn arcs_at(all: Arcs, n: usize, width: usize, k: usize) -> Arcs
     requires n_bound { n ≤ 16 }
     requires one_le_width { 1 ≤ width }
     requires width_bound { width ≤ 128 }
-    ensures { result ≡ arcsOpened all n width k }
+    ensures { result ≡ arcs_opened all n width k }
 {
     if k < n * width && k % width == 0 {
         all
@@ -35,7 +35,7 @@ fn arcs_at(all: Arcs, n: usize, width: usize, k: usize) -> Arcs
 
 fn put_arcs<S: Copy, V: Copy>(nodes: &mut [Node<S, V>], k: usize, arcs: Arcs)
     requires { k < length nodes.old }
-    ensures { (d : ANode S V) → nodes.new ≡ slice_set nodes.old k (withArcs (slice_index_or nodes.old k d) arcs) }
+    ensures { (d : ANode S V) → nodes.new ≡ slice_set nodes.old k (with_arcs (slice_index_or nodes.old k d) arcs) }
 {
     nodes[k].arcs = arcs;
 }
@@ -46,7 +46,7 @@ pub(crate) fn lay_arcs<S: Copy, V: Copy>(nodes: &mut [Node<S, V>], n: usize, wid
     requires one_le_width { 1 ≤ width }
     requires width_bound { width ≤ 128 }
     requires width_in_bounds { n * width + 1 ≤ length nodes.old }
-    ensures { nodes.new ≡ arced (arcsOpened (everyDoor n) n width) (n * width + 1) nodes.old }
+    ensures { nodes.new ≡ arced (arcs_opened (every_door n) n width) (n * width + 1) nodes.old }
 {
     let all = every_door(n);
     let end = n * width + 1;

@@ -1,40 +1,40 @@
 -- Part orders: doors as tests, induction by the last door, and what holds at each door.
 use Rattle.std.proofs.Common.{◌≡◌, ℕ, true, false, not, eqb, ◌⊎◌, List, [], ◌∷◌, ◌++◌, sym, refl, ap, ◌∙◌, subst, inl, inr, ⊎_elim, append_assoc, append-nil, arith}
 use Rattle.std.proofs.lemmas.Bool.{leb-true, eqb-true, eq-eqb, and_parts, and_from, or_cases, or_left, or_right, not-true, not_from_false, both_ways, le-leb, cases_Bool}
-use Rattle.doors.specs.Orders.{In, Door, PartOrder, Next, AtEach, isDoor, isIn, isPartOrder}
+use Rattle.doors.specs.Orders.{In, Door, PartOrder, Next, AtEach, is_door, is_in, is_part_order}
 
 -- ---- doors
 
-pub is-door : (n j : ℕ) → isDoor n j ≡ true → Door n j
+pub is-door : (n j : ℕ) → is_door n j ≡ true → Door n j
 is-door n j e = record { low = leb-true 1 j (and_parts _ _ e).0; high = leb-true j n (and_parts _ _ e).1 }
 
-pub door-is : (n j : ℕ) → Door n j → isDoor n j ≡ true
+pub door-is : (n j : ℕ) → Door n j → is_door n j ≡ true
 door-is n j d = and_from _ _ (le-leb 1 j d.low) (le-leb j n d.high)
 
-pub not-door : (n j : ℕ) → (Door n j → ⊥) → isDoor n j ≡ false
-not-door n j h = ⊎_elim (λ e. absurd (h (is-door n j e))) (λ e. e) (cases_Bool (isDoor n j))
+pub not-door : (n j : ℕ) → (Door n j → ⊥) → is_door n j ≡ false
+not-door n j h = ⊎_elim (λ e. absurd (h (is-door n j e))) (λ e. e) (cases_Bool (is_door n j))
 
 -- ---- the tests tell what they say
 
-pub is-in : (j : ℕ) (w : List ℕ) → isIn j w ≡ true → In j w
+pub is-in : (j : ℕ) (w : List ℕ) → is_in j w ≡ true → In j w
 is-in j [] e = absurd (both_ways false refl e)
-is-in j (x ∷ w) e = ⊎_elim (λ a. inl (eqb-true j x a)) (λ a. inr (is-in j w a)) (or_cases (eqb j x) (isIn j w) e)
+is-in j (x ∷ w) e = ⊎_elim (λ a. inl (eqb-true j x a)) (λ a. inr (is-in j w a)) (or_cases (eqb j x) (is_in j w) e)
 
-pub in_is : (j : ℕ) (w : List ℕ) → In j w → isIn j w ≡ true
+pub in_is : (j : ℕ) (w : List ℕ) → In j w → is_in j w ≡ true
 in_is j [] h = absurd h
 in_is j (x ∷ w) h = ⊎_elim (λ e. or_left _ _ (eq-eqb j x e)) (λ r. or_right _ _ (in_is j w r)) h
 
-pub is-part : (n : ℕ) (w : List ℕ) → isPartOrder n w ≡ true → PartOrder n w
+pub is-part : (n : ℕ) (w : List ℕ) → is_part_order n w ≡ true → PartOrder n w
 is-part n [] e = tt
 is-part n (j ∷ w) e =
-    let p = and_parts (isDoor n j) _ e in
-    let q = and_parts (not (isIn j w)) _ p.1 in
-    (is-door n j p.0, λ h. both_ways (isIn j w) (not-true _ q.0) (in_is j w h), is-part n w q.1)
+    let p = and_parts (is_door n j) _ e in
+    let q = and_parts (not (is_in j w)) _ p.1 in
+    (is-door n j p.0, λ h. both_ways (is_in j w) (not-true _ q.0) (in_is j w h), is-part n w q.1)
 
-pub part-is : (n : ℕ) (w : List ℕ) → PartOrder n w → isPartOrder n w ≡ true
+pub part-is : (n : ℕ) (w : List ℕ) → PartOrder n w → is_part_order n w ≡ true
 part-is n [] p = refl
 part-is n (j ∷ w) p =
-    let new : isIn j w ≡ false = ⊎_elim (λ e. absurd (p.1 (is-in j w e))) (λ e. e) (cases_Bool (isIn j w)) in
+    let new : is_in j w ≡ false = ⊎_elim (λ e. absurd (p.1 (is-in j w e))) (λ e. e) (cases_Bool (is_in j w)) in
     and_from _ _ (door-is n j p.0) (and_from _ _ (not_from_false _ new) (part-is n w p.2))
 
 -- ---- induction on part orders, by the last door

@@ -5,7 +5,7 @@ use lib.Bits.{bit_and, bit_or, and_step, or_step, and_shr, or_shr, or_zero_r, or
 use lib.Count.{ones, ones_step, ones-le}
 use lib.Pow.{pow-lt}
 use Rattle.std.proofs.lemmas.Bool.{cases_eq, eqb-true, eq-eqb, both_ways}
-use Rattle.doors.specs.Sets.{digit, Has, has, setOf}
+use Rattle.doors.specs.Sets.{digit, Has, has, set_of}
 use Rattle.doors.specs.Orders.{In, Door, PartOrder}
 
 -- ---- digits
@@ -127,21 +127,21 @@ ones-within a b h = within-upto a a b (le_refl a) h
 
 -- ---- the set of a list
 
-pub has-set : (w : List ℕ) (j : ℕ) → Has (setOf w) j → In j w
+pub has-set : (w : List ℕ) (j : ℕ) → Has (set_of w) j → In j w
 has-set [] j h = has-none j h
-has-set (x ∷ w) j h = ⊎_elim inl (λ r. inr (has-set w j r)) (has_more (setOf w) x j h)
+has-set (x ∷ w) j h = ⊎_elim inl (λ r. inr (has-set w j r)) (has_more (set_of w) x j h)
 
-pub ones-set : (n : ℕ) (w : List ℕ) → PartOrder n w → ones (setOf w) ≡ length w
+pub ones-set : (n : ℕ) (w : List ℕ) → PartOrder n w → ones (set_of w) ≡ length w
 ones-set n [] p = ones_none
-ones-set n (x ∷ w) p = ones-added x (setOf w) (λ h. p.1 (has-set w x h)) ∙ ap suc (ones-set n w p.2)
+ones-set n (x ∷ w) p = ones-added x (set_of w) (λ h. p.1 (has-set w x h)) ∙ ap suc (ones-set n w p.2)
 
 -- a set that has each of k doors, none twice, has k doors or more
 pub length-within : (n m : ℕ) (w : List ℕ) → PartOrder n w → ((j : ℕ) → In j w → Has m j) → length w ≤ ones m
-length-within n m w p h = omega (arith, ones-set n w p, ones-within (setOf w) m (λ j e. h j (has-set w j e)))
+length-within n m w p h = omega (arith, ones-set n w p, ones-within (set_of w) m (λ j e. h j (has-set w j e)))
 
-set-lt : (n : ℕ) (w : List ℕ) → PartOrder n w → setOf w < 2 ^ suc n
+set-lt : (n : ℕ) (w : List ℕ) → PartOrder n w → set_of w < 2 ^ suc n
 set-lt n [] p = pow_pos (suc n)
-set-lt n (x ∷ w) p = or_lt (suc n) (setOf w) (2 ^ x) (set-lt n w p.2) (pow-lt (omega arith))
+set-lt n (x ∷ w) p = or_lt (suc n) (set_of w) (2 ^ x) (set-lt n w p.2) (pow-lt (omega arith))
 
 pub part-door : (n : ℕ) (w : List ℕ) (j : ℕ) → PartOrder n w → In j w → Door n j
 part-door n [] j p h = absurd h
@@ -150,7 +150,7 @@ part-door n (x ∷ w) j p h = ⊎_elim (λ e. subst (λ (k : ℕ). Door n k) (sy
 -- a part order of n doors has at most n
 pub part_length : (n : ℕ) (w : List ℕ) → PartOrder n w → length w ≤ n
 part_length n w p =
-    let m = setOf w in
+    let m = set_of w in
     let below : m / 2 < 2 ^ n = omega (arith, set-lt n w p, pow-suc 2 n) in
     let even : m % 2 ≡ 0 = ⊎_elim (λ e. absurd (omega (arith, (part-door n w 0 p (has-set w 0 e)).low))) (λ n. omega arith) (cases_eq (digit m 0) 1) in
     omega (arith, ones-set n w p, ones_step m, ones-le n (m / 2) below)

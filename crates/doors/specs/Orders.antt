@@ -12,8 +12,8 @@ pub record Door (n j : ℕ) : Type 0 where
   pub high : j ≤ n
 
 -- the same, as a test
-abbrev pub isDoor : ℕ → ℕ → Bool
-isDoor n j = nat_le 1 j && nat_le j n
+abbrev pub is_door : ℕ → ℕ → Bool
+is_door n j = nat_le 1 j && nat_le j n
 
 -- w is a list of the doors 1 to n, none twice
 abbrev pub PartOrder : ℕ → List ℕ → Type 0
@@ -21,13 +21,13 @@ PartOrder n [] = Unit {0}
 PartOrder n (j ∷ w) = Door n j × (In j w → ⊥) × PartOrder n w
 
 -- whether j stands in w, and whether w is a part order: the same, as tests
-abbrev pub isIn : ℕ → List ℕ → Bool
-isIn j [] = false
-isIn j (x ∷ w) = j == x || isIn j w
+abbrev pub is_in : ℕ → List ℕ → Bool
+is_in j [] = false
+is_in j (x ∷ w) = j == x || is_in j w
 
-abbrev pub isPartOrder : ℕ → List ℕ → Bool
-isPartOrder n [] = true
-isPartOrder n (j ∷ w) = isDoor n j && (not (isIn j w) && isPartOrder n w)
+abbrev pub is_part_order : ℕ → List ℕ → Bool
+is_part_order n [] = true
+is_part_order n (j ∷ w) = is_door n j && (not (is_in j w) && is_part_order n w)
 
 -- w is a part order of n doors, and j a door that it lacks
 pub record Next (n : ℕ) (w : List ℕ) (j : ℕ) : Type 0 where

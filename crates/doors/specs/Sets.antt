@@ -14,6 +14,6 @@ abbrev pub has : ℕ → ℕ → Bool
 has m j = digit m j == 1
 
 -- the set of the doors of w
-abbrev pub setOf : List ℕ → ℕ
-setOf [] = 0
-setOf (j ∷ w) = bit_or (setOf w) (2 ^ j)
+abbrev pub set_of : List ℕ → ℕ
+set_of [] = 0
+set_of (j ∷ w) = bit_or (set_of w) (2 ^ j)

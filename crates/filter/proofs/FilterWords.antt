@@ -5,24 +5,24 @@ use Rattle.round.specs.declared.table.Round.{Round}
 use Rattle.rules.specs.Rules.{RuleSense}
 use Rattle.tallies.specs.Tallies.{TallySense}
 use Rattle.layers.specs.declared.node.Node.{Node}
-use Rattle.layers.specs.Flow.{Net, node, target, countArcs, tidied}
+use Rattle.layers.specs.Flow.{Net, node, target, count_arcs, tidied}
 use Rattle.layers.specs.Records.{layers, drawn, laid}
 use Rattle.layers.specs.Calls.{nodes, arcs, thinned, trimmed, relaid, fewer, swept, cut_at}
 use Rattle.layers.specs.Shape.{Shaped, Timely}
 use Rattle.layers.proofs.Proper.{Proper, even-of, lawful}
 use Rattle.layers.proofs.Shaped.{shaped-proper, relaid-shaped, ended-one, tied-ranged, RangedAll, Less, thinned-less, trimmed-less, proper-less}
 use Rattle.layers.proofs.Timely.{relaid-timely}
-use Rattle.labels.specs.Passes.{fits, blankNode}
+use Rattle.labels.specs.Passes.{fits, blank_node}
 use Rattle.labels.proofs.Laying.{Arranged, Good, relabelled-lawful}
 use Rattle.labels.proofs.Rooms.{room-facts}
 use Rattle.labels.proofs.Shaped_arranged.{shaped-arranged, good-net}
-use Rattle.tidying.specs.Tidied.{firstMark}
+use Rattle.tidying.specs.Tidied.{first_mark}
 use Rattle.tidying.specs.Tidied.{tidied as tidiedFlat}
 use Rattle.tidying.proofs.TidyNet.{tidied-arranged, tidied-tail}
-use Rattle.filter.specs.Steps.{arcCount, redone, sweepSteps, cutSteps}
-use Rattle.filter.specs.Thinned.{thinnedFrom}
+use Rattle.filter.specs.Steps.{arc_count, redone, sweep_steps, cut_steps}
+use Rattle.filter.specs.Thinned.{thinned_from}
 use Rattle.filter.proofs.CountNet.{arc-count}
-use Rattle.filter.specs.Trimmed.{trimmedAll}
+use Rattle.filter.specs.Trimmed.{trimmed_all}
 use Rattle.filter.proofs.TrimNet.{trim-arranged, trim-tail}
 use Rattle.filter.proofs.ThinNet.{EndedFrom, thin-arranged, thin-tail}
 
@@ -56,23 +56,23 @@ module _ {S V : Type 0} (r : Round) (R : RuleSense S) (T : TallySense V) (W : �
     unfolding redone relaid
     redone-words ys Ms l e long tail =
         let n = r.n in
-        let z = blankNode r R T in
+        let z = blank_node r R T in
         let deep : length Ms ≡ n = l.deep ∙ proper.deep in
         let good : Good W Ms = good-net n W Ms r.most (even-of n Ms (l.even proper.even)) (l.roomy proper.roomy) (l.ranged ranged) in
         let p : Proper n W (tidied Ms) = proper-less r R T W wide D Ms l proper in
-        let zs = tidiedFlat W z n firstMark ys in
+        let zs = tidiedFlat W z n first_mark ys in
         let arr : Arranged W (tidied Ms) zs =
-        subst (λ (k : ℕ). Arranged W (tidied Ms) (tidiedFlat W z k firstMark ys)) deep (tidied-arranged W z Ms ys (room-facts n W (length xs) fit).high (l.wide ∙ proper.one-first) good refl e) in
+        subst (λ (k : ℕ). Arranged W (tidied Ms) (tidiedFlat W z k first_mark ys)) deep (tidied-arranged W z Ms ys (room-facts n W (length xs) fit).high (l.wide ∙ proper.one_first) good refl e) in
         let enough' : length Ms * W + 1 ≡ n * W + 1 = ap (λ (k : ℕ). k * W + 1) deep in
-        let rest : drop (n * W) zs ≡ drop (n * W) ys = subst (λ (k : ℕ). drop (k * W) (tidiedFlat W z k firstMark ys) ≡ drop (k * W) ys) deep (tidied-tail W z Ms ys (omega (arith, enough'))) in
+        let rest : drop (n * W) zs ≡ drop (n * W) ys = subst (λ (k : ℕ). drop (k * W) (tidiedFlat W z k first_mark ys) ≡ drop (k * W) ys) deep (tidied-tail W z Ms ys (omega (arith, enough'))) in
         let later : drop (n * W + 1) zs ≡ drop (n * W + 1) xs = sym (drop-drop 1 (n * W) zs) ∙ ap (drop 1) (rest ∙ tail) ∙ drop-drop 1 (n * W) xs in
         relabelled-lawful r R T W (tidied Ms) zs (lawful n W (tidied Ms) p) arr ∙ ap (λ (ws : List (Node S V)). laid r R T W (tidied Ms) ++ ws) later
 
-    pub sweep-words : sweepSteps r R T W xs ≡ swept r R T W xs
-    unfolding sweepSteps swept
+    pub sweep-words : sweep_steps r R T W xs ≡ swept r R T W xs
+    unfolding sweep_steps swept
     sweep-words =
         let t = thin-tail r R T W 0 r.n xs (omega (arith, enough)) in
-        redone-words (thinnedFrom r R T W 0 r.n xs) (thinned r R T 0 (nodes r.n W xs)) (thinned-less r R T W 0 (nodes r.n W xs))
+        redone-words (thinned_from r R T W 0 r.n xs) (thinned r R T 0 (nodes r.n W xs)) (thinned-less r R T W 0 (nodes r.n W xs))
         (thin-arranged r R T W 0 r.n xs (shaped-arranged r W xs enough s) ranged (ended-from r.n xs (ended-one r.n W xs s.ended))) (omega (arith, t.0, enough)) t.1
 
     -- what is left is a diagram's
@@ -84,15 +84,15 @@ module _ {S V : Type 0} (r : Round) (R : RuleSense S) (T : TallySense V) (W : �
     unfolding swept
     swept-timely = relaid-timely r R T W xs (tidied (thinned r R T 0 (nodes r.n W xs))) (proper-less r R T W wide D (thinned r R T 0 (nodes r.n W xs)) (thinned-less r R T W 0 (nodes r.n W xs)) proper).deep
 
-    pub shaped-count : arcCount r.n W xs ≡ countArcs D
+    pub shaped-count : arc_count r.n W xs ≡ count_arcs D
     shaped-count = arc-count W r.n D xs proper.deep (good-net r.n W D r.most (even-of r.n D proper.even) proper.roomy ranged) (shaped-arranged r W xs enough s)
 
-    pub cut-words : (c : V) → cutSteps r R T W c xs ≡ cut_at r R T W c xs
-    unfolding cutSteps cut_at
+    pub cut-words : (c : V) → cut_steps r R T W c xs ≡ cut_at r R T W c xs
+    unfolding cut_steps cut_at
     cut-words c =
         let t = trim-tail r R T W c xs (omega (arith, enough)) in
-        redone-words (trimmedAll r R T c W xs) (trimmed r R T c (nodes r.n W xs)) (trimmed-less r R T W c (nodes r.n W xs))
-        (unfold trimmedAll in trim-arranged r R T W c r.n xs (shaped-arranged r W xs enough s)) (omega (arith, t.0, enough)) t.1
+        redone-words (trimmed_all r R T c W xs) (trimmed r R T c (nodes r.n W xs)) (trimmed-less r R T W c (nodes r.n W xs))
+        (unfold trimmed_all in trim-arranged r R T W c r.n xs (shaped-arranged r W xs enough s)) (omega (arith, t.0, enough)) t.1
 
     pub cut-shaped : (c : V) → Shaped r.n W (cut_at r R T W c xs)
     unfolding cut_at
@@ -103,6 +103,6 @@ module _ {S V : Type 0} (r : Round) (R : RuleSense S) (T : TallySense V) (W : �
     cut-timely c = relaid-timely r R T W xs (tidied (trimmed r R T c (nodes r.n W xs))) (proper-less r R T W wide D (trimmed r R T c (nodes r.n W xs)) (trimmed-less r R T W c (nodes r.n W xs)) proper).deep
 
   -- the answer of a call that leaves the records ys
-  pub fewer-words : (xs ys : List (Node S V)) → fits r.n W (length xs) ≡ true → length ys ≡ length xs → Shaped r.n W xs → Shaped r.n W ys → arcCount r.n W xs - arcCount r.n W ys ≡ fewer r.n W xs ys
+  pub fewer-words : (xs ys : List (Node S V)) → fits r.n W (length xs) ≡ true → length ys ≡ length xs → Shaped r.n W xs → Shaped r.n W ys → arc_count r.n W xs - arc_count r.n W ys ≡ fewer r.n W xs ys
   unfolding fewer
   fewer-words xs ys fit long s t = ap₂ ◌-◌ (shaped-count xs fit s) (shaped-count ys (ap (fits r.n W) long ∙ fit) t)

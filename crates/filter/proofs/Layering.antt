@@ -5,12 +5,12 @@ use Rattle.rules.specs.Rules.{RuleSense}
 use Rattle.tallies.specs.Tallies.{TallySense}
 use Rattle.layers.specs.declared.node.Node.{Node}
 use Rattle.labels.specs.Passes.{part}
-use Rattle.filter.specs.Thinned.{after, thinnedNode, thinnedFrom}
+use Rattle.filter.specs.Thinned.{after, thinned_node, thinned_from}
 
 pub thinned-more : {S V : Type 0} (r : Round) (R : RuleSense S) (T : TallySense V) (w i left : ℕ) (xs : List (Node S V)) → left ≢ 0
-    → thinnedFrom r R T w i left xs ≡ map (thinnedNode r R T i (part w (after w (left - 1)) xs)) (take w xs) ++ thinnedFrom r R T w (suc i) (left - 1) (drop w xs)
-unfolding thinnedFrom
-thinned-more r R T w i left xs ne = let e : left ≡ suc (left - 1) = omega arith in ap (λ (k : ℕ). thinnedFrom r R T w i k xs) e
+    → thinned_from r R T w i left xs ≡ map (thinned_node r R T i (part w (after w (left - 1)) xs)) (take w xs) ++ thinned_from r R T w (suc i) (left - 1) (drop w xs)
+unfolding thinned_from
+thinned-more r R T w i left xs ne = let e : left ≡ suc (left - 1) = omega arith in ap (λ (k : ℕ). thinned_from r R T w i k xs) e
 
 after_one : (w k : ℕ) → k ≡ 0 → after w k ≡ 1
 after_one w k e = ap (after w) e

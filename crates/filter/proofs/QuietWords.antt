@@ -4,8 +4,8 @@ use Rattle.round.specs.declared.table.Round.{Round}
 use Rattle.rules.specs.Rules.{RuleSense}
 use Rattle.tallies.specs.Tallies.{TallySense}
 use Rattle.layers.specs.declared.node.Node.{Node}
-use Rattle.layers.specs.Flow.{Net, countArcs}
-use Rattle.layers.specs.Calls.{nodes, thinned, quietFrom}
+use Rattle.layers.specs.Flow.{Net, count_arcs}
+use Rattle.layers.specs.Calls.{nodes, thinned, quiet_from}
 use Rattle.layers.specs.Shape.{Shaped}
 use Rattle.layers.proofs.Proper.{even-of}
 use Rattle.layers.proofs.Quiet.{thinned-quiet}
@@ -13,15 +13,15 @@ use Rattle.layers.proofs.Shaped.{ended-one, thinned-less}
 use Rattle.labels.specs.Passes.{fits}
 use Rattle.labels.proofs.Laying.{Good}
 use Rattle.labels.proofs.Shaped_arranged.{shaped-arranged, good-net}
-use Rattle.filter.specs.Steps.{arcCount, quietSteps}
-use Rattle.filter.specs.Thinned.{thinnedFrom}
+use Rattle.filter.specs.Steps.{arc_count, quiet_steps}
+use Rattle.filter.specs.Thinned.{thinned_from}
 use Rattle.filter.proofs.CountNet.{arc-count}
 use Rattle.filter.proofs.FilterWords.{proper, enough, ranged, ended-from, shaped-count}
 use Rattle.filter.proofs.ThinNet.{thin-arranged}
 
 module _ {S V : Type 0} (r : Round) (R : RuleSense S) (T : TallySense V) (W : ℕ) (xs : List (Node S V)) (fit : fits r.n W (length xs) ≡ true) (s : Shaped r.n W xs) where
   -- the arcs that stay, before tidying
-  left-count : arcCount r.n W (thinnedFrom r R T W 0 r.n xs) ≡ countArcs (thinned r R T 0 (nodes r.n W xs))
+  left-count : arc_count r.n W (thinned_from r R T W 0 r.n xs) ≡ count_arcs (thinned r R T 0 (nodes r.n W xs))
   left-count =
       let n = r.n in
       let Ms : Net = thinned r R T 0 (nodes n W xs) in
@@ -29,9 +29,9 @@ module _ {S V : Type 0} (r : Round) (R : RuleSense S) (T : TallySense V) (W : �
       let p = proper r R T W xs fit s in
       let g = ranged r R T W xs fit s in
       let good : Good W Ms = good-net n W Ms r.most (even-of n Ms (l.even p.even)) (l.roomy p.roomy) (l.ranged g) in
-      arc-count W n Ms (thinnedFrom r R T W 0 n xs) (l.deep ∙ p.deep) good
+      arc-count W n Ms (thinned_from r R T W 0 n xs) (l.deep ∙ p.deep) good
       (thin-arranged r R T W 0 n xs (shaped-arranged r W xs (enough r R T W xs fit s) s) g (ended-from r R T W n xs (ended-one r.n W xs s.ended)))
 
-  pub quiet-words : quietSteps r R T W xs ≡ quietFrom r R T 0 (nodes r.n W xs)
-  unfolding quietSteps
+  pub quiet-words : quiet_steps r R T W xs ≡ quiet_from r R T 0 (nodes r.n W xs)
+  unfolding quiet_steps
   quiet-words = ap₂ eqb left-count (shaped-count r R T W xs fit s) ∙ thinned-quiet r R T 0 (nodes r.n W xs)

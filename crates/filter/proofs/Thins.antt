@@ -6,22 +6,22 @@ use Rattle.rules.specs.Rules.{RuleSense}
 use Rattle.tallies.specs.Tallies.{TallySense}
 use Rattle.layers.specs.declared.node.Node.{Node}
 use Rattle.layers.specs.Labels.{barred}
-use Rattle.layers.specs.Records.{upsIn}
-use Rattle.layers.specs.Targets.{atDoor}
-use Rattle.filter.specs.Thinned.{thinnedTo}
+use Rattle.layers.specs.Records.{ups_in}
+use Rattle.layers.specs.Targets.{at_door}
+use Rattle.filter.specs.Thinned.{thinned_to}
 
 module _ {S V : Type 0} (r : Round) (R : RuleSense S) (T : TallySense V) (i : ℕ) (vs : List (Node S V)) (u : Node S V) (j : ℕ) where
-  pub thin-none : (t : ℕ) → t ≡ 0 → 0 ≡ atDoor (thinnedTo r R T i vs u) j t
-  thin-none t e = ap (atDoor (thinnedTo r R T i vs u) j) (sym e)
+  pub thin-none : (t : ℕ) → t ≡ 0 → 0 ≡ at_door (thinned_to r R T i vs u) j t
+  thin-none t e = ap (at_door (thinned_to r R T i vs u) j) (sym e)
 
-  pub thin-past : (t : ℕ) → length vs < t → 0 ≡ atDoor (thinnedTo r R T i vs u) j t
-  unfolding thinnedTo
+  pub thin-past : (t : ℕ) → length vs < t → 0 ≡ at_door (thinned_to r R T i vs u) j t
+  unfolding thinned_to
   thin-past zero lt = refl
   thin-past (suc b) lt =
-      sym (ap (λ o. cond (barred r R T i (r.n - i) j (Some u.label.down) o) 0 (suc b)) (get_or_past (upsIn vs) b None (omega (arith, length-map vs (λ (x : Node S V). Some x.label.up)))))
+      sym (ap (λ o. cond (barred r R T i (r.n - i) j (Some u.label.down) o) 0 (suc b)) (get_or_past (ups_in vs) b None (omega (arith, length-map vs (λ (x : Node S V). Some x.label.up)))))
 
-  pub thin-here : (t : ℕ) (gone : Bool) → 1 ≤ t → t ≤ length vs → gone ≡ barred r R T i (r.n - i) j (Some u.label.down) (Some (get_or vs (t - 1) u).label.up) → cond gone 0 t ≡ atDoor (thinnedTo r R T i vs u) j t
-  unfolding thinnedTo
+  pub thin-here : (t : ℕ) (gone : Bool) → 1 ≤ t → t ≤ length vs → gone ≡ barred r R T i (r.n - i) j (Some u.label.down) (Some (get_or vs (t - 1) u).label.up) → cond gone 0 t ≡ at_door (thinned_to r R T i vs u) j t
+  unfolding thinned_to
   thin-here zero gone some fits is = absurd (omega arith)
   thin-here (suc b) gone some fits is =
       let here : suc b - 1 ≡ b = omega arith in

@@ -10,12 +10,12 @@ use Rattle.tallies.specs.Tallies.{TallySense}
 use Rattle.layers.specs.declared.node.Node.{Node}
 use Rattle.layers.specs.Flow.{table, Layer, Net, redirect}
 use Rattle.layers.specs.Labels.{dear}
-use Rattle.layers.specs.Records.{standing, layers, arcsIn, downsIn, drawn, arcsAt}
+use Rattle.layers.specs.Records.{standing, layers, arcs_in, downs_in, drawn, arcs_at}
 use Rattle.layers.specs.Calls.{trimmed}
 use Rattle.labels.specs.Passes.{Early}
-use Rattle.labels.proofs.Laying.{Arranged, arcsOf, split}
+use Rattle.labels.proofs.Laying.{Arranged, arcs_of, split}
 use Rattle.filter.specs.Steps.{timely}
-use Rattle.filter.specs.Trimmed.{trimmedNode, trimmedAll}
+use Rattle.filter.specs.Trimmed.{trimmed_node, trimmed_all}
 use Rattle.filter.proofs.ThinNet.{trim-row, front-row, row-short}
 
 -- ---- timely
@@ -35,7 +35,7 @@ module _ {S V : Type 0} where
 -- ---- layers
 module _ {S V : Type 0} (r : Round) (R : RuleSense S) (T : TallySense V) (W : ℕ) (c : V) where
   abbrev f : Node S V → Node S V
-  f = trimmedNode r R T c
+  f = trimmed_node r R T c
 
   abbrev flat : ℕ → List (Node S V) → List (Node S V)
   flat m xs = map f (take m xs) ++ drop m xs
@@ -47,15 +47,15 @@ module _ {S V : Type 0} (r : Round) (R : RuleSense S) (T : TallySense V) (W : �
       ∙ append_assoc (map f (take W xs)) (map f (take m (drop W xs))) (drop m (drop W xs))
 
   abbrev cutRow : List (Node S V) → Layer
-  cutRow us = redirect (λ a j b. cond (dear r R T c j (get_or (downsIn (standing us)) a None)) 0 (suc b)) (arcsIn r.n (standing us))
+  cutRow us = redirect (λ a j b. cond (dear r R T c j (get_or (downs_in (standing us)) a None)) 0 (suc b)) (arcs_in r.n (standing us))
 
-  row_step : (m : ℕ) (xs : List (Node S V)) (Ms : Net) → map arcsOf (take W xs) ≡ table W (arcsAt (arcsIn r.n (standing (take W xs)))) → Arranged W Ms (flat m (drop W xs)) → Arranged W (cutRow (take W xs) ∷ Ms) (flat (W + m) xs)
+  row_step : (m : ℕ) (xs : List (Node S V)) (Ms : Net) → map arcs_of (take W xs) ≡ table W (arcs_at (arcs_in r.n (standing (take W xs)))) → Arranged W Ms (flat m (drop W xs)) → Arranged W (cutRow (take W xs) ∷ Ms) (flat (W + m) xs)
   row_step m xs Ms e rest =
       let us = take W xs in
-      let L = arcsIn r.n (standing us) in
+      let L = arcs_in r.n (standing us) in
       let row = trim-row r R T W c us (row-short r R T W us L e) e in
       let p = front-row r R T W (map f us) (flat m (drop W xs)) _ row in
-      subst (Arranged W (cutRow us ∷ Ms)) (sym (flat-more m xs)) (ap (map arcsOf) p.0 ∙ row, subst (Arranged W Ms) (sym p.1) rest)
+      subst (Arranged W (cutRow us ∷ Ms)) (sym (flat-more m xs)) (ap (map arcs_of) p.0 ∙ row, subst (Arranged W Ms) (sym p.1) rest)
 
   pub trim-arranged : (k : ℕ) (xs : List (Node S V)) → Arranged W (drawn r.n (layers W k xs)) xs → Arranged W (trimmed r R T c (layers W k xs)) (flat (k * W) xs)
   unfolding trimmed
@@ -69,8 +69,8 @@ module _ {S V : Type 0} (r : Round) (R : RuleSense S) (T : TallySense V) (W : �
       (row_step (suc k * W) xs (trimmed r R T c (layers W (suc k) (drop W xs))) e.0 (trim-arranged (suc k) (drop W xs) e.1))
 
   -- what follows the layers stays
-  pub trim-tail : (xs : List (Node S V)) → r.n * W ≤ length xs → (length (trimmedAll r R T c W xs) ≡ length xs) × (drop (r.n * W) (trimmedAll r R T c W xs) ≡ drop (r.n * W) xs)
-  unfolding trimmedAll
+  pub trim-tail : (xs : List (Node S V)) → r.n * W ≤ length xs → (length (trimmed_all r R T c W xs) ≡ length xs) × (drop (r.n * W) (trimmed_all r R T c W xs) ≡ drop (r.n * W) xs)
+  unfolding trimmed_all
   trim-tail xs h =
       let m = r.n * W in
       let long : length (map f (take m xs)) ≡ m = length-map (take m xs) f ∙ length-take-le m xs h in

@@ -7,7 +7,7 @@ use Rattle.rules.specs.Rules.{RuleSense}
 use Rattle.tallies.specs.Tallies.{TallySense}
 use Rattle.layers.specs.declared.node.Node.{Node}
 use Rattle.layers.specs.Labels.{one, leg, barred}
-use Rattle.layers.specs.Records.{upsIn}
+use Rattle.layers.specs.Records.{ups_in}
 use Rattle.labels.specs.Passes.{part}
 use Rattle.layers.specs.Targets.{redirected}
 
@@ -22,16 +22,16 @@ few set j need = nat_lt (ones (bit_or set (one j))) need
 
 module _ {S V : Type 0} (r : Round) (rule : RuleSense S) (tally : TallySense V) where
   -- what becomes of the arc by door j to place b, from u in layer i, where vs is the layer after it
-  unfoldable pub thinnedTo : ℕ → List (Node S V) → Node S V → ℕ → ℕ → ℕ
+  unfoldable pub thinned_to : ℕ → List (Node S V) → Node S V → ℕ → ℕ → ℕ
   unfolding ones leg finish
-  thinnedTo i vs u j b = cond (barred r rule tally i (r.n - i) j (Some u.label.down) (slice_index_or (upsIn vs) b None)) 0 (suc b)
+  thinned_to i vs u j b = cond (barred r rule tally i (r.n - i) j (Some u.label.down) (slice_index_or (ups_in vs) b None)) 0 (suc b)
 
-  unfoldable pub thinnedNode : ℕ → List (Node S V) → Node S V → Node S V
-  unfolding thinnedTo redirected
-  thinnedNode i vs u = redirected (thinnedTo i vs u) u
+  unfoldable pub thinned_node : ℕ → List (Node S V) → Node S V → Node S V
+  unfolding thinned_to redirected
+  thinned_node i vs u = redirected (thinned_to i vs u) u
 
   -- k layers from layer i on, w records to each, and the end
-  unfoldable pub thinnedFrom : ℕ → ℕ → ℕ → List (Node S V) → List (Node S V)
-  unfolding thinnedNode
-  thinnedFrom w i zero xs = xs
-  thinnedFrom w i (suc k) xs = map (thinnedNode i (part w (after w k) xs)) (take w xs) ++ thinnedFrom w (suc i) k (drop w xs)
+  unfoldable pub thinned_from : ℕ → ℕ → ℕ → List (Node S V) → List (Node S V)
+  unfolding thinned_node
+  thinned_from w i zero xs = xs
+  thinned_from w i (suc k) xs = map (thinned_node i (part w (after w k) xs)) (take w xs) ++ thinned_from w (suc i) k (drop w xs)

@@ -9,15 +9,15 @@ use Rattle.layers.specs.Targets.{redirected}
 
 module _ {S V : Type 0} (r : Round) (rule : RuleSense S) (tally : TallySense V) (c : V) where
   -- what becomes of the arc of u by door j to place b
-  unfoldable pub trimmedTo : Node S V → ℕ → ℕ → ℕ
+  unfoldable pub trimmed_to : Node S V → ℕ → ℕ → ℕ
   unfolding arrive
-  trimmedTo u j b = cond (dear r rule tally c j (Some u.label.down)) 0 (suc b)
+  trimmed_to u j b = cond (dear r rule tally c j (Some u.label.down)) 0 (suc b)
 
-  unfoldable pub trimmedNode : Node S V → Node S V
-  unfolding trimmedTo redirected
-  trimmedNode u = redirected (trimmedTo u) u
+  unfoldable pub trimmed_node : Node S V → Node S V
+  unfolding trimmed_to redirected
+  trimmed_node u = redirected (trimmed_to u) u
 
   -- all layers, w records to each
-  unfoldable pub trimmedAll : ℕ → List (Node S V) → List (Node S V)
-  unfolding trimmedNode
-  trimmedAll w xs = map trimmedNode (take (r.n * w) xs) ++ drop (r.n * w) xs
+  unfoldable pub trimmed_all : ℕ → List (Node S V) → List (Node S V)
+  unfolding trimmed_node
+  trimmed_all w xs = map trimmed_node (take (r.n * w) xs) ++ drop (r.n * w) xs

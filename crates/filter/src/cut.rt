@@ -1,7 +1,7 @@
 // Cut: the filter by a ceiling.
 ghost use Rattle.std.specs.Prelude.{◌≡◌, ◌-◌, ◌*◌, ◌≤◌, ◌&&◌, length, take, if◌then◌else◌};
 ghost use Rattle.labels.specs.Passes.{fits};
-ghost use Rattle.filter.specs.Steps.{timely, arcCount, cutSteps, CutDone};
+ghost use Rattle.filter.specs.Steps.{timely, arc_count, cut_steps, CutDone};
 
 use crate::redo::redo;
 use crate::trim::trim;
@@ -39,8 +39,8 @@ pub fn cut<R: Rule, T: Tally>(
     width: usize,
     ceiling: T::Value,
 ) -> usize
-    ensures steps { nodes.new ≡ (if fits round.now.n width (length nodes.old) && timely (take (round.now.n * width) nodes.old) then cutSteps round.now (R.Rule.sense rule.now) (T.Tally.sense tally.now) width ceiling nodes.old else nodes.old) }
-    ensures counted { result ≡ (if fits round.now.n width (length nodes.old) && timely (take (round.now.n * width) nodes.old) then arcCount round.now.n width nodes.old - arcCount round.now.n width nodes.new else 0) }
+    ensures steps { nodes.new ≡ (if fits round.now.n width (length nodes.old) && timely (take (round.now.n * width) nodes.old) then cut_steps round.now (R.Rule.sense rule.now) (T.Tally.sense tally.now) width ceiling nodes.old else nodes.old) }
+    ensures counted { result ≡ (if fits round.now.n width (length nodes.old) && timely (take (round.now.n * width) nodes.old) then arc_count round.now.n width nodes.old - arc_count round.now.n width nodes.new else 0) }
     ensures words { CutDone round.now (R.Rule.sense rule.now) (T.Tally.sense tally.now) width ceiling nodes.old nodes.new result }
 {
     if !may_cut(round, nodes, width) {

@@ -2,9 +2,9 @@
 ghost use Rattle.std.specs.Prelude.{◌≡◌, ◌+◌, ◌*◌, ◌<◌, ◌≤◌, false, map, length, take, if◌then◌else◌};
 ghost use Rattle.tallies.specs.Tallies.{TallySense};
 ghost use Rattle.labels.specs.Passes.{fits};
-ghost use Rattle.tidying.specs.Counted.{arcsWithin};
-ghost use Rattle.filter.specs.Steps.{quietSteps, QuietDone};
-ghost use Rattle.filter.specs.Thinned.{thinnedNode, thinnedFrom};
+ghost use Rattle.tidying.specs.Counted.{arcs_within};
+ghost use Rattle.filter.specs.Steps.{quiet_steps, QuietDone};
+ghost use Rattle.filter.specs.Thinned.{thinned_node, thinned_from};
 
 use crate::thin::{next_count, thin_node};
 use labels::room::has_room;
@@ -23,7 +23,7 @@ fn kept_in<R: Rule, V: Copy>(
 ) -> usize
     requires i_lt_n { i < round.now.n }
     requires us_bound { length us.now ≤ 128 }
-    ensures many { (t : TallySense V) → result ≡ arcsWithin (map (thinnedNode round.now (R.Rule.sense rule.now) t i vs.now) us.now) }
+    ensures many { (t : TallySense V) → result ≡ arcs_within (map (thinned_node round.now (R.Rule.sense rule.now) t i vs.now) us.now) }
     ensures few { result ≤ 16 * length us.now }
 {
     let mut sum = 0;
@@ -46,7 +46,7 @@ fn kept_from<R: Rule, V: Copy>(
     requires counts_left { i + left ≡ round.now.n }
     requires w_in_bounds { left * w < length nodes.now }
     requires w_bound { w ≤ 128 }
-    ensures many { (t : TallySense V) → result ≡ arcsWithin (take (left * w) (thinnedFrom round.now (R.Rule.sense rule.now) t w i left nodes.now)) }
+    ensures many { (t : TallySense V) → result ≡ arcs_within (take (left * w) (thinned_from round.now (R.Rule.sense rule.now) t w i left nodes.now)) }
     ensures few { result ≤ 16 * (left * w) }
 {
     if left == 0 {
@@ -67,7 +67,7 @@ pub fn quiet<R: Rule, V: Copy>(
     nodes: &[Node<R::State, V>],
     width: usize,
 ) -> bool
-    ensures steps { (t : TallySense V) → result ≡ (if fits round.now.n width (length nodes.now) then quietSteps round.now (R.Rule.sense rule.now) t width nodes.now else false) }
+    ensures steps { (t : TallySense V) → result ≡ (if fits round.now.n width (length nodes.now) then quiet_steps round.now (R.Rule.sense rule.now) t width nodes.now else false) }
     ensures words { (t : TallySense V) → QuietDone round.now (R.Rule.sense rule.now) t width nodes.now result }
 {
     if !has_room(round, width, nodes.len()) {

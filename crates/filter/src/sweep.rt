@@ -1,7 +1,7 @@
 // Sweep: the filter by the six tests.
 ghost use Rattle.std.specs.Prelude.{◌≡◌, ◌-◌, length, if◌then◌else◌};
 ghost use Rattle.labels.specs.Passes.{fits};
-ghost use Rattle.filter.specs.Steps.{arcCount, sweepSteps, SweepDone};
+ghost use Rattle.filter.specs.Steps.{arc_count, sweep_steps, SweepDone};
 
 use crate::redo::redo;
 use crate::thin::thin_from;
@@ -21,8 +21,8 @@ pub fn sweep<R: Rule, T: Tally>(
     nodes: &mut [Node<R::State, T::Value>],
     width: usize,
 ) -> usize
-    ensures steps { nodes.new ≡ (if fits round.now.n width (length nodes.old) then sweepSteps round.now (R.Rule.sense rule.now) (T.Tally.sense tally.now) width nodes.old else nodes.old) }
-    ensures counted { result ≡ (if fits round.now.n width (length nodes.old) then arcCount round.now.n width nodes.old - arcCount round.now.n width nodes.new else 0) }
+    ensures steps { nodes.new ≡ (if fits round.now.n width (length nodes.old) then sweep_steps round.now (R.Rule.sense rule.now) (T.Tally.sense tally.now) width nodes.old else nodes.old) }
+    ensures counted { result ≡ (if fits round.now.n width (length nodes.old) then arc_count round.now.n width nodes.old - arc_count round.now.n width nodes.new else 0) }
     ensures words { SweepDone round.now (R.Rule.sense rule.now) (T.Tally.sense tally.now) width nodes.old nodes.new result }
 {
     if !has_room(round, width, nodes.len()) {

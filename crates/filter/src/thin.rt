@@ -3,8 +3,8 @@ ghost use Rattle.std.specs.Prelude.{◌≡◌, ◌+◌, ◌-◌, ◌*◌, ◌<�
 ghost use Rattle.round.specs.Clock.{door, finish};
 ghost use Rattle.tallies.specs.Tallies.{TallySense};
 ghost use Rattle.layers.specs.Labels.{leg, barred};
-ghost use Rattle.layers.specs.Targets.{atDoor};
-ghost use Rattle.filter.specs.Thinned.{few, after, thinnedTo, thinnedNode, thinnedFrom};
+ghost use Rattle.layers.specs.Targets.{at_door};
+ghost use Rattle.filter.specs.Thinned.{few, after, thinned_to, thinned_node, thinned_from};
 
 use doors::{DoorSet, contains};
 use labels::leg::leg_from;
@@ -61,7 +61,7 @@ fn thin_door<R: Rule, V: Copy>(
 ) -> u8
     requires i_lt_n { i < round.now.n }
     requires k_bound { k < 16 }
-    ensures { (t : TallySense V) → result ≡ atDoor (thinnedTo round.now (R.Rule.sense rule.now) t i vs.now u.now) (k + 1) (slice_index u.now.arcs.to k) }
+    ensures { (t : TallySense V) → result ≡ at_door (thinned_to round.now (R.Rule.sense rule.now) t i vs.now u.now) (k + 1) (slice_index u.now.arcs.to k) }
 {
     let to = u.arcs.to[k];
     let t = to as usize;
@@ -84,7 +84,7 @@ pub(crate) fn thin_node<R: Rule, V: Copy>(
     u: &Node<R::State, V>,
 ) -> Node<R::State, V>
     requires { i < round.now.n }
-    ensures { (t : TallySense V) → result ≡ thinnedNode round.now (R.Rule.sense rule.now) t i vs.now u.now }
+    ensures { (t : TallySense V) → result ≡ thinned_node round.now (R.Rule.sense rule.now) t i vs.now u.now }
 {
     let mut to = [0u8; 16];
     for k in 0..16 {
@@ -105,7 +105,7 @@ fn thin_layer<R: Rule, V: Copy>(
     vs: &[Node<R::State, V>],
 )
     requires { i < round.now.n }
-    ensures { (t : TallySense V) → us.new ≡ map (thinnedNode round.now (R.Rule.sense rule.now) t i vs.now) us.old }
+    ensures { (t : TallySense V) → us.new ≡ map (thinned_node round.now (R.Rule.sense rule.now) t i vs.now) us.old }
 {
     for u in us.iter_mut() {
         *u = thin_node(round, rule, i, vs, u);
@@ -130,7 +130,7 @@ pub(crate) fn thin_from<R: Rule, V: Copy>(
 )
     requires counts_left { i + left ≡ round.now.n }
     requires w_in_bounds { left * w < length nodes.old }
-    ensures { (t : TallySense V) → nodes.new ≡ thinnedFrom round.now (R.Rule.sense rule.now) t w i left nodes.old }
+    ensures { (t : TallySense V) → nodes.new ≡ thinned_from round.now (R.Rule.sense rule.now) t w i left nodes.old }
 {
     if left == 0 {
         return;

@@ -5,8 +5,8 @@ ghost use Rattle.round.specs.Clock.{latest};
 ghost use Rattle.rules.specs.Rules.{RuleSense};
 ghost use Rattle.layers.specs.Labels.{arrive, dear};
 ghost use Rattle.labels.specs.Passes.{Early};
-ghost use Rattle.layers.specs.Targets.{atDoor};
-ghost use Rattle.filter.specs.Trimmed.{trimmedTo, trimmedNode, trimmedAll};
+ghost use Rattle.layers.specs.Targets.{at_door};
+ghost use Rattle.filter.specs.Trimmed.{trimmed_to, trimmed_node, trimmed_all};
 
 use labels::leg::leg_from;
 use layers::node::{Arcs, Down, Node};
@@ -41,7 +41,7 @@ fn trim_door<S: Copy, T: Tally>(
 ) -> u8
     requires finish_bound { u.now.label.down.finish ≤ latest 15 }
     requires k_bound { k < 16 }
-    ensures { (q : RuleSense S) → result ≡ atDoor (trimmedTo round.now q (T.Tally.sense tally.now) ceiling u.now) (k + 1) (slice_index u.now.arcs.to k) }
+    ensures { (q : RuleSense S) → result ≡ at_door (trimmed_to round.now q (T.Tally.sense tally.now) ceiling u.now) (k + 1) (slice_index u.now.arcs.to k) }
 {
     let t = u.arcs.to[k];
     if t == 0 {
@@ -61,7 +61,7 @@ fn trim_node<S: Copy, T: Tally>(
     ceiling: T::Value,
 ) -> Node<S, T::Value>
     requires { u.now.label.down.finish ≤ latest 15 }
-    ensures { (q : RuleSense S) → result ≡ trimmedNode round.now q (T.Tally.sense tally.now) ceiling u.now }
+    ensures { (q : RuleSense S) → result ≡ trimmed_node round.now q (T.Tally.sense tally.now) ceiling u.now }
 {
     let mut to = [0u8; 16];
     for k in 0..16 {
@@ -80,7 +80,7 @@ fn trim_each<S: Copy, T: Tally>(
     ceiling: T::Value,
 )
     requires { AllByRecursion (Early (latest 15)) us.old }
-    ensures { (q : RuleSense S) → us.new ≡ map (trimmedNode round.now q (T.Tally.sense tally.now) ceiling) us.old }
+    ensures { (q : RuleSense S) → us.new ≡ map (trimmed_node round.now q (T.Tally.sense tally.now) ceiling) us.old }
 {
     for u in us.iter_mut() {
         *u = trim_node(round, tally, u, ceiling);
@@ -98,7 +98,7 @@ pub(crate) fn trim<S: Copy, T: Tally>(
     requires width_bound { width ≤ 128 }
     requires width_in_bounds { round.now.n * width < length nodes.old }
     requires all_early { AllByRecursion (Early (latest 15)) (take (round.now.n * width) nodes.old) }
-    ensures { (q : RuleSense S) → nodes.new ≡ trimmedAll round.now q (T.Tally.sense tally.now) ceiling width nodes.old }
+    ensures { (q : RuleSense S) → nodes.new ≡ trimmed_all round.now q (T.Tally.sense tally.now) ceiling width nodes.old }
 {
     let end = round.n * width;
     trim_each(round, tally, &mut nodes[..end], ceiling);

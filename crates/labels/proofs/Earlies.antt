@@ -14,7 +14,7 @@ use Rattle.layers.specs.declared.node.Node.{Node}
 use Rattle.layers.specs.declared.node.Down.{Down}
 use Rattle.layers.specs.Labels.{leg, arrive, merge}
 use Rattle.layers.specs.Records.{blank}
-use Rattle.labels.specs.Passes.{arrivals, part, over, withDown, Early, blankNode, byDoor, fromNode, gathered, labelled, nextLayer, layerDone, firstLayer, begun, layersDone}
+use Rattle.labels.specs.Passes.{arrivals, part, over, with_down, Early, blank_node, by_door, from_node, gathered, labelled, next_layer, layer_done, first_layer, begun, layers_done}
 use Rattle.labels.proofs.Folds.{folded_keeps}
 use Rattle.labels.proofs.Legs.{leg-most}
 use Rattle.labels.proofs.Overs.{part-over, length_over, length_part}
@@ -31,9 +31,9 @@ all_any : {X : Type 0} (xs : List X) → All (λ _. Unit {0}) xs
 all_any [] = tt
 all_any (x ∷ xs) = (tt, all_any xs)
 
-pub first-long : {S V : Type 0} (r : Round) (R : RuleSense S) (T : TallySense V) (us : List (Node S V)) → length (firstLayer r R T us) ≡ length us
+pub first-long : {S V : Type 0} (r : Round) (R : RuleSense S) (T : TallySense V) (us : List (Node S V)) → length (first_layer r R T us) ≡ length us
 first-long r R T [] = refl
-first-long r R T (u ∷ us) = ap suc (length-map us (λ v. withDown v (blank r R T)))
+first-long r R T (u ∷ us) = ap suc (length-map us (λ v. with_down v (blank r R T)))
 
 module _ {S V : Type 0} (r : Round) (R : RuleSense S) (T : TallySense V) where
   abbrev Soon : ℕ → Down S V → Type 0
@@ -44,12 +44,12 @@ module _ {S V : Type 0} (r : Round) (R : RuleSense S) (T : TallySense V) where
   arrive-soon k u j h = (clock-laws r).bound k u.finish (leg r u.lasts j) j h (leg-most r u.lasts j)
 
   arrives-soon : (k t : ℕ) (us : List (Node S V)) → All (Early (latest k)) us → All (Soon (latest (suc k))) (arrivals r R T t us)
-  unfolding fromNode byDoor
+  unfolding from_node by_door
   arrives-soon i t us h =
       let P = Soon (latest (suc i)) in
-      all-joined P (Early (latest i)) (fromNode r R T t)
-      (λ u e. cond_both (eqb u.label.down.lasts 0) [] (flat_map (byDoor r R T t u) (range_with_len 0 16)) (All P) (λ _. tt)
-      (λ _. all-joined P (λ _. Unit {0}) (byDoor r R T t u)
+      all-joined P (Early (latest i)) (from_node r R T t)
+      (λ u e. cond_both (eqb u.label.down.lasts 0) [] (flat_map (by_door r R T t u) (range_with_len 0 16)) (All P) (λ _. tt)
+      (λ _. all-joined P (λ _. Unit {0}) (by_door r R T t u)
       (λ k _. cond_both (eqb (get_or u.arcs.to k 0) t) (arrive r R T u.label.down (k + 1) ∷ []) [] (All P) (λ _. (arrive-soon i u.label.down (k + 1) e, tt)) (λ _. tt))
       (range_with_len 0 16) (all_any (range_with_len 0 16))))
       us h
@@ -59,25 +59,25 @@ module _ {S V : Type 0} (r : Round) (R : RuleSense S) (T : TallySense V) where
   gathered-soon m [] h = omega arith
   gathered-soon m (x ∷ xs) h = folded_keeps (Soon m) (merge r R T) (λ l y e. omega arith) x xs h.0
 
-  pub next-early : (k : ℕ) (us vs : List (Node S V)) → All (Early (latest k)) us → All (Early (latest (suc k))) (nextLayer r R T us vs)
-  unfolding nextLayer labelled
+  pub next-early : (k : ℕ) (us vs : List (Node S V)) → All (Early (latest k)) us → All (Early (latest (suc k))) (next_layer r R T us vs)
+  unfolding next_layer labelled
   next-early k us vs h =
       let f = labelled r R T us vs in
       let n = length vs in
-      All-from_get_or (Early (latest (suc k))) (map f (range_with_len 0 n)) (blankNode r R T)
-      (λ b lt. subst (Early (latest (suc k))) (sym (get_or-map-range_with_len f 0 n b b (blankNode r R T) (omega (arith, length-map-range_with_len f 0 n)) (omega arith)))
+      All-from_get_or (Early (latest (suc k))) (map f (range_with_len 0 n)) (blank_node r R T)
+      (λ b lt. subst (Early (latest (suc k))) (sym (get_or-map-range_with_len f 0 n b b (blank_node r R T) (omega (arith, length-map-range_with_len f 0 n)) (omega arith)))
       (gathered-soon (latest (suc k)) (arrivals r R T (b + 1) us) (arrives-soon k (b + 1) us h)))
 
-  first-early : (us : List (Node S V)) → All (Early 9999) (firstLayer r R T us)
+  first-early : (us : List (Node S V)) → All (Early 9999) (first_layer r R T us)
   first-early [] = tt
   first-early (u ∷ us) = (omega arith, rest us)
     where
-      rest : (us : List (Node S V)) → All (Early 9999) (map (λ v. withDown v (blank r R T)) us)
+      rest : (us : List (Node S V)) → All (Early 9999) (map (λ v. with_down v (blank r R T)) us)
       rest [] = tt
       rest (u ∷ us) = (omega arith, rest us)
 
-  pub next-long : (us vs : List (Node S V)) → length (nextLayer r R T us vs) ≡ length vs
-  unfolding nextLayer
+  pub next-long : (us vs : List (Node S V)) → length (next_layer r R T us vs) ≡ length vs
+  unfolding next_layer
   next-long us vs = length-map-range_with_len (labelled r R T us vs) 0 (length vs)
 
   module _ (w : ℕ) (xs : List (Node S V)) (fits : r.n * w + 1 ≤ length xs) where
@@ -93,37 +93,37 @@ module _ {S V : Type 0} (r : Round) (R : RuleSense S) (T : TallySense V) where
     begun-long =
         let e = first-long r R T (part 0 w xs) in
         let l = length_part 0 w xs (omega (arith, first_ends r.one)) in
-        length_over 0 (firstLayer r R T (part 0 w xs)) xs (omega (arith, first_ends r.one))
+        length_over 0 (first_layer r R T (part 0 w xs)) xs (omega (arith, first_ends r.one))
 
-    pub layers-long : (i : ℕ) → i < r.n → length (layersDone r R T w i (begun r R T w xs)) ≡ length xs
-    unfolding layerDone
+    pub layers-long : (i : ℕ) → i < r.n → length (layers_done r R T w i (begun r R T w xs)) ≡ length xs
+    unfolding layer_done
     layers-long zero lt = begun-long
     layers-long (suc i) lt =
-        let ys = layersDone r R T w i (begun r R T w xs) in
+        let ys = layers_done r R T w i (begun r R T w xs) in
         let before : length ys ≡ length xs = layers-long i (omega arith) in
         let ends = next-ends i (omega arith) in
         let us = part (i * w) w ys in
         let vs = part ((i + 1) * w) w ys in
-        let long : length (nextLayer r R T us vs) ≡ w = next-long us vs ∙ length_part ((i + 1) * w) w ys (omega arith) in
-        length_over ((i + 1) * w) (nextLayer r R T us vs) ys (omega arith) ∙ before
+        let long : length (next_layer r R T us vs) ≡ w = next-long us vs ∙ length_part ((i + 1) * w) w ys (omega arith) in
+        length_over ((i + 1) * w) (next_layer r R T us vs) ys (omega arith) ∙ before
 
-    pub layers-early : (i : ℕ) → i < r.n → All (Early (latest i)) (part (i * w) w (layersDone r R T w i (begun r R T w xs)))
-    unfolding layerDone begun
+    pub layers-early : (i : ℕ) → i < r.n → All (Early (latest i)) (part (i * w) w (layers_done r R T w i (begun r R T w xs)))
+    unfolding layer_done begun
     layers-early zero lt =
         let l = length_part 0 w xs (omega (arith, first_ends r.one)) in
-        subst (λ k. All (Early 9999) (part k w (over 0 (firstLayer r R T (part 0 w xs)) xs))) (sym (zero-mul w))
-        (subst (All (Early 9999)) (sym (part-over 0 (firstLayer r R T (part 0 w xs)) xs w (first-long r R T (part 0 w xs) ∙ l) (omega arith))) (first-early (part 0 w xs)))
+        subst (λ k. All (Early 9999) (part k w (over 0 (first_layer r R T (part 0 w xs)) xs))) (sym (zero-mul w))
+        (subst (All (Early 9999)) (sym (part-over 0 (first_layer r R T (part 0 w xs)) xs w (first-long r R T (part 0 w xs) ∙ l) (omega arith))) (first-early (part 0 w xs)))
     layers-early (suc i) lt =
-        let ys = layersDone r R T w i (begun r R T w xs) in
+        let ys = layers_done r R T w i (begun r R T w xs) in
         let before : length ys ≡ length xs = layers-long i (omega arith) in
         let ends = next-ends i (omega arith) in
         let us = part (i * w) w ys in
         let vs = part ((i + 1) * w) w ys in
-        let long : length (nextLayer r R T us vs) ≡ w = next-long us vs ∙ length_part ((i + 1) * w) w ys (omega arith) in
+        let long : length (next_layer r R T us vs) ≡ w = next-long us vs ∙ length_part ((i + 1) * w) w ys (omega arith) in
         let at : (i + 1) * w ≡ suc i * w = ap (λ k. k * w) (add-one i) in
-        subst (λ p. All (Early (latest (suc i))) (part p w (over ((i + 1) * w) (nextLayer r R T us vs) ys))) at
-        (subst (All (Early (latest (suc i)))) (sym (part-over ((i + 1) * w) (nextLayer r R T us vs) ys w long (omega arith)))
+        subst (λ p. All (Early (latest (suc i))) (part p w (over ((i + 1) * w) (next_layer r R T us vs) ys))) at
+        (subst (All (Early (latest (suc i)))) (sym (part-over ((i + 1) * w) (next_layer r R T us vs) ys w long (omega arith)))
         (next-early i us vs (layers-early i (omega arith))))
 
-    pub layers-ready : (i : ℕ) → i < r.n → All (Early (latest 15)) (part (i * w) w (layersDone r R T w i (begun r R T w xs)))
+    pub layers-ready : (i : ℕ) → i < r.n → All (Early (latest 15)) (part (i * w) w (layers_done r R T w i (begun r R T w xs)))
     layers-ready i lt = all-mono (Early (latest i)) (Early (latest 15)) (λ u h. omega (arith, r.most)) _ (layers-early i lt)

@@ -11,14 +11,14 @@ use Rattle.layers.specs.declared.node.Arcs.{Arcs}
 use Rattle.layers.specs.declared.node.Node.{Node}
 use Rattle.layers.specs.declared.node.Down.{Down}
 use Rattle.layers.specs.declared.node.Up.{Up}
-use Rattle.layers.specs.Flow.{table, Outs, Layer, Net, node, target, width, ins, gather, next, consO, outs, up, Ranged, Tied, Roomy, Even, Lawful}
-use Rattle.layers.specs.Labels.{arrive, merge, first, firsts, labelsNext, climb, mergeUp, noUp, ups}
-use Rattle.layers.specs.Records.{arcsRead, laidArcs, arcsAt, blank, orBlank, orNoUp, padded, place, laidFrom, laid}
+use Rattle.layers.specs.Flow.{table, Outs, Layer, Net, node, target, width, ins, gather, next, cons_if_some, outs, up, Ranged, Tied, Roomy, Even, Lawful}
+use Rattle.layers.specs.Labels.{arrive, merge, first, firsts, labels_next, climb, merge_up, no_up, ups}
+use Rattle.layers.specs.Records.{arcs_read, laid_arcs, arcs_at, blank, or_blank, or_no_up, padded, place, laid_from, laid}
 use Rattle.layers.proofs.Flows.{table_at, Among, ins-from}
 use Rattle.layers.proofs.Bridge.{table-long}
 use Rattle.layers.specs.Calls.{relaid}
 use Rattle.layers.proofs.Lively.{ups-full}
-use Rattle.labels.specs.Passes.{part, over, withDown, withUp, blankNode, byDoor, fromNode, arrivals, gathered, labelled, nextLayer, layerDone, numbered, upBy, upsOf, gatheredUp, risen, layerUp, endCleared, cleared, firstLayer, begun, passUp, relabelled}
+use Rattle.labels.specs.Passes.{part, over, with_down, with_up, blank_node, by_door, from_node, arrivals, gathered, labelled, next_layer, layer_done, numbered, up_by, ups_of, gathered_up, risen, layer_up, end_cleared, cleared, first_layer, begun, pass_up, relabelled}
 use Rattle.std.proofs.lemmas.Nat.{pow_pos}
 use Rattle.labels.proofs.Folds.{folded_keeps}
 use Rattle.labels.proofs.Scattered.{or_some}
@@ -32,15 +32,15 @@ table-list m f xs e h = same_lists xs (table m f) (e ∙ sym (table-long m f)) (
 
 -- ---- records without their upward sets, and arcs alone
 abbrev pub bare : {S V : Type 0} → Node S V → Node S V
-bare x = withUp x noUp
+bare x = with_up x no_up
 
-abbrev pub arcsOf : {S V : Type 0} → Node S V → Arcs
-arcsOf x = x.arcs
+abbrev pub arcs_of : {S V : Type 0} → Node S V → Arcs
+arcs_of x = x.arcs
 
 -- the arcs of the records are those of the net, w records to a layer, and the end's
 abbrev pub Arranged : {S V : Type 0} → ℕ → Net → List (Node S V) → Type 0
-Arranged w [] xs = map arcsOf (take 1 xs) ≡ table 1 (arcsAt [])
-Arranged w (L ∷ Ls) xs = (map arcsOf (take w xs) ≡ table w (arcsAt L)) × Arranged w Ls (drop w xs)
+Arranged w [] xs = map arcs_of (take 1 xs) ≡ table 1 (arcs_at [])
+Arranged w (L ∷ Ls) xs = (map arcs_of (take w xs) ≡ table w (arcs_at L)) × Arranged w Ls (drop w xs)
 
 -- what is asked of a net: few doors, few nodes, and no arc out of the next layer
 abbrev pub Good : ℕ → Net → Type 0
@@ -65,26 +65,26 @@ split f (suc w) m [] = ap (λ (k : ℕ). map f (take k [])) (suc-add w m) ∙ sy
     none (suc m) = refl
 split f (suc w) m (x ∷ xs) = ap (λ (k : ℕ). map f (take k (x ∷ xs))) (suc-add w m) ∙ ap (λ ys. f x ∷ ys) (split f w m xs)
 
-pub arranged-of : {S V : Type 0} (w : ℕ) (Ls : Net) (xs : List (Node S V)) → length Ls * w + 1 ≤ length xs → arcsRead (take (length Ls * w + 1) xs) ≡ laidArcs w Ls → Arranged w Ls xs
-arranged-of w [] xs h e = let one : 1 ≡ 0 * w + 1 = omega (arith, zero-mul w) in ap (λ (k : ℕ). map arcsOf (take k xs)) one ∙ e
+pub arranged-of : {S V : Type 0} (w : ℕ) (Ls : Net) (xs : List (Node S V)) → length Ls * w + 1 ≤ length xs → arcs_read (take (length Ls * w + 1) xs) ≡ laid_arcs w Ls → Arranged w Ls xs
+arranged-of w [] xs h e = let one : 1 ≡ 0 * w + 1 = omega (arith, zero-mul w) in ap (λ (k : ℕ). map arcs_of (take k xs)) one ∙ e
 arranged-of w (L ∷ Ls) xs h e =
     let m = length Ls * w + 1 in
     let both : suc (length Ls) * w + 1 ≡ w + m = omega (arith, suc-mul (length Ls) w) in
-    let A = map arcsOf (take w xs) in
-    let B = map arcsOf (take m (drop w xs)) in
-    let g = arcsAt L in
-    let whole : A ++ B ≡ table w g ++ laidArcs w Ls = sym (split arcsOf w m xs) ∙ ap (λ (k : ℕ). map arcsOf (take k xs)) (sym both) ∙ e in
-    let long : length A ≡ w = length-map (take w xs) arcsOf ∙ length-take-le w xs (omega (arith, both)) in (
-      sym (take_at A B w long) ∙ ap (take w) whole ∙ take_at (table w g) (laidArcs w Ls) w (table-long w g),
-      arranged-of w Ls (drop w xs) (omega (arith, both, length-drop w xs)) (sym (drop_at A B w long) ∙ ap (drop w) whole ∙ drop_at (table w g) (laidArcs w Ls) w (table-long w g)),
+    let A = map arcs_of (take w xs) in
+    let B = map arcs_of (take m (drop w xs)) in
+    let g = arcs_at L in
+    let whole : A ++ B ≡ table w g ++ laid_arcs w Ls = sym (split arcs_of w m xs) ∙ ap (λ (k : ℕ). map arcs_of (take k xs)) (sym both) ∙ e in
+    let long : length A ≡ w = length-map (take w xs) arcs_of ∙ length-take-le w xs (omega (arith, both)) in (
+      sym (take_at A B w long) ∙ ap (take w) whole ∙ take_at (table w g) (laid_arcs w Ls) w (table-long w g),
+      arranged-of w Ls (drop w xs) (omega (arith, both, length-drop w xs)) (sym (drop_at A B w long) ∙ ap (drop w) whole ∙ drop_at (table w g) (laid_arcs w Ls) w (table-long w g)),
     )
 
 -- ---- down
 module _ {S V : Type 0} (r : Round) (R : RuleSense S) (T : TallySense V) where
-  bare-from : (t : ℕ) (us : List (Node S V)) → flat_map (fromNode r R T t) (map bare us) ≡ flat_map (fromNode r R T t) us
-  unfolding fromNode byDoor
+  bare-from : (t : ℕ) (us : List (Node S V)) → flat_map (from_node r R T t) (map bare us) ≡ flat_map (from_node r R T t) us
+  unfolding from_node by_door
   bare-from t [] = refl
-  bare-from t (u ∷ us) = ap (λ ys. fromNode r R T t u ++ ys) (bare-from t us)
+  bare-from t (u ∷ us) = ap (λ ys. from_node r R T t u ++ ys) (bare-from t us)
 
   in-nothing : (b m : ℕ) (labs : List (Option (Down S V))) (L : Layer) → Ranged L m → m ≤ b → ins (arrive r R T) b labs L ≡ []
   in-nothing b m labs L g h = go (ins (arrive r R T) b labs L) refl
@@ -96,52 +96,52 @@ module _ {S V : Type 0} (r : Round) (R : RuleSense S) (T : TallySense V) where
           absurd (omega (arith, g f.source f.door b f.arc))
 
   next-label : (b m : ℕ) (labs : List (Option (Down S V))) (L : Layer) → Ranged L m
-      → orBlank r R T (gather (merge r R T) (ins (arrive r R T) b labs L)) ≡ orBlank r R T (get_or (labelsNext r R T labs L m) b None)
-  unfolding labelsNext next gather
+      → or_blank r R T (gather (merge r R T) (ins (arrive r R T) b labs L)) ≡ or_blank r R T (get_or (labels_next r R T labs L m) b None)
+  unfolding labels_next next gather
   next-label b m labs L g = ⊎_elim inside beyond (cases_lt b m)
     where
       f : ℕ → Option (Down S V)
       f b = gather (merge r R T) (ins (arrive r R T) b labs L)
 
-      inside : b < m → orBlank r R T (gather (merge r R T) (ins (arrive r R T) b labs L)) ≡ orBlank r R T (get_or (table m (λ b. gather (merge r R T) (ins (arrive r R T) b labs L))) b None)
-      inside h = ap (orBlank r R T) (sym (table_at m b (λ b. gather (merge r R T) (ins (arrive r R T) b labs L)) None h))
+      inside : b < m → or_blank r R T (gather (merge r R T) (ins (arrive r R T) b labs L)) ≡ or_blank r R T (get_or (table m (λ b. gather (merge r R T) (ins (arrive r R T) b labs L))) b None)
+      inside h = ap (or_blank r R T) (sym (table_at m b (λ b. gather (merge r R T) (ins (arrive r R T) b labs L)) None h))
 
-      beyond : m ≤ b → orBlank r R T (gather (merge r R T) (ins (arrive r R T) b labs L)) ≡ orBlank r R T (get_or (table m (λ b. gather (merge r R T) (ins (arrive r R T) b labs L))) b None)
+      beyond : m ≤ b → or_blank r R T (gather (merge r R T) (ins (arrive r R T) b labs L)) ≡ or_blank r R T (get_or (table m (λ b. gather (merge r R T) (ins (arrive r R T) b labs L))) b None)
       beyond h =
-          ap (λ xs. orBlank r R T (gather (merge r R T) xs)) (in-nothing b m labs L g h)
-          ∙ ap (orBlank r R T) (sym (get_or_past (table m (λ b. gather (merge r R T) (ins (arrive r R T) b labs L))) b None (omega (arith, table-long m (λ b. gather (merge r R T) (ins (arrive r R T) b labs L))))))
+          ap (λ xs. or_blank r R T (gather (merge r R T) xs)) (in-nothing b m labs L g h)
+          ∙ ap (or_blank r R T) (sym (get_or_past (table m (λ b. gather (merge r R T) (ins (arrive r R T) b labs L))) b None (omega (arith, table-long m (λ b. gather (merge r R T) (ins (arrive r R T) b labs L))))))
 
   -- the m records after the layer us
   next-block : (w m cnt : ℕ) (labs : List (Option (Down S V))) (L M : Layer) (us vs : List (Node S V)) → Lasting r R T labs → Narrow r R T L → length L ≤ w → Ranged L cnt
-      → map bare us ≡ table w (place r R T L labs []) → map arcsOf vs ≡ table m (arcsAt M)
-      → map bare (nextLayer r R T us vs) ≡ table m (place r R T M (labelsNext r R T labs L cnt) [])
-  unfolding nextLayer labelled
+      → map bare us ≡ table w (place r R T L labs []) → map arcs_of vs ≡ table m (arcs_at M)
+      → map bare (next_layer r R T us vs) ≡ table m (place r R T M (labels_next r R T labs L cnt) [])
+  unfolding next_layer labelled
   next-block w m cnt labs L M us vs g n fits ranged eu ev =
-      table-list m (place r R T M (labelsNext r R T labs L cnt) []) (map bare (map f (range_with_len 0 (length vs)))) (long ∙ many) at_each
+      table-list m (place r R T M (labels_next r R T labs L cnt) []) (map bare (map f (range_with_len 0 (length vs)))) (long ∙ many) at_each
     where
       f : ℕ → Node S V
-      f b = withDown (get_or vs b (blankNode r R T)) (gathered r R T (arrivals r R T (b + 1) us))
+      f b = with_down (get_or vs b (blank_node r R T)) (gathered r R T (arrivals r R T (b + 1) us))
 
       long : length (map bare (map f (range_with_len 0 (length vs)))) ≡ length vs
       long = length-map (map f (range_with_len 0 (length vs))) bare ∙ length-map-range_with_len f 0 (length vs)
 
       many : length vs ≡ m
-      many = sym (length-map vs arcsOf) ∙ ap length ev ∙ table-long m (arcsAt M)
+      many = sym (length-map vs arcs_of) ∙ ap length ev ∙ table-long m (arcs_at M)
 
-      arcs-same : (b : ℕ) → b < m → (get_or vs b (blankNode r R T)).arcs ≡ arcsAt M b
-      arcs-same b h = sym (get_or-map arcsOf vs b (blankNode r R T) (arcsAt M b) (omega (arith, many))) ∙ ap (λ xs. get_or xs b (arcsAt M b)) ev ∙ table_at m b (arcsAt M) (arcsAt M b) h
+      arcs-same : (b : ℕ) → b < m → (get_or vs b (blank_node r R T)).arcs ≡ arcs_at M b
+      arcs-same b h = sym (get_or-map arcs_of vs b (blank_node r R T) (arcs_at M b) (omega (arith, many))) ∙ ap (λ xs. get_or xs b (arcs_at M b)) ev ∙ table_at m b (arcs_at M) (arcs_at M b) h
 
-      label_same : (b : ℕ) → gathered r R T (arrivals r R T (b + 1) us) ≡ orBlank r R T (get_or (labelsNext r R T labs L cnt) b None)
+      label_same : (b : ℕ) → gathered r R T (arrivals r R T (b + 1) us) ≡ or_blank r R T (get_or (labels_next r R T labs L cnt) b None)
       label_same b =
           ap (λ (t : ℕ). gathered r R T (arrivals r R T t us)) (add-one b)
-          ∙ ap (gathered r R T) (sym (bare-from (suc b) us) ∙ ap (flat_map (fromNode r R T (suc b))) eu ∙ arrivals-in r R T b w labs L g n fits)
+          ∙ ap (gathered r R T) (sym (bare-from (suc b) us) ∙ ap (flat_map (from_node r R T (suc b))) eu ∙ arrivals-in r R T b w labs L g n fits)
           ∙ gathered-is r R T (ins (arrive r R T) b labs L) ∙ next-label b cnt labs L ranged
 
-      at_each : (b : ℕ) (d : Node S V) → b < m → get_or (map bare (map f (range_with_len 0 (length vs)))) b d ≡ place r R T M (labelsNext r R T labs L cnt) [] b
+      at_each : (b : ℕ) (d : Node S V) → b < m → get_or (map bare (map f (range_with_len 0 (length vs)))) b d ≡ place r R T M (labels_next r R T labs L cnt) [] b
       at_each b d h =
           get_or-map bare (map f (range_with_len 0 (length vs))) b d d (omega (arith, many, length-map-range_with_len f 0 (length vs)))
           ∙ ap bare (get_or-map-range_with_len f 0 (length vs) b b d (omega (arith, many)) (omega arith))
-          ∙ ap₂ (λ (a : Arcs) (l : Down S V). record { arcs = a; label = record { down = l; up = noUp } }) (arcs-same b h) (label_same b)
+          ∙ ap₂ (λ (a : Arcs) (l : Down S V). record { arcs = a; label = record { down = l; up = no_up } }) (arcs-same b h) (label_same b)
 
   some-last : (b : ℕ) (labs : List (Option (Down S V))) (L : Layer) (l : Down S V) → gather (merge r R T) (ins (arrive r R T) b labs L) ≡ Some l → 0 < l.lasts
   unfolding gather merge arrive
@@ -156,8 +156,8 @@ module _ {S V : Type 0} (r : Round) (R : RuleSense S) (T : TallySense V) where
           let same : fold (merge r R T) x xs ≡ l = cc in
           subst (λ (y : Down S V). 0 < y.lasts) same all
 
-  lasting-next : (labs : List (Option (Down S V))) (L : Layer) (m : ℕ) → Lasting r R T (labelsNext r R T labs L m)
-  unfolding labelsNext next
+  lasting-next : (labs : List (Option (Down S V))) (L : Layer) (m : ℕ) → Lasting r R T (labels_next r R T labs L m)
+  unfolding labels_next next
   lasting-next labs L m a l e =
       let f : ℕ → Option (Down S V) = λ b. gather (merge r R T) (ins (arrive r R T) b labs L) in
       ⊎_elim
@@ -168,29 +168,29 @@ module _ {S V : Type 0} (r : Round) (R : RuleSense S) (T : TallySense V) where
   -- the labels of the net, over the records
   abbrev Half : ℕ → List (Option (Down S V)) → Net → List (Node S V) → Type 0
   Half w labs [] ys = map bare (take 1 ys) ≡ table 1 (place r R T [] labs [])
-  Half w labs (L ∷ Ls) ys = (map bare (take w ys) ≡ table w (place r R T L labs [])) × Half w (labelsNext r R T labs L (width Ls)) Ls (drop w ys)
+  Half w labs (L ∷ Ls) ys = (map bare (take w ys) ≡ table w (place r R T L labs [])) × Half w (labels_next r R T labs L (width Ls)) Ls (drop w ys)
 
   half-long : (w : ℕ) (f : ℕ → Node S V) (us : List (Node S V)) → map bare us ≡ table w f → length us ≡ w
   half-long w f us e = sym (length-map us bare) ∙ ap length e ∙ table-long w f
 
   -- after one step: the layer as it was, the next labelled, and what follows
-  step-front : (w m : ℕ) (xs : List (Node S V)) → length (take w xs) ≡ w → take w (layerDone r R T w 0 m w xs) ≡ take w xs
-  unfolding layerDone
-  step-front w m xs e = take_at (take w xs) (nextLayer r R T (take w xs) (part w m xs) ++ drop (w + length (nextLayer r R T (take w xs) (part w m xs))) xs) w e
+  step-front : (w m : ℕ) (xs : List (Node S V)) → length (take w xs) ≡ w → take w (layer_done r R T w 0 m w xs) ≡ take w xs
+  unfolding layer_done
+  step-front w m xs e = take_at (take w xs) (next_layer r R T (take w xs) (part w m xs) ++ drop (w + length (next_layer r R T (take w xs) (part w m xs))) xs) w e
 
-  step_back : (w m : ℕ) (xs : List (Node S V)) → length (take w xs) ≡ w → drop w (layerDone r R T w 0 m w xs) ≡ nextLayer r R T (take w xs) (part w m xs) ++ drop (w + length (nextLayer r R T (take w xs) (part w m xs))) xs
-  unfolding layerDone
-  step_back w m xs e = drop_at (take w xs) (nextLayer r R T (take w xs) (part w m xs) ++ drop (w + length (nextLayer r R T (take w xs) (part w m xs))) xs) w e
+  step_back : (w m : ℕ) (xs : List (Node S V)) → length (take w xs) ≡ w → drop w (layer_done r R T w 0 m w xs) ≡ next_layer r R T (take w xs) (part w m xs) ++ drop (w + length (next_layer r R T (take w xs) (part w m xs))) xs
+  unfolding layer_done
+  step_back w m xs e = drop_at (take w xs) (next_layer r R T (take w xs) (part w m xs) ++ drop (w + length (next_layer r R T (take w xs) (part w m xs))) xs) w e
 
   down-laid : (w k : ℕ) (labs : List (Option (Down S V))) (L : Layer) (Ls : Net) (xs : List (Node S V)) → length Ls ≡ k → Good w (L ∷ Ls) → Lasting r R T labs
       → map bare (take w xs) ≡ table w (place r R T L labs []) → Arranged w Ls (drop w xs)
       → Half w labs (L ∷ Ls) (flatDown r R T w k xs) × (drop (suc k * w + 1) (flatDown r R T w k xs) ≡ drop (suc k * w + 1) xs)
   down-laid w zero labs L [] xs k good last first arr =
       let us : length (take w xs) ≡ w = half-long w (place r R T L labs []) (take w xs) first in
-      let N = nextLayer r R T (take w xs) (part w 1 xs) in
-      let nb : map bare N ≡ table 1 (place r R T [] (labelsNext r R T labs L 1) []) = next-block w 1 1 labs L [] (take w xs) (part w 1 xs) last good.0 good.1 good.2 first arr in
-      let nl : length N ≡ 1 = half-long 1 (place r R T [] (labelsNext r R T labs L 1) []) N nb in
-      let one : flatDown r R T w 0 xs ≡ layerDone r R T w 0 1 w xs = down-last r R T w xs in
+      let N = next_layer r R T (take w xs) (part w 1 xs) in
+      let nb : map bare N ≡ table 1 (place r R T [] (labels_next r R T labs L 1) []) = next-block w 1 1 labs L [] (take w xs) (part w 1 xs) last good.0 good.1 good.2 first arr in
+      let nl : length N ≡ 1 = half-long 1 (place r R T [] (labels_next r R T labs L 1) []) N nb in
+      let one : flatDown r R T w 0 xs ≡ layer_done r R T w 0 1 w xs = down-last r R T w xs in
       let back : drop w (flatDown r R T w 0 xs) ≡ N ++ drop (w + length N) xs = ap (drop w) one ∙ step_back w 1 xs us in (
         (
           ap (λ ys. map bare (take w ys)) one ∙ ap (map bare) (step-front w 1 xs us) ∙ first,
@@ -202,12 +202,12 @@ module _ {S V : Type 0} (r : Round) (R : RuleSense S) (T : TallySense V) where
   down-laid w zero labs L (M ∷ Ls) xs k good last first arr = absurd (omega arith)
   down-laid w (suc k) labs L [] xs e good last first arr = absurd (omega arith)
   down-laid w (suc k) labs L (M ∷ Ls) xs e good last first arr =
-      let labs' = labelsNext r R T labs L (length M) in
+      let labs' = labels_next r R T labs L (length M) in
       let us : length (take w xs) ≡ w = half-long w (place r R T L labs []) (take w xs) first in
-      let N = nextLayer r R T (take w xs) (part w w xs) in
+      let N = next_layer r R T (take w xs) (part w w xs) in
       let nb : map bare N ≡ table w (place r R T M labs' []) = next-block w w (length M) labs L M (take w xs) (part w w xs) last good.0 good.1 good.2 first arr.0 in
       let nl : length N ≡ w = half-long w (place r R T M labs' []) N nb in
-      let Y = layerDone r R T w 0 w w xs in
+      let Y = layer_done r R T w 0 w w xs in
       let D = drop (w + length N) xs in
       let front : take w Y ≡ take w xs = step-front w w xs us in
       let back : drop w Y ≡ N ++ D = step_back w w xs us in
@@ -232,10 +232,10 @@ module _ {S V : Type 0} (r : Round) (R : RuleSense S) (T : TallySense V) where
       )
 
 -- ---- up
-gatheredUp-is : (xs : List Up) → gatheredUp xs ≡ orNoUp (gather mergeUp xs)
-unfolding gatheredUp gather
-gatheredUp-is [] = refl
-gatheredUp-is (x ∷ xs) = refl
+gathered_up-is : (xs : List Up) → gathered_up xs ≡ or_no_up (gather merge_up xs)
+unfolding gathered_up gather
+gathered_up-is [] = refl
+gathered_up-is (x ∷ xs) = refl
 
 first_of : {X : Type 0} (k : ℕ) (xs : List X) (d : X) → k < length xs → take 1 (drop k xs) ≡ get_or xs k d ∷ []
 first_of k [] d h = absurd (omega arith)
@@ -251,15 +251,15 @@ module _ {S V : Type 0} where
   abbrev Linked : List (Option Up) → List (Node S V) → ℕ → Type 0
   Linked us vs b = (x : Up) × (get_or us b None ≡ Some x) × (numbered (suc b) vs ≡ [] → ⊥) × ((v : Node S V) (rest : List (Node S V)) → numbered (suc b) vs ≡ v ∷ rest → (rest ≡ []) × (v.label.up ≡ x))
 
-  climb-link : (us : List (Option Up)) (vs : List (Node S V)) (b j : ℕ) (rest : List Up) → Linked us vs b → map (λ v. climb v.label.up j) (numbered (suc b) vs) ++ rest ≡ consO climb j (get_or us b None) rest
+  climb-link : (us : List (Option Up)) (vs : List (Node S V)) (b j : ℕ) (rest : List Up) → Linked us vs b → map (λ v. climb v.label.up j) (numbered (suc b) vs) ++ rest ≡ cons_if_some climb j (get_or us b None) rest
   climb-link us vs b j rest (x, e, some, one) = go (numbered (suc b) vs) refl
     where
-      go : (ns : List (Node S V)) → numbered (suc b) vs ≡ ns → map (λ v. climb v.label.up j) (numbered (suc b) vs) ++ rest ≡ consO climb j (get_or us b None) rest
+      go : (ns : List (Node S V)) → numbered (suc b) vs ≡ ns → map (λ v. climb v.label.up j) (numbered (suc b) vs) ++ rest ≡ cons_if_some climb j (get_or us b None) rest
       go [] n = absurd (some n)
       go (v ∷ more) n =
           let q = one v more n in
           ap (λ ns. map (λ v. climb v.label.up j) ns ++ rest) n ∙ ap (λ ys. climb v.label.up j ∷ (map (λ v. climb v.label.up j) ys ++ rest)) q.0
-          ∙ ap (λ (u : Up). climb u j ∷ rest) q.1 ∙ ap (λ o. consO climb j o rest) (sym e)
+          ∙ ap (λ (u : Up). climb u j ∷ rest) q.1 ∙ ap (λ o. cons_if_some climb j o rest) (sym e)
 
   climb-none : (vs : List (Node S V)) (to : List ℕ) (k : ℕ) → get_or to k 0 ≡ 0 → climbing vs to k ≡ []
   climb-none vs to k e = ap (λ (t : ℕ). map (λ v. climb v.label.up (k + 1)) (numbered t vs)) e
@@ -284,7 +284,7 @@ module _ {S V : Type 0} where
       ∙ ap (λ ys. map (λ v. climb v.label.up (a + 1)) (numbered (suc b) vs) ++ ys)
       (doors-up us vs ts to (a + 1) m (omega arith) (λ i lt. ap (λ (k : ℕ). get_or to k 0) (omega arith) ∙ e (suc i) (omega arith)) (λ i b q. g (suc i) b q) ∙ ap (λ (k : ℕ). outs climb us (suc k) ts) (add-one a))
       ∙ climb-link us vs b (a + 1) (outs climb us (suc (suc a)) ts) (g 0 b refl)
-      ∙ ap (λ (j : ℕ). consO climb j (get_or us b None) (outs climb us (suc (suc a)) ts)) (add-one a)
+      ∙ ap (λ (j : ℕ). cons_if_some climb j (get_or us b None) (outs climb us (suc (suc a)) ts)) (add-one a)
 
 numbered-at : {X : Type 0} (b : ℕ) (vs : List X) (d : X) → b < length vs → numbered (suc b) vs ≡ get_or vs b d ∷ []
 numbered-at b vs d h =
@@ -303,21 +303,21 @@ linked us vs b d x h e q =
 
 module _ {S V : Type 0} (r : Round) (R : RuleSense S) (T : TallySense V) (w : ℕ) where
   node-ups : (L : Layer) (Ls : Net) (labs : List (Option (Down S V))) (vs : List (Node S V)) (a : ℕ) → length (node L a) ≤ 16 → ((j b : ℕ) → target (node L a) j ≡ suc b → Linked (ups Ls) vs b)
-      → gatheredUp (upsOf vs (place r R T L labs [] a)) ≡ orNoUp (get_or (ups (L ∷ Ls)) a None)
-  unfolding upsOf upBy ups up outs gather
+      → gathered_up (ups_of vs (place r R T L labs [] a)) ≡ or_no_up (get_or (ups (L ∷ Ls)) a None)
+  unfolding ups_of up_by ups up outs gather
   node-ups L Ls labs vs a h g =
       let nd = node L a in
-      let f : Outs → Option Up = λ nd. gather mergeUp (outs climb (ups Ls) 1 nd) in
-      ap gatheredUp (doors-up (ups Ls) vs nd (padded nd) 0 16 h (λ i lt. ap (λ (k : ℕ). get_or (padded nd) k 0) (zero-add i) ∙ table_at 16 i (λ k. get_or nd k 0) 0 lt) (λ i b e. g (suc i) b e))
-      ∙ gatheredUp-is (outs climb (ups Ls) 1 nd)
+      let f : Outs → Option Up = λ nd. gather merge_up (outs climb (ups Ls) 1 nd) in
+      ap gathered_up (doors-up (ups Ls) vs nd (padded nd) 0 16 h (λ i lt. ap (λ (k : ℕ). get_or (padded nd) k 0) (zero-add i) ∙ table_at 16 i (λ k. get_or nd k 0) 0 lt) (λ i b e. g (suc i) b e))
+      ∙ gathered_up-is (outs climb (ups Ls) 1 nd)
       ∙ ⊎_elim
-      (λ lt. ap orNoUp (sym (get_or-map f L a [] None lt)))
-      (λ ge. ap (λ x. orNoUp (gather mergeUp (outs climb (ups Ls) 1 x))) (get_or_past L a [] ge) ∙ ap orNoUp (sym (get_or_past (map f L) a None (omega (arith, length-map L f)))))
+      (λ lt. ap or_no_up (sym (get_or-map f L a [] None lt)))
+      (λ ge. ap (λ x. or_no_up (gather merge_up (outs climb (ups Ls) 1 x))) (get_or_past L a [] ge) ∙ ap or_no_up (sym (get_or_past (map f L) a None (omega (arith, length-map L f)))))
       (cases_lt a (length L))
 
   risen-block : (L : Layer) (labs : List (Option (Down S V))) (U : List (Option Up)) (us vs : List (Node S V)) → map bare us ≡ table w (place r R T L labs [])
-      → ((a : ℕ) → gatheredUp (upsOf vs (place r R T L labs [] a)) ≡ orNoUp (get_or U a None)) → map (risen vs) us ≡ table w (place r R T L labs U)
-  unfolding risen upsOf upBy
+      → ((a : ℕ) → gathered_up (ups_of vs (place r R T L labs [] a)) ≡ or_no_up (get_or U a None)) → map (risen vs) us ≡ table w (place r R T L labs U)
+  unfolding risen ups_of up_by
   risen-block L labs U us vs e g =
       let many : length us ≡ w = half-long r R T w (place r R T L labs []) us e in
       table-list w (place r R T L labs U) (map (risen vs) us) (length-map us (risen vs) ∙ many)
@@ -326,76 +326,76 @@ module _ {S V : Type 0} (r : Round) (R : RuleSense S) (T : TallySense V) (w : �
       let is : bare z ≡ place r R T L labs [] a =
       sym (get_or-map bare us a d (place r R T L labs [] a) (omega (arith, many))) ∙ ap (λ xs. get_or xs a (place r R T L labs [] a)) e ∙ table_at w a (place r R T L labs []) (place r R T L labs [] a) h in
       get_or-map (risen vs) us a d d (omega (arith, many))
-      ∙ ap (λ (y : Node S V). withUp y (gatheredUp (upsOf vs y))) is
-      ∙ ap (withUp (place r R T L labs [] a)) (g a))
+      ∙ ap (λ (y : Node S V). with_up y (gathered_up (ups_of vs y))) is
+      ∙ ap (with_up (place r R T L labs [] a)) (g a))
 
-  up_first : (us Z vs : List (Node S V)) (m : ℕ) → length us ≡ w → take m Z ≡ vs → layerUp 0 w w m (us ++ Z) ≡ map (risen vs) us ++ Z
-  unfolding layerUp
+  up_first : (us Z vs : List (Node S V)) (m : ℕ) → length us ≡ w → take m Z ≡ vs → layer_up 0 w w m (us ++ Z) ≡ map (risen vs) us ++ Z
+  unfolding layer_up
   up_first us Z vs m e t =
       ap₂ (λ a b. over 0 (map (risen a) b) (us ++ Z)) (ap (take m) (drop_at us Z w e) ∙ t) (take_at us Z w e)
       ∙ ap (λ (k : ℕ). map (risen vs) us ++ drop k (us ++ Z)) (zero-add (length (map (risen vs) us)) ∙ length-map us (risen vs) ∙ e)
       ∙ ap (λ ys. map (risen vs) us ++ ys) (drop_at us Z w e)
 
   up-laid : (k : ℕ) (labs : List (Option (Down S V))) (L : Layer) (Ls : Net) (ys : List (Node S V)) → length Ls ≡ k → Good w (L ∷ Ls) → Tied (L ∷ Ls) → Half r R T w labs (L ∷ Ls) ys
-      → flatUp w k ys ≡ laidFrom r R T w labs (L ∷ Ls) ++ drop (suc k * w + 1) ys
-  unfolding laidFrom ups up
+      → flatUp w k ys ≡ laid_from r R T w labs (L ∷ Ls) ++ drop (suc k * w + 1) ys
+  unfolding laid_from ups up
   up-laid zero labs L [] ys e good tied half =
-      let labs' = labelsNext r R T labs L 1 in
+      let labs' = labels_next r R T labs L 1 in
       let us = take w ys in
       let many : length us ≡ w = half-long r R T w (place r R T L labs []) us half.0 in
       let E = table 1 (place r R T [] labs' []) in
       let rest = drop (w + 1) ys in
-      let cleared : endCleared w ys ≡ us ++ (E ++ rest) = ap (λ b. take w ys ++ (b ++ drop (w + length b) ys)) half.1 in
+      let cleared : end_cleared w ys ≡ us ++ (E ++ rest) = ap (λ b. take w ys ++ (b ++ drop (w + length b) ys)) half.1 in
       let last : suc 0 * w + 1 ≡ w + 1 = omega (arith, suc-mul 0 w, zero-mul w) in
-      up-last w ys ∙ ap (layerUp 0 w w 1) cleared
+      up-last w ys ∙ ap (layer_up 0 w w 1) cleared
       ∙ up_first us (E ++ rest) E 1 many (take_at E rest 1 refl)
       ∙ ap (λ xs. xs ++ (E ++ rest)) (risen-block L labs (ups (L ∷ [])) us E half.0 (λ a. node-ups L [] labs E a (good.0 a) (λ j b t. let z : b ≡ 0 = omega (arith, tied a j b t) in
-      linked (ups []) E b (blankNode r R T) noUp (omega (arith, z)) (ap (λ (i : ℕ). get_or {A = Option Up} (Some noUp ∷ []) i None) z) (ap (λ (i : ℕ). (get_or E i (blankNode r R T)).label.up) z))))
+      linked (ups []) E b (blank_node r R T) no_up (omega (arith, z)) (ap (λ (i : ℕ). get_or {A = Option Up} (Some no_up ∷ []) i None) z) (ap (λ (i : ℕ). (get_or E i (blank_node r R T)).label.up) z))))
       ∙ sym (append_assoc (table w (place r R T L labs (ups (L ∷ [])))) E rest)
       ∙ ap (λ (i : ℕ). (table w (place r R T L labs (ups (L ∷ []))) ++ E) ++ drop i ys) (sym last)
   up-laid zero labs L (M ∷ Ls) ys e good tied half = absurd (omega arith)
   up-laid (suc k) labs L [] ys e good tied half = absurd (omega arith)
   up-laid (suc k) labs L (M ∷ Ls) ys e good tied half =
-      let labs' = labelsNext r R T labs L (length M) in
+      let labs' = labels_next r R T labs L (length M) in
       let us = take w ys in
       let zs = drop w ys in
       let many : length us ≡ w = half-long r R T w (place r R T L labs []) us half.0 in
       let U = ups (M ∷ Ls) in
       let VS = table w (place r R T M labs' U) in
-      let X = laidFrom r R T w (labelsNext r R T labs' M (width Ls)) Ls in
+      let X = laid_from r R T w (labels_next r R T labs' M (width Ls)) Ls in
       let later = drop (suc k * w + 1) zs in
       let ih : flatUp w k zs ≡ (VS ++ X) ++ later = up-laid k labs' M Ls zs (omega arith) good.3 tied.3 half.1 in
       let front : take w ((VS ++ X) ++ later) ≡ VS = ap (take w) (append_assoc VS X later) ∙ take_at VS (X ++ later) w (table-long w (place r R T M labs' U)) in
       let end : later ≡ drop (suc (suc k) * w + 1) ys = let p : w + (suc k * w + 1) ≡ suc (suc k) * w + 1 = omega (arith, suc-mul (suc k) w) in drop-drop (suc k * w + 1) w ys ∙ ap (λ (i : ℕ). drop i ys) p in
       ap (flatUp w (suc k)) (sym (take-append-drop w ys))
       ∙ up-front w k us zs many
-      ∙ ap (λ x. layerUp 0 w w w (us ++ x)) ih
+      ∙ ap (λ x. layer_up 0 w w w (us ++ x)) ih
       ∙ up_first us ((VS ++ X) ++ later) VS w many front
       ∙ ap (λ x. x ++ ((VS ++ X) ++ later)) (risen-block L labs (ups (L ∷ M ∷ Ls)) us VS half.0 (λ a. node-ups L (M ∷ Ls) labs VS a (good.0 a) (λ j b t.
       let lt : b < length M = tied.0 a j b t in
       let room : b < w = omega (arith, good.3.1) in
       let x = ups-full M Ls tied.2 tied.3 b lt in
-      linked U VS b (blankNode r R T) x.0 (omega (arith, table-long w (place r R T M labs' U))) x.1
-      (ap (λ (v : Node S V). v.label.up) (table_at w b (place r R T M labs' U) (blankNode r R T) room) ∙ ap orNoUp x.1))))
+      linked U VS b (blank_node r R T) x.0 (omega (arith, table-long w (place r R T M labs' U))) x.1
+      (ap (λ (v : Node S V). v.label.up) (table_at w b (place r R T M labs' U) (blank_node r R T) room) ∙ ap or_no_up x.1))))
       ∙ sym (append_assoc (table w (place r R T L labs (ups (L ∷ M ∷ Ls)))) (VS ++ X) later)
       ∙ ap (λ x. (table w (place r R T L labs (ups (L ∷ M ∷ Ls))) ++ (VS ++ X)) ++ x) end
 
   -- ---- both passes
-  first_block : (L : Layer) (us : List (Node S V)) → map arcsOf us ≡ table w (arcsAt L) → map bare (firstLayer r R T us) ≡ table w (place r R T L (firsts r R T) [])
+  first_block : (L : Layer) (us : List (Node S V)) → map arcs_of us ≡ table w (arcs_at L) → map bare (first_layer r R T us) ≡ table w (place r R T L (firsts r R T) [])
   first_block L us e =
-      let many : length us ≡ w = sym (length-map us arcsOf) ∙ ap length e ∙ table-long w (arcsAt L) in
-      table-list w (place r R T L (firsts r R T) []) (map bare (firstLayer r R T us)) (length-map (firstLayer r R T us) bare ∙ first-long r R T us ∙ many)
+      let many : length us ≡ w = sym (length-map us arcs_of) ∙ ap length e ∙ table-long w (arcs_at L) in
+      table-list w (place r R T L (firsts r R T) []) (map bare (first_layer r R T us)) (length-map (first_layer r R T us) bare ∙ first-long r R T us ∙ many)
       (λ a d h.
-      let arcs : (get_or us a (blankNode r R T)).arcs ≡ arcsAt L a =
-      sym (get_or-map arcsOf us a (blankNode r R T) (arcsAt L a) (omega (arith, many))) ∙ ap (λ xs. get_or xs a (arcsAt L a)) e ∙ table_at w a (arcsAt L) (arcsAt L a) h in
-      at_first us a d (omega (arith, many)) ∙ ap (λ (x : Arcs). record { arcs = x; label = record { down = orBlank r R T (get_or (firsts r R T) a None); up = noUp } }) arcs)
+      let arcs : (get_or us a (blank_node r R T)).arcs ≡ arcs_at L a =
+      sym (get_or-map arcs_of us a (blank_node r R T) (arcs_at L a) (omega (arith, many))) ∙ ap (λ xs. get_or xs a (arcs_at L a)) e ∙ table_at w a (arcs_at L) (arcs_at L a) h in
+      at_first us a d (omega (arith, many)) ∙ ap (λ (x : Arcs). record { arcs = x; label = record { down = or_blank r R T (get_or (firsts r R T) a None); up = no_up } }) arcs)
     where
-      at_rest : (us : List (Node S V)) (a : ℕ) (d : Node S V) → a < length us → get_or (map bare (map (cleared r R T) us)) a d ≡ record { arcs = (get_or us a (blankNode r R T)).arcs; label = record { down = blank r R T; up = noUp } }
+      at_rest : (us : List (Node S V)) (a : ℕ) (d : Node S V) → a < length us → get_or (map bare (map (cleared r R T) us)) a d ≡ record { arcs = (get_or us a (blank_node r R T)).arcs; label = record { down = blank r R T; up = no_up } }
       at_rest [] a d h = absurd (omega arith)
       at_rest (u ∷ us) zero d h = refl
       at_rest (u ∷ us) (suc a) d h = at_rest us a d (omega arith)
 
-      at_first : (us : List (Node S V)) (a : ℕ) (d : Node S V) → a < length us → get_or (map bare (firstLayer r R T us)) a d ≡ record { arcs = (get_or us a (blankNode r R T)).arcs; label = record { down = orBlank r R T (get_or (firsts r R T) a None); up = noUp } }
+      at_first : (us : List (Node S V)) (a : ℕ) (d : Node S V) → a < length us → get_or (map bare (first_layer r R T us)) a d ≡ record { arcs = (get_or us a (blank_node r R T)).arcs; label = record { down = or_blank r R T (get_or (firsts r R T) a None); up = no_up } }
       at_first [] a d h = absurd (omega arith)
       at_first (u ∷ us) zero d h = refl
       at_first (u ∷ us) (suc a) d h = at_rest us a d (omega arith)
@@ -409,8 +409,8 @@ module _ {S V : Type 0} (r : Round) (R : RuleSense S) (T : TallySense V) (w : �
   unfolding relabelled laid begun
   relabelled-laid k L Ls xs en el good tied arr =
       let us = take w xs in
-      let many : length us ≡ w = sym (length-map us arcsOf) ∙ ap length arr.0 ∙ table-long w (arcsAt L) in
-      let F = firstLayer r R T us in
+      let many : length us ≡ w = sym (length-map us arcs_of) ∙ ap length arr.0 ∙ table-long w (arcs_at L) in
+      let F = first_layer r R T us in
       let long : length F ≡ w = first-long r R T us ∙ many in
       let B = begun r R T w xs in
       let is : B ≡ F ++ drop w xs = ap (λ (i : ℕ). F ++ drop i xs) (zero-add (length F) ∙ long) in
@@ -421,10 +421,10 @@ module _ {S V : Type 0} (r : Round) (R : RuleSense S) (T : TallySense V) (w : �
       let q = k * w + 1 in
       let em : m ≡ w + q = omega (arith, suc-mul k w) in
       let tail : drop m B ≡ drop m xs = ap (λ (i : ℕ). drop i B) em ∙ sym (drop-drop q w B) ∙ ap (drop q) back ∙ drop-drop q w xs ∙ ap (λ (i : ℕ). drop i xs) (sym em) in
-      ap₂ (λ (n : ℕ) ys. passUp n w ys) en (down_is r R T w k xs en)
+      ap₂ (λ (n : ℕ) ys. pass_up n w ys) en (down_is r R T w k xs en)
       ∙ up_is w (suc k) k (flatDown r R T w k B) refl
       ∙ up-laid k (firsts r R T) L Ls (flatDown r R T w k B) el good tied d.0
-      ∙ ap (λ ys. laidFrom r R T w (firsts r R T) (L ∷ Ls) ++ ys) (d.1 ∙ tail ∙ ap (λ (n : ℕ). drop (n * w + 1) xs) (sym en))
+      ∙ ap (λ ys. laid_from r R T w (firsts r R T) (L ∷ Ls) ++ ys) (d.1 ∙ tail ∙ ap (λ (n : ℕ). drop (n * w + 1) xs) (sym en))
 
   -- of arcs that a diagram may have
   pub relabelled-lawful : (Ls : Net) (xs : List (Node S V)) → Lawful r.n w Ls → Arranged w Ls xs → relabelled r R T w xs ≡ relaid r R T w xs Ls
@@ -435,7 +435,7 @@ module _ {S V : Type 0} (r : Round) (R : RuleSense S) (T : TallySense V) (w : �
       relabelled-laid (length Ls) L Ls xs (sym deep) refl (good r.n w (L ∷ Ls) r.most p.even p.roomy p.tied) p.tied arr
 
   -- the same, of the flat list of arcs
-  pub relabelled-read : (Ls : Net) (xs : List (Node S V)) → Lawful r.n w Ls → r.n * w + 1 ≤ length xs → arcsRead (take (r.n * w + 1) xs) ≡ laidArcs w Ls → relabelled r R T w xs ≡ relaid r R T w xs Ls
+  pub relabelled-read : (Ls : Net) (xs : List (Node S V)) → Lawful r.n w Ls → r.n * w + 1 ≤ length xs → arcs_read (take (r.n * w + 1) xs) ≡ laid_arcs w Ls → relabelled r R T w xs ≡ relaid r R T w xs Ls
   relabelled-read Ls xs p h e =
       let n : length Ls * w + 1 ≡ r.n * w + 1 = ap (λ (k : ℕ). k * w + 1) p.deep in
-      relabelled-lawful Ls xs p (arranged-of w Ls xs (omega (arith, n)) (ap (λ (k : ℕ). arcsRead (take k xs)) n ∙ e))
+      relabelled-lawful Ls xs p (arranged-of w Ls xs (omega (arith, n)) (ap (λ (k : ℕ). arcs_read (take k xs)) n ∙ e))

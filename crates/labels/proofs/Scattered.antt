@@ -14,12 +14,12 @@ use Rattle.layers.specs.declared.node.Node.{Node}
 use Rattle.layers.specs.declared.node.Down.{Down}
 use Rattle.layers.specs.Labels.{arrive, merge}
 use Rattle.layers.specs.Records.{blank}
-use Rattle.labels.specs.Passes.{arrivals, withDown, blankNode, byDoor, fromNode, gathered, labelled, nextLayer, cleared, taken, landed, hit, crossed, spread}
+use Rattle.labels.specs.Passes.{arrivals, with_down, blank_node, by_door, from_node, gathered, labelled, next_layer, cleared, taken, landed, hit, crossed, spread}
 use Rattle.labels.proofs.Folds.{folded_keeps, folded-view}
 
 module _ {S V : Type 0} (r : Round) (R : RuleSense S) (T : TallySense V) where
   abbrev takes : Node S V → Down S V → Node S V
-  takes v x = withDown v (taken r R T v.label.down x)
+  takes v x = with_down v (taken r R T v.label.down x)
 
   -- ---- one place of the targets
   hit-long : (vs : List (Node S V)) (t : ℕ) (x : Down S V) → length (hit r R T vs t x) ≡ length vs
@@ -27,10 +27,10 @@ module _ {S V : Type 0} (r : Round) (R : RuleSense S) (T : TallySense V) where
   hit-long vs t x = cond_both (eqb t 0) vs (landed r R T vs (t - 1) x) (λ ys. length ys ≡ length vs) (λ _. refl) (λ _. length-set vs (t - 1) _)
 
   hit-at : (vs : List (Node S V)) (b t : ℕ) (x : Down S V) → b < length vs
-      → get_or (hit r R T vs t x) b (blankNode r R T) ≡ fold (takes) (get_or vs b (blankNode r R T)) (cond (eqb t (b + 1)) (x ∷ []) [])
+      → get_or (hit r R T vs t x) b (blank_node r R T) ≡ fold (takes) (get_or vs b (blank_node r R T)) (cond (eqb t (b + 1)) (x ∷ []) [])
   unfolding hit landed
   hit-at vs b t x lt =
-      let z = blankNode r R T in
+      let z = blank_node r R T in
       let there : ℕ → Node S V = λ i. takes (get_or vs i z) x in
       ⊎_elim
       (λ (e : t ≡ 0).
@@ -58,12 +58,12 @@ module _ {S V : Type 0} (r : Round) (R : RuleSense S) (T : TallySense V) where
       (λ _. folded_keeps (λ ys. length ys ≡ length vs) (crossed r R T u) (λ ys k h. crossed-long u ys k ∙ h) vs (range_with_len 0 16) refl)
 
   spread_at : (b : ℕ) (vs : List (Node S V)) (u : Node S V) → b < length vs
-      → get_or (spread r R T vs u) b (blankNode r R T) ≡ fold (takes) (get_or vs b (blankNode r R T)) (fromNode r R T (b + 1) u)
-  unfolding spread fromNode crossed byDoor
+      → get_or (spread r R T vs u) b (blank_node r R T) ≡ fold (takes) (get_or vs b (blank_node r R T)) (from_node r R T (b + 1) u)
+  unfolding spread from_node crossed by_door
   spread_at b vs u lt =
-      let z = blankNode r R T in
-      let doors : get_or (fold (crossed r R T u) vs (range_with_len 0 16)) b z ≡ fold (takes) (get_or vs b z) (flat_map (byDoor r R T (b + 1) u) (range_with_len 0 16)) =
-      folded-view (λ ys. b < length ys) (λ ys. get_or ys b z) (crossed r R T u) (takes) (byDoor r R T (b + 1) u)
+      let z = blank_node r R T in
+      let doors : get_or (fold (crossed r R T u) vs (range_with_len 0 16)) b z ≡ fold (takes) (get_or vs b z) (flat_map (by_door r R T (b + 1) u) (range_with_len 0 16)) =
+      folded-view (λ ys. b < length ys) (λ ys. get_or ys b z) (crossed r R T u) (takes) (by_door r R T (b + 1) u)
       (λ ys k h. omega (arith, crossed-long u ys k))
       (λ ys k h. hit-at ys b (get_or u.arcs.to k 0) (arrive r R T u.label.down (k + 1)) h)
       vs (range_with_len 0 16) lt in
@@ -76,15 +76,15 @@ module _ {S V : Type 0} (r : Round) (R : RuleSense S) (T : TallySense V) where
   spreads-long vs us = folded_keeps (λ ys. length ys ≡ length vs) (spread r R T) (λ ys u h. spread-long ys u ∙ h) vs us refl
 
   spreads-at : (b : ℕ) (vs us : List (Node S V)) → b < length vs
-      → get_or (fold (spread r R T) vs us) b (blankNode r R T) ≡ fold (takes) (get_or vs b (blankNode r R T)) (arrivals r R T (b + 1) us)
+      → get_or (fold (spread r R T) vs us) b (blank_node r R T) ≡ fold (takes) (get_or vs b (blank_node r R T)) (arrivals r R T (b + 1) us)
   spreads-at b vs us lt =
-      folded-view (λ ys. b < length ys) (λ ys. get_or ys b (blankNode r R T)) (spread r R T) (takes) (fromNode r R T (b + 1))
+      folded-view (λ ys. b < length ys) (λ ys. get_or ys b (blank_node r R T)) (spread r R T) (takes) (from_node r R T (b + 1))
       (λ ys u h. omega (arith, spread-long ys u))
       (λ ys u h. spread_at b ys u h)
       vs us lt
 
   -- ---- what is taken in is what is gathered
-  takes-label : (v : Node S V) (xs : List (Down S V)) → fold (takes) v xs ≡ withDown v (fold (taken r R T) v.label.down xs)
+  takes-label : (v : Node S V) (xs : List (Down S V)) → fold (takes) v xs ≡ with_down v (fold (taken r R T) v.label.down xs)
   takes-label v [] = refl
   takes-label v (x ∷ xs) = takes-label (takes v x) xs
 
@@ -111,22 +111,22 @@ module _ {S V : Type 0} (r : Round) (R : RuleSense S) (T : TallySense V) where
   all-joined P F (x ∷ xs) h = All-append P (F x) (flat_map F xs) (h x) (all-joined P F xs h)
 
   reached : (t : ℕ) (us : List (Node S V)) → All Reached (arrivals r R T t us)
-  unfolding fromNode byDoor arrive
+  unfolding from_node by_door arrive
   reached t us =
-      all-joined Reached (fromNode r R T t) us
-      (λ u. cond_both (eqb u.label.down.lasts 0) [] (flat_map (byDoor r R T t u) (range_with_len 0 16)) (All Reached) (λ _. tt)
-      (λ _. all-joined Reached (byDoor r R T t u) (range_with_len 0 16)
+      all-joined Reached (from_node r R T t) us
+      (λ u. cond_both (eqb u.label.down.lasts 0) [] (flat_map (by_door r R T t u) (range_with_len 0 16)) (All Reached) (λ _. tt)
+      (λ _. all-joined Reached (by_door r R T t u) (range_with_len 0 16)
       (λ k. cond_both (eqb (get_or u.arcs.to k 0) t) (arrive r R T u.label.down (k + 1) ∷ []) [] (All Reached) (λ _. (pow_pos (k + 1), tt)) (λ _. tt))))
 
   -- ---- the whole layer
-  pub spreads-layer : (us vs : List (Node S V)) → fold (spread r R T) (map (cleared r R T) vs) us ≡ nextLayer r R T us vs
-  unfolding nextLayer labelled
+  pub spreads-layer : (us vs : List (Node S V)) → fold (spread r R T) (map (cleared r R T) vs) us ≡ next_layer r R T us vs
+  unfolding next_layer labelled
   spreads-layer us vs =
-      let z = blankNode r R T in
+      let z = blank_node r R T in
       let vs₀ = map (cleared r R T) vs in
       fill_by_all (labelled r R T us vs) (fold (spread r R T) vs₀ us) (length vs) z (spreads-long vs₀ us ∙ length-map vs (cleared r R T))
       (λ b lt.
       spreads-at b vs₀ us (omega (arith, length-map vs (cleared r R T)))
       ∙ ap (λ v. fold (takes) v (arrivals r R T (b + 1) us)) (get_or-map (cleared r R T) vs b z z lt)
       ∙ takes-label (cleared r R T (get_or vs b z)) (arrivals r R T (b + 1) us)
-      ∙ ap (withDown (get_or vs b z)) (taken-gathered (arrivals r R T (b + 1) us) (reached (b + 1) us)))
+      ∙ ap (with_down (get_or vs b z)) (taken-gathered (arrivals r R T (b + 1) us) (reached (b + 1) us)))

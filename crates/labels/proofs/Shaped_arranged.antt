@@ -4,26 +4,26 @@ use Rattle.round.specs.declared.table.Round.{Round}
 use Rattle.layers.specs.declared.node.Arcs.{Arcs}
 use Rattle.layers.specs.declared.node.Node.{Node}
 use Rattle.layers.specs.Flow.{Net, Roomy, Even}
-use Rattle.layers.specs.Records.{arcsRead, laidArcs}
+use Rattle.layers.specs.Records.{arcs_read, laid_arcs}
 use Rattle.layers.specs.Calls.{arcs}
-use Rattle.layers.specs.Shape.{targetsOf, Shaped}
+use Rattle.layers.specs.Shape.{targets_of, Shaped}
 use Rattle.layers.proofs.Proper.{Proper, even-of}
 use Rattle.layers.proofs.Shaped.{shaped-proper, tied-ranged, RangedAll}
 use Rattle.labels.proofs.Laying.{Arranged, Good, arranged-of, few}
 
 -- arcs are their targets
-arcs-again : (xs : List Arcs) → xs ≡ map (λ (ts : List ℕ). record { to = ts }) (targetsOf xs)
+arcs-again : (xs : List Arcs) → xs ≡ map (λ (ts : List ℕ). record { to = ts }) (targets_of xs)
 arcs-again [] = refl
 arcs-again (x ∷ xs) = ap (λ ys. x ∷ ys) (arcs-again xs)
 
-same-arcs : (xs ys : List Arcs) → targetsOf xs ≡ targetsOf ys → xs ≡ ys
+same-arcs : (xs ys : List Arcs) → targets_of xs ≡ targets_of ys → xs ≡ ys
 same-arcs xs ys e = arcs-again xs ∙ ap (map (λ (ts : List ℕ). record { to = ts })) e ∙ sym (arcs-again ys)
 
 pub shaped-arranged : {S V : Type 0} (r : Round) (W : ℕ) (xs : List (Node S V)) → r.n * W + 1 ≤ length xs → Shaped r.n W xs → Arranged W (arcs r.n W xs) xs
 shaped-arranged r W xs h s =
     let D = arcs r.n W xs in
     let e : length D * W + 1 ≡ r.n * W + 1 = ap (λ (k : ℕ). k * W + 1) (shaped-proper r W xs s).deep in
-    arranged-of W D xs (omega (arith, e)) (ap (λ (k : ℕ). arcsRead (take k xs)) e ∙ same-arcs (arcsRead (take (r.n * W + 1) xs)) (laidArcs W D) s.written)
+    arranged-of W D xs (omega (arith, e)) (ap (λ (k : ℕ). arcs_read (take k xs)) e ∙ same-arcs (arcs_read (take (r.n * W + 1) xs)) (laid_arcs W D) s.written)
 
 -- few doors, few nodes, and no arc out of the next layer
 pub good-net : (n W : ℕ) (Ls : Net) → n ≤ 16 → Even n Ls → Roomy W Ls → RangedAll Ls → Good W Ls

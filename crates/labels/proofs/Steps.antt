@@ -4,8 +4,8 @@ use Rattle.std.proofs.lemmas.List.{drop-drop, drop_at, get_or_append_left, get_o
 use Rattle.std.specs.Option.{unwrap_or}
 use Rattle.layers.specs.declared.node.Node.{Node}
 use Rattle.layers.specs.declared.node.Up.{Up}
-use Rattle.layers.specs.Labels.{climb, mergeUp, noUp}
-use Rattle.labels.specs.Passes.{part, over, gatheredUp, takenUp}
+use Rattle.layers.specs.Labels.{climb, merge_up, no_up}
+use Rattle.labels.specs.Passes.{part, over, gathered_up, taken_up}
 use Rattle.labels.proofs.Folds.{folded-append, counting_more}
 
 pub folded-counting-more : {A B : Type 0} (f : B → A → B) (F : ℕ → List A) (a : B) (k : ℕ) → fold f a (flat_map F (range_with_len 0 (k + 1))) ≡ fold f (fold f a (flat_map F (range_with_len 0 k))) (F k)
@@ -22,14 +22,14 @@ set-over at a ws xs y lt h =
     ∙ ap (λ zs. take at xs ++ zs) (set-append_left ws (drop (at + length ws) xs) a y lt)
     ∙ ap (λ n. take at xs ++ (set ws a y ++ drop (at + n) xs)) (sym (length-set ws a y))
 
-taken-some : (a : Up) (xs : List Up) → fold takenUp (Some a) xs ≡ Some (fold mergeUp a xs)
+taken-some : (a : Up) (xs : List Up) → fold taken_up (Some a) xs ≡ Some (fold merge_up a xs)
 taken-some a [] = refl
-taken-some a (x ∷ xs) = taken-some (mergeUp a x) xs
+taken-some a (x ∷ xs) = taken-some (merge_up a x) xs
 
-pub taken-gathered : (xs : List Up) → unwrap_or (fold takenUp None xs) noUp ≡ gatheredUp xs
-unfolding gatheredUp
+pub taken-gathered : (xs : List Up) → unwrap_or (fold taken_up None xs) no_up ≡ gathered_up xs
+unfolding gathered_up
 taken-gathered [] = refl
-taken-gathered (x ∷ xs) = ap (λ o. unwrap_or o noUp) (taken-some x xs)
+taken-gathered (x ∷ xs) = ap (λ o. unwrap_or o no_up) (taken-some x xs)
 
 pub part-after-over : {X : Type 0} (at : ℕ) (ws xs : List X) (next m : ℕ) → at + length ws ≤ next → at ≤ length xs → part next m (over at ws xs) ≡ part next m xs
 part-after-over at ws xs next m le h =

@@ -5,8 +5,8 @@ use Rattle.round.specs.declared.table.Round.{Round}
 use Rattle.rules.specs.Rules.{RuleSense}
 use Rattle.tallies.specs.Tallies.{TallySense}
 use Rattle.layers.specs.declared.node.Node.{Node}
-use Rattle.layers.specs.Labels.{noUp}
-use Rattle.labels.specs.Passes.{part, over, withUp, nextLayer, layerDone, layersDone, begun, passDown, risen, layerUp, layersUp, endCleared, passUp}
+use Rattle.layers.specs.Labels.{no_up}
+use Rattle.labels.specs.Passes.{part, over, with_up, next_layer, layer_done, layers_done, begun, pass_down, risen, layer_up, layers_up, end_cleared, pass_up}
 
 -- ---- past the first records
 take_past : {X : Type 0} (us : List X) (w k : ℕ) (zs : List X) → length us ≡ w → take (w + k) (us ++ zs) ≡ us ++ take k zs
@@ -41,83 +41,83 @@ first-place w = let e : 0 + 1 ≡ 1 = omega arith in ap (λ (k : ℕ). k * w) e 
 -- ---- down
 module _ {S V : Type 0} (r : Round) (R : RuleSense S) (T : TallySense V) (w : ℕ) where
   done-past : (us : List (Node S V)) (from count at : ℕ) (zs : List (Node S V)) → length us ≡ w
-      → layerDone r R T w (w + from) count (w + at) (us ++ zs) ≡ us ++ layerDone r R T w from count at zs
-  unfolding layerDone
+      → layer_done r R T w (w + from) count (w + at) (us ++ zs) ≡ us ++ layer_done r R T w from count at zs
+  unfolding layer_done
   done-past us from count at zs e =
-      ap₂ (λ a b. over (w + at) (nextLayer r R T a b) (us ++ zs)) (part-past us w from w zs e) (part-past us w at count zs e)
-      ∙ over-past us w at (nextLayer r R T (part from w zs) (part at count zs)) zs e
+      ap₂ (λ a b. over (w + at) (next_layer r R T a b) (us ++ zs)) (part-past us w from w zs e) (part-past us w at count zs e)
+      ∙ over-past us w at (next_layer r R T (part from w zs) (part at count zs)) zs e
 
   -- the first layer of w records after the labelled one, and how long it is
   abbrev Stepped : List (Node S V) → List (Node S V)
-  Stepped xs = layerDone r R T w 0 w w xs
+  Stepped xs = layer_done r R T w 0 w w xs
 
-  layers-front : (k : ℕ) (xs : List (Node S V)) → length (take w (Stepped xs)) ≡ w → layersDone r R T w (suc k) xs ≡ take w (Stepped xs) ++ layersDone r R T w k (drop w (Stepped xs))
+  layers-front : (k : ℕ) (xs : List (Node S V)) → length (take w (Stepped xs)) ≡ w → layers_done r R T w (suc k) xs ≡ take w (Stepped xs) ++ layers_done r R T w k (drop w (Stepped xs))
   layers-front zero xs e =
-      ap₂ (λ (a b : ℕ). layerDone r R T w a w b xs) (zero-mul w) (first-place w) ∙ sym (take-append-drop w (Stepped xs))
+      ap₂ (λ (a b : ℕ). layer_done r R T w a w b xs) (zero-mul w) (first-place w) ∙ sym (take-append-drop w (Stepped xs))
   layers-front (suc k) xs e =
-      ap (layerDone r R T w (suc k * w) w ((suc k + 1) * w)) (layers-front k xs e)
-      ∙ ap₂ (λ (a b : ℕ). layerDone r R T w a w b (take w (Stepped xs) ++ layersDone r R T w k (drop w (Stepped xs)))) (next_place k w) (after-place k w)
-      ∙ done-past (take w (Stepped xs)) (k * w) w ((k + 1) * w) (layersDone r R T w k (drop w (Stepped xs))) e
+      ap (layer_done r R T w (suc k * w) w ((suc k + 1) * w)) (layers-front k xs e)
+      ∙ ap₂ (λ (a b : ℕ). layer_done r R T w a w b (take w (Stepped xs) ++ layers_done r R T w k (drop w (Stepped xs)))) (next_place k w) (after-place k w)
+      ∙ done-past (take w (Stepped xs)) (k * w) w ((k + 1) * w) (layers_done r R T w k (drop w (Stepped xs))) e
 
   -- suc k layers of w records, of which the first is labelled, and the end
   pub flatDown : ℕ → List (Node S V) → List (Node S V)
-  flatDown k xs = layerDone r R T w (k * w) 1 (suc k * w) (layersDone r R T w k xs)
+  flatDown k xs = layer_done r R T w (k * w) 1 (suc k * w) (layers_done r R T w k xs)
 
-  pub down-last : (xs : List (Node S V)) → flatDown 0 xs ≡ layerDone r R T w 0 1 w xs
+  pub down-last : (xs : List (Node S V)) → flatDown 0 xs ≡ layer_done r R T w 0 1 w xs
   unfolding flatDown
-  down-last xs = ap₂ (λ (a b : ℕ). layerDone r R T w a 1 b xs) (zero-mul w) (one-mul w)
+  down-last xs = ap₂ (λ (a b : ℕ). layer_done r R T w a 1 b xs) (zero-mul w) (one-mul w)
 
   pub down-front : (k : ℕ) (xs : List (Node S V)) → length (take w (Stepped xs)) ≡ w → flatDown (suc k) xs ≡ take w (Stepped xs) ++ flatDown k (drop w (Stepped xs))
   unfolding flatDown
   down-front k xs e =
-      ap (layerDone r R T w (suc k * w) 1 (suc (suc k) * w)) (layers-front k xs e)
-      ∙ ap₂ (λ (a b : ℕ). layerDone r R T w a 1 b (take w (Stepped xs) ++ layersDone r R T w k (drop w (Stepped xs)))) (next_place k w) (next_place (suc k) w)
-      ∙ done-past (take w (Stepped xs)) (k * w) 1 (suc k * w) (layersDone r R T w k (drop w (Stepped xs))) e
+      ap (layer_done r R T w (suc k * w) 1 (suc (suc k) * w)) (layers-front k xs e)
+      ∙ ap₂ (λ (a b : ℕ). layer_done r R T w a 1 b (take w (Stepped xs) ++ layers_done r R T w k (drop w (Stepped xs)))) (next_place k w) (next_place (suc k) w)
+      ∙ done-past (take w (Stepped xs)) (k * w) 1 (suc k * w) (layers_done r R T w k (drop w (Stepped xs))) e
 
-  pub down_is : (k : ℕ) (xs : List (Node S V)) → r.n ≡ suc k → passDown r R T w xs ≡ flatDown k (begun r R T w xs)
-  unfolding passDown flatDown
+  pub down_is : (k : ℕ) (xs : List (Node S V)) → r.n ≡ suc k → pass_down r R T w xs ≡ flatDown k (begun r R T w xs)
+  unfolding pass_down flatDown
   down_is k xs e =
       let p : r.n - 1 ≡ k = omega arith in
-      ap₂ (λ (a b : ℕ). layerDone r R T w (a * w) 1 (b * w) (layersDone r R T w a (begun r R T w xs))) p e
+      ap₂ (λ (a b : ℕ). layer_done r R T w (a * w) 1 (b * w) (layers_done r R T w a (begun r R T w xs))) p e
 
 -- ---- up
 module _ {S V : Type 0} (w : ℕ) where
-  up-past : (us : List (Node S V)) (at next m : ℕ) (zs : List (Node S V)) → length us ≡ w → layerUp (w + at) w (w + next) m (us ++ zs) ≡ us ++ layerUp at w next m zs
-  unfolding layerUp
+  up-past : (us : List (Node S V)) (at next m : ℕ) (zs : List (Node S V)) → length us ≡ w → layer_up (w + at) w (w + next) m (us ++ zs) ≡ us ++ layer_up at w next m zs
+  unfolding layer_up
   up-past us at next m zs e =
       ap₂ (λ a b. over (w + at) (map (risen a) b) (us ++ zs)) (part-past us w next m zs e) (part-past us w at w zs e)
       ∙ over-past us w at (map (risen (part next m zs)) (part at w zs)) zs e
 
   -- layers k, .. , 0, of which the first is us
-  layers-back : (k : ℕ) (us zs : List (Node S V)) → length us ≡ w → layersUp w (suc k) (us ++ zs) ≡ layerUp 0 w w w (us ++ layersUp w k zs)
-  layers-back zero us zs e = ap₂ (λ (a b : ℕ). layerUp a w b w (us ++ zs)) (zero-mul w) (first-place w)
+  layers-back : (k : ℕ) (us zs : List (Node S V)) → length us ≡ w → layers_up w (suc k) (us ++ zs) ≡ layer_up 0 w w w (us ++ layers_up w k zs)
+  layers-back zero us zs e = ap₂ (λ (a b : ℕ). layer_up a w b w (us ++ zs)) (zero-mul w) (first-place w)
   layers-back (suc k) us zs e =
-      ap (layersUp w (suc k)) (ap₂ (λ (a b : ℕ). layerUp a w b w (us ++ zs)) (next_place k w) (after-place k w) ∙ up-past us (k * w) ((k + 1) * w) w zs e)
-      ∙ layers-back k us (layerUp (k * w) w ((k + 1) * w) w zs) e
+      ap (layers_up w (suc k)) (ap₂ (λ (a b : ℕ). layer_up a w b w (us ++ zs)) (next_place k w) (after-place k w) ∙ up-past us (k * w) ((k + 1) * w) w zs e)
+      ∙ layers-back k us (layer_up (k * w) w ((k + 1) * w) w zs) e
 
   -- suc k layers of w records, and the end
   pub flatUp : ℕ → List (Node S V) → List (Node S V)
-  flatUp k xs = layersUp w k (layerUp (k * w) w (suc k * w) 1 (endCleared (suc k * w) xs))
+  flatUp k xs = layers_up w k (layer_up (k * w) w (suc k * w) 1 (end_cleared (suc k * w) xs))
 
-  pub up-last : (xs : List (Node S V)) → flatUp 0 xs ≡ layerUp 0 w w 1 (endCleared w xs)
+  pub up-last : (xs : List (Node S V)) → flatUp 0 xs ≡ layer_up 0 w w 1 (end_cleared w xs)
   unfolding flatUp
-  up-last xs = ap₂ (λ (a b : ℕ). layerUp a w b 1 (endCleared b xs)) (zero-mul w) (one-mul w)
+  up-last xs = ap₂ (λ (a b : ℕ). layer_up a w b 1 (end_cleared b xs)) (zero-mul w) (one-mul w)
 
-  pub up-front : (k : ℕ) (us zs : List (Node S V)) → length us ≡ w → flatUp (suc k) (us ++ zs) ≡ layerUp 0 w w w (us ++ flatUp k zs)
+  pub up-front : (k : ℕ) (us zs : List (Node S V)) → length us ≡ w → flatUp (suc k) (us ++ zs) ≡ layer_up 0 w w w (us ++ flatUp k zs)
   unfolding flatUp
   up-front k us zs e =
-      ap (λ ys. layersUp w (suc k) (layerUp (suc k * w) w (suc (suc k) * w) 1 ys))
-      (ap (λ (a : ℕ). endCleared a (us ++ zs)) (next_place (suc k) w) ∙ cleared-past)
-      ∙ ap (layersUp w (suc k)) (ap₂ (λ (a b : ℕ). layerUp a w b 1 (us ++ endCleared (suc k * w) zs)) (next_place k w) (next_place (suc k) w) ∙ up-past us (k * w) (suc k * w) 1 (endCleared (suc k * w) zs) e)
-      ∙ layers-back k us (layerUp (k * w) w (suc k * w) 1 (endCleared (suc k * w) zs)) e
+      ap (λ ys. layers_up w (suc k) (layer_up (suc k * w) w (suc (suc k) * w) 1 ys))
+      (ap (λ (a : ℕ). end_cleared a (us ++ zs)) (next_place (suc k) w) ∙ cleared-past)
+      ∙ ap (layers_up w (suc k)) (ap₂ (λ (a b : ℕ). layer_up a w b 1 (us ++ end_cleared (suc k * w) zs)) (next_place k w) (next_place (suc k) w) ∙ up-past us (k * w) (suc k * w) 1 (end_cleared (suc k * w) zs) e)
+      ∙ layers-back k us (layer_up (k * w) w (suc k * w) 1 (end_cleared (suc k * w) zs)) e
     where
-      cleared-past : endCleared (w + suc k * w) (us ++ zs) ≡ us ++ endCleared (suc k * w) zs
+      cleared-past : end_cleared (w + suc k * w) (us ++ zs) ≡ us ++ end_cleared (suc k * w) zs
       cleared-past =
-          ap (λ b. over (w + suc k * w) (map (λ x. withUp x noUp) b) (us ++ zs)) (part-past us w (suc k * w) 1 zs e)
-          ∙ over-past us w (suc k * w) (map (λ x. withUp x noUp) (part (suc k * w) 1 zs)) zs e
+          ap (λ b. over (w + suc k * w) (map (λ x. with_up x no_up) b) (us ++ zs)) (part-past us w (suc k * w) 1 zs e)
+          ∙ over-past us w (suc k * w) (map (λ x. with_up x no_up) (part (suc k * w) 1 zs)) zs e
 
-  pub up_is : (n k : ℕ) (xs : List (Node S V)) → n ≡ suc k → passUp n w xs ≡ flatUp k xs
-  unfolding passUp flatUp
+  pub up_is : (n k : ℕ) (xs : List (Node S V)) → n ≡ suc k → pass_up n w xs ≡ flatUp k xs
+  unfolding pass_up flatUp
   up_is n k xs e =
       let p : n - 1 ≡ k = omega arith in
-      ap₂ (λ (a b : ℕ). layersUp w a (layerUp (a * w) w (b * w) 1 (endCleared (b * w) xs))) p e
+      ap₂ (λ (a b : ℕ). layers_up w a (layer_up (a * w) w (b * w) 1 (end_cleared (b * w) xs))) p e

@@ -6,7 +6,7 @@ ghost use Rattle.round.specs.declared.table.Round.{Round as ARound};
 ghost use Rattle.layers.specs.declared.node.Node.{Node as ANode};
 ghost use Rattle.layers.specs.Labels.{arrive, merge, first};
 ghost use Rattle.layers.specs.Records.{blank};
-ghost use Rattle.labels.specs.Passes.{part, over, Early, cleared, firstLayer, begun, layerDone, passDown, landed, crossed, spread};
+ghost use Rattle.labels.specs.Passes.{part, over, Early, cleared, first_layer, begun, layer_done, pass_down, landed, crossed, spread};
 
 use crate::leg::leg_from;
 use layers::node::{Down, Node};
@@ -156,7 +156,7 @@ fn relabel_layer<R: Rule, T: Tally>(
     requires width_bound { from + width ≤ at }
     requires count_in_bounds { at + count ≤ length nodes.old }
     requires all_early { AllByRecursion (Early (latest 15)) (part from width nodes.old) }
-    ensures { nodes.new ≡ layerDone round.now (R.Rule.sense rule.now) (T.Tally.sense tally.now) width from count at nodes.old }
+    ensures { nodes.new ≡ layer_done round.now (R.Rule.sense rule.now) (T.Tally.sense tally.now) width from count at nodes.old }
 {
     let (before, rest) = nodes.split_at_mut(at);
     let targets = &mut rest[..count];
@@ -206,7 +206,7 @@ pub(crate) fn label_down<R: Rule, T: Tally>(
     requires one_le_width { 1 ≤ width }
     requires width_bound { width ≤ 128 }
     requires width_in_bounds { round.now.n * width + 1 ≤ length nodes.old }
-    ensures { nodes.new ≡ passDown round.now (R.Rule.sense rule.now) (T.Tally.sense tally.now) width nodes.old }
+    ensures { nodes.new ≡ pass_down round.now (R.Rule.sense rule.now) (T.Tally.sense tally.now) width nodes.old }
 {
     let n = round.n;
     begin(rule, tally, nodes, width);

@@ -1,7 +1,7 @@
 // All labels of a diagram's records.
 ghost use Rattle.std.specs.Prelude.{◌≡◌, ◌+◌, ◌*◌, ◌≤◌, length, take, if◌then◌else◌};
 ghost use Rattle.layers.specs.Flow.{Net, Lawful};
-ghost use Rattle.layers.specs.Records.{arcsRead, laidArcs};
+ghost use Rattle.layers.specs.Records.{arcs_read, laid_arcs};
 ghost use Rattle.layers.specs.Calls.{relaid};
 ghost use Rattle.labels.specs.Passes.{fits, relabelled};
 
@@ -22,7 +22,7 @@ pub fn relabel<R: Rule, T: Tally>(
     width: usize,
 )
     ensures passes { nodes.new ≡ (if fits round.now.n width (length nodes.old) then relabelled round.now (R.Rule.sense rule.now) (T.Tally.sense tally.now) width nodes.old else nodes.old) }
-    ensures labelled { (Ls : Net) → 1 ≤ width → width ≤ 128 → round.now.n * width + 1 ≤ length nodes.old → Lawful round.now.n width Ls → arcsRead (take (round.now.n * width + 1) nodes.old) ≡ laidArcs width Ls → nodes.new ≡ relaid round.now (R.Rule.sense rule.now) (T.Tally.sense tally.now) width nodes.old Ls }
+    ensures labelled { (Ls : Net) → 1 ≤ width → width ≤ 128 → round.now.n * width + 1 ≤ length nodes.old → Lawful round.now.n width Ls → arcs_read (take (round.now.n * width + 1) nodes.old) ≡ laid_arcs width Ls → nodes.new ≡ relaid round.now (R.Rule.sense rule.now) (T.Tally.sense tally.now) width nodes.old Ls }
 {
     if has_room(round, width, nodes.len()) {
         label_down(round, rule, tally, nodes, width);

@@ -2,7 +2,7 @@
 ghost use Rattle.std.specs.Prelude.{◌≡◌, ℕ, ◌+◌, ◌*◌, ◌<◌, ◌≤◌, map, length, get_or, fold, slice_index_or, slice_set};
 ghost use Rattle.layers.specs.declared.node.Node.{Node as ANode};
 ghost use Rattle.layers.specs.Labels.{climb};
-ghost use Rattle.labels.specs.Passes.{part, withUp, upBy, upsOf, gatheredUp, risen, layerUp, endCleared, passUp, takenUp};
+ghost use Rattle.labels.specs.Passes.{part, with_up, up_by, ups_of, gathered_up, risen, layer_up, end_cleared, pass_up, taken_up};
 
 use layers::node::{Node, Up};
 
@@ -25,7 +25,7 @@ fn climb_from<S: Copy, V: Copy>(v: &Node<S, V>, j: usize) -> Up
 
 // What two arcs have together.
 fn take_up(got: Option<Up>, x: Up) -> Option<Up>
-    ensures { result ≡ takenUp got x }
+    ensures { result ≡ taken_up got x }
 {
     match got {
         None => Some(x),
@@ -44,7 +44,7 @@ fn climb_by<S: Copy, V: Copy>(
     got: Option<Up>,
 ) -> Option<Up>
     requires { k < 16 }
-    ensures { result ≡ fold takenUp got (upBy vs.now u.now k) }
+    ensures { result ≡ fold taken_up got (up_by vs.now u.now k) }
 {
     let t = u.arcs.to[k] as usize;
     if t == 0 || t > vs.len() {
@@ -54,7 +54,7 @@ fn climb_by<S: Copy, V: Copy>(
 }
 
 fn climb_all<S: Copy, V: Copy>(vs: &[Node<S, V>], u: &Node<S, V>) -> Up
-    ensures { result ≡ gatheredUp (upsOf vs.now u.now) }
+    ensures { result ≡ gathered_up (ups_of vs.now u.now) }
 {
     let mut got: Option<Up> = None;
     for k in 0..16 {
@@ -73,7 +73,7 @@ fn rise_layer<S: Copy, V: Copy>(
 )
     requires width_bound { at + width ≤ next }
     requires count_in_bounds { next + count ≤ length nodes.old }
-    ensures { nodes.new ≡ layerUp at width next count nodes.old }
+    ensures { nodes.new ≡ layer_up at width next count nodes.old }
 {
     let (before, after) = nodes.split_at_mut(next);
     let targets = &after[..count];
@@ -86,7 +86,7 @@ fn rise_layer<S: Copy, V: Copy>(
 // The end has no door after it.
 fn clear_end<S: Copy, V: Copy>(nodes: &mut [Node<S, V>], at: usize)
     requires { at < length nodes.old }
-    ensures { nodes.new ≡ endCleared at nodes.old }
+    ensures { nodes.new ≡ end_cleared at nodes.old }
 {
     nodes[at].label.up = NONE;
 }
@@ -97,7 +97,7 @@ pub(crate) fn label_up<S: Copy, V: Copy>(nodes: &mut [Node<S, V>], n: usize, wid
     requires n_bound { n ≤ 16 }
     requires width_bound { width ≤ 128 }
     requires width_in_bounds { n * width + 1 ≤ length nodes.old }
-    ensures { nodes.new ≡ passUp n width nodes.old }
+    ensures { nodes.new ≡ pass_up n width nodes.old }
 {
     clear_end(nodes, n * width);
     rise_layer(nodes, (n - 1) * width, width, n * width, 1);

@@ -8,13 +8,13 @@ use Rattle.rules.specs.Rules.{RuleSense}
 use Rattle.tallies.specs.Tallies.{TallySense}
 use Rattle.layers.specs.declared.node.Node.{Node}
 use Rattle.layers.specs.declared.node.Up.{Up}
-use Rattle.layers.specs.Flow.{table, Outs, Layer, Net, node, target, width, eachDoor, eachNode, redirect, everyDoor, everyArc, ins, gather, next, up, final, Led, Tied, Roomy}
-use Rattle.layers.specs.Labels.{Lab, first, firsts, arrive, merge, labelsNext, noUp, ups, barred, dear, agreeing}
-use Rattle.layers.specs.Records.{used, standing, layers, arcsIn, downsIn, upsIn, drawn, padded, orNoUp, orBlank, place, laidFrom, laid}
-use Rattle.layers.specs.Calls.{thinned, trimmed, arrivals, partedAt, agreedBelow, agreedAll, quietFrom, valueIn}
+use Rattle.layers.specs.Flow.{table, Outs, Layer, Net, node, target, width, each_door, each_node, redirect, every_door, every_arc, ins, gather, next, up, final, Led, Tied, Roomy}
+use Rattle.layers.specs.Labels.{Lab, first, firsts, arrive, merge, labels_next, no_up, ups, barred, dear, agreeing}
+use Rattle.layers.specs.Records.{used, standing, layers, arcs_in, downs_in, ups_in, drawn, padded, or_no_up, or_blank, place, laid_from, laid}
+use Rattle.layers.specs.Calls.{thinned, trimmed, arrivals, parted_at, agreed_below, agreed_all, quiet_from, value_in}
 use Rattle.layers.proofs.Flows.{ins-from, next-some, next-at, gather-all, table_at, has-arc}
 use Rattle.layers.proofs.Sets.{or_left, one-self, none_has}
-use Rattle.layers.proofs.Model.{sweeps, cuts, part_at, oneGroup, agreed, agrees, quiet, valueO}
+use Rattle.layers.proofs.Model.{sweeps, cuts, part_at, one_group, agreed, agrees, quiet, valueO}
 use Rattle.layers.proofs.Lively.{labels_full, ups-full}
 pub use Rattle.layers.specs.Flow.{Even}
 pub use Rattle.layers.proofs.Flows.{table-long}
@@ -52,45 +52,45 @@ pad-back (suc n) zero (t ∷ nd) e h = absurd (not-suc-le-zero h)
 pad-back (suc n) (suc m) (t ∷ nd) e h = ap (λ (x : Outs). t ∷ x) (pad-back n m nd (omega arith) (le_of_suc-le-suc h))
 
 -- ---- tests and changes of arcs depend on the arcs that are there
-eachDoor-cong : (f g : ℕ → ℕ → ℕ) (j : ℕ) (ts : Outs) → ((k b : ℕ) → get_or ts k 0 ≡ suc b → f (j + k) b ≡ g (j + k) b) → eachDoor f j ts ≡ eachDoor g j ts
-unfolding eachDoor
-eachDoor-cong f g j [] h = refl
-eachDoor-cong f g j (zero ∷ ts) h = ap (λ (x : Outs). zero ∷ x) (eachDoor-cong f g (suc j) ts (λ k b e. ap (λ (z : ℕ). f z b) (omega arith) ∙ h (suc k) b e ∙ ap (λ (z : ℕ). g z b) (omega arith)))
-eachDoor-cong f g j (suc b ∷ ts) h =
+each_door-cong : (f g : ℕ → ℕ → ℕ) (j : ℕ) (ts : Outs) → ((k b : ℕ) → get_or ts k 0 ≡ suc b → f (j + k) b ≡ g (j + k) b) → each_door f j ts ≡ each_door g j ts
+unfolding each_door
+each_door-cong f g j [] h = refl
+each_door-cong f g j (zero ∷ ts) h = ap (λ (x : Outs). zero ∷ x) (each_door-cong f g (suc j) ts (λ k b e. ap (λ (z : ℕ). f z b) (omega arith) ∙ h (suc k) b e ∙ ap (λ (z : ℕ). g z b) (omega arith)))
+each_door-cong f g j (suc b ∷ ts) h =
     ap₂ (λ (x : ℕ) (y : Outs). x ∷ y) (ap (λ (z : ℕ). f z b) (omega arith) ∙ h 0 b refl ∙ ap (λ (z : ℕ). g z b) (omega arith))
-    (eachDoor-cong f g (suc j) ts (λ k c e. ap (λ (z : ℕ). f z c) (omega arith) ∙ h (suc k) c e ∙ ap (λ (z : ℕ). g z c) (omega arith)))
+    (each_door-cong f g (suc j) ts (λ k c e. ap (λ (z : ℕ). f z c) (omega arith) ∙ h (suc k) c e ∙ ap (λ (z : ℕ). g z c) (omega arith)))
 
-eachNode-cong : (f g : ℕ → ℕ → ℕ → ℕ) (i : ℕ) (L : Layer) → ((a j b : ℕ) → target (node L a) j ≡ suc b → f (i + a) j b ≡ g (i + a) j b) → eachNode f i L ≡ eachNode g i L
-unfolding eachNode
-eachNode-cong f g i [] h = refl
-eachNode-cong f g i (nd ∷ L) h =
+each_node-cong : (f g : ℕ → ℕ → ℕ → ℕ) (i : ℕ) (L : Layer) → ((a j b : ℕ) → target (node L a) j ≡ suc b → f (i + a) j b ≡ g (i + a) j b) → each_node f i L ≡ each_node g i L
+unfolding each_node
+each_node-cong f g i [] h = refl
+each_node-cong f g i (nd ∷ L) h =
     ap₂ (λ (x : Outs) (y : Layer). x ∷ y)
-    (eachDoor-cong (f i) (g i) 1 nd (λ k b e. ap (λ (z : ℕ). f i z b) (omega arith) ∙ ap (λ (z : ℕ). f z (suc k) b) (omega arith) ∙ h 0 (suc k) b e ∙ ap (λ (z : ℕ). g z (suc k) b) (omega arith) ∙ ap (λ (z : ℕ). g i z b) (omega arith)))
-    (eachNode-cong f g (suc i) L (λ a j b e. ap (λ (z : ℕ). f z j b) (omega arith) ∙ h (suc a) j b e ∙ ap (λ (z : ℕ). g z j b) (omega arith)))
+    (each_door-cong (f i) (g i) 1 nd (λ k b e. ap (λ (z : ℕ). f i z b) (omega arith) ∙ ap (λ (z : ℕ). f z (suc k) b) (omega arith) ∙ h 0 (suc k) b e ∙ ap (λ (z : ℕ). g z (suc k) b) (omega arith) ∙ ap (λ (z : ℕ). g i z b) (omega arith)))
+    (each_node-cong f g (suc i) L (λ a j b e. ap (λ (z : ℕ). f z j b) (omega arith) ∙ h (suc a) j b e ∙ ap (λ (z : ℕ). g z j b) (omega arith)))
 
 pub redirect-cong : (f g : ℕ → ℕ → ℕ → ℕ) (L : Layer) → ((a j b : ℕ) → target (node L a) j ≡ suc b → f a j b ≡ g a j b) → redirect f L ≡ redirect g L
 unfolding redirect
-redirect-cong f g L h = eachNode-cong f g 0 L (λ a j b e. ap (λ (z : ℕ). f z j b) (omega arith) ∙ h a j b e ∙ ap (λ (z : ℕ). g z j b) (omega arith))
+redirect-cong f g L h = each_node-cong f g 0 L (λ a j b e. ap (λ (z : ℕ). f z j b) (omega arith) ∙ h a j b e ∙ ap (λ (z : ℕ). g z j b) (omega arith))
 
-everyDoor-cong : (f g : ℕ → ℕ → Bool) (j : ℕ) (ts : Outs) → ((k b : ℕ) → get_or ts k 0 ≡ suc b → f (j + k) b ≡ g (j + k) b) → everyDoor f j ts ≡ everyDoor g j ts
-unfolding everyDoor
-everyDoor-cong f g j [] h = refl
-everyDoor-cong f g j (zero ∷ ts) h = everyDoor-cong f g (suc j) ts (λ k b e. ap (λ (z : ℕ). f z b) (omega arith) ∙ h (suc k) b e ∙ ap (λ (z : ℕ). g z b) (omega arith))
-everyDoor-cong f g j (suc b ∷ ts) h =
+every_door-cong : (f g : ℕ → ℕ → Bool) (j : ℕ) (ts : Outs) → ((k b : ℕ) → get_or ts k 0 ≡ suc b → f (j + k) b ≡ g (j + k) b) → every_door f j ts ≡ every_door g j ts
+unfolding every_door
+every_door-cong f g j [] h = refl
+every_door-cong f g j (zero ∷ ts) h = every_door-cong f g (suc j) ts (λ k b e. ap (λ (z : ℕ). f z b) (omega arith) ∙ h (suc k) b e ∙ ap (λ (z : ℕ). g z b) (omega arith))
+every_door-cong f g j (suc b ∷ ts) h =
     ap₂ ◌&&◌ (ap (λ (z : ℕ). f z b) (omega arith) ∙ h 0 b refl ∙ ap (λ (z : ℕ). g z b) (omega arith))
-    (everyDoor-cong f g (suc j) ts (λ k c e. ap (λ (z : ℕ). f z c) (omega arith) ∙ h (suc k) c e ∙ ap (λ (z : ℕ). g z c) (omega arith)))
+    (every_door-cong f g (suc j) ts (λ k c e. ap (λ (z : ℕ). f z c) (omega arith) ∙ h (suc k) c e ∙ ap (λ (z : ℕ). g z c) (omega arith)))
 
-everyArc-cong : (f g : ℕ → ℕ → ℕ → Bool) (i : ℕ) (L : Layer) → ((a j b : ℕ) → target (node L a) j ≡ suc b → f (i + a) j b ≡ g (i + a) j b) → everyArc f i L ≡ everyArc g i L
-unfolding everyArc
-everyArc-cong f g i [] h = refl
-everyArc-cong f g i (nd ∷ L) h =
+every_arc-cong : (f g : ℕ → ℕ → ℕ → Bool) (i : ℕ) (L : Layer) → ((a j b : ℕ) → target (node L a) j ≡ suc b → f (i + a) j b ≡ g (i + a) j b) → every_arc f i L ≡ every_arc g i L
+unfolding every_arc
+every_arc-cong f g i [] h = refl
+every_arc-cong f g i (nd ∷ L) h =
     ap₂ ◌&&◌
-    (everyDoor-cong (f i) (g i) 1 nd (λ k b e. ap (λ (z : ℕ). f i z b) (omega arith) ∙ ap (λ (z : ℕ). f z (suc k) b) (omega arith) ∙ h 0 (suc k) b e ∙ ap (λ (z : ℕ). g z (suc k) b) (omega arith) ∙ ap (λ (z : ℕ). g i z b) (omega arith)))
-    (everyArc-cong f g (suc i) L (λ a j b e. ap (λ (z : ℕ). f z j b) (omega arith) ∙ h (suc a) j b e ∙ ap (λ (z : ℕ). g z j b) (omega arith)))
+    (every_door-cong (f i) (g i) 1 nd (λ k b e. ap (λ (z : ℕ). f i z b) (omega arith) ∙ ap (λ (z : ℕ). f z (suc k) b) (omega arith) ∙ h 0 (suc k) b e ∙ ap (λ (z : ℕ). g z (suc k) b) (omega arith) ∙ ap (λ (z : ℕ). g i z b) (omega arith)))
+    (every_arc-cong f g (suc i) L (λ a j b e. ap (λ (z : ℕ). f z j b) (omega arith) ∙ h (suc a) j b e ∙ ap (λ (z : ℕ). g z j b) (omega arith)))
 
-pub ups-end : (b : ℕ) → b ≡ 0 → get_or (ups []) b None ≡ Some noUp
+pub ups-end : (b : ℕ) → b ≡ 0 → get_or (ups []) b None ≡ Some no_up
 unfolding ups up
-ups-end b e = ap (λ (k : ℕ). get_or {A = Option Up} (Some noUp ∷ []) k None) e
+ups-end b e = ap (λ (k : ℕ). get_or {A = Option Up} (Some no_up ∷ []) k None) e
 
 -- the nodes of a layer, out of its W places
 stand-table : {S V : Type 0} (W m : ℕ) (f : ℕ → Node S V) → m ≤ W → ((k : ℕ) → k < m → used (f k) ≡ true) → (m < W → used (f m) ≡ false) → standing (table W f) ≡ table m f
@@ -133,19 +133,19 @@ module _ {S V : Type 0} (r : Round) (rule : RuleSense S) (tally : TallySense V) 
       once zero l e = let x : first r rule tally ≡ l = cc in rw (← x) refl
       once (suc a) l e = absurd cc
 
-  lasting-next : (labs : Labs) (L : Layer) (count : ℕ) → Lasting (labelsNext r rule tally labs L count)
-  unfolding labelsNext arrive merge
+  lasting-next : (labs : Labs) (L : Layer) (count : ℕ) → Lasting (labels_next r rule tally labs L count)
+  unfolding labels_next arrive merge
   lasting-next labs L count a l e =
       let q = gather-all (merge r rule tally) (λ x. (j : ℕ) × (has x.lasts j ≡ true)) (λ x y p q. (p.0, or_left x.lasts y.lasts p.0 p.1)) (ins (arrive r rule tally) a labs L) l
       (λ x i. let f = ins-from (arrive r rule tally) a labs L x i in (f.door, ap (λ (z : Lab r rule tally). has z.lasts f.door) f.is ∙ one-self f.door))
       (next-some (arrive r rule tally) (merge r rule tally) labs L count a l e) in
       lasting-if l.lasts q.0 q.1
 
-  filled_next : (labs : Labs) (L M : Layer) (Ls : Net) → Tied (L ∷ M ∷ Ls) → Filled labs (length L) → Filled (labelsNext r rule tally labs L (length M)) (length M)
+  filled_next : (labs : Labs) (L M : Layer) (Ls : Net) → Tied (L ∷ M ∷ Ls) → Filled labs (length L) → Filled (labels_next r rule tally labs L (length M)) (length M)
   filled_next labs L M Ls t f = record {
     there = labels_full r rule tally W w labs L M Ls t f.there;
-    beyond = unfold labelsNext next in table-end (length M) (λ b. gather (merge r rule tally) (ins (arrive r rule tally) b labs L));
-    long = unfold labelsNext next in table-long (length M) (λ b. gather (merge r rule tally) (ins (arrive r rule tally) b labs L));
+    beyond = unfold labels_next next in table-end (length M) (λ b. gather (merge r rule tally) (ins (arrive r rule tally) b labs L));
+    long = unfold labels_next next in table-long (length M) (λ b. gather (merge r rule tally) (ins (arrive r rule tally) b labs L));
     lasting = lasting-next labs L (length M);
   }
 
@@ -156,7 +156,7 @@ module _ {S V : Type 0} (r : Round) (rule : RuleSense S) (tally : TallySense V) 
 
   abbrev pub rest : Labs → Net → List (List (Node S V))
   rest labs [] = []
-  rest labs (L ∷ Ls) = let labs' = labelsNext r rule tally labs L (width Ls) in top labs' Ls ∷ rest labs' Ls
+  rest labs (L ∷ Ls) = let labs' = labels_next r rule tally labs L (width Ls) in top labs' Ls ∷ rest labs' Ls
 
   abbrev pub stood : Labs → Net → List (List (Node S V))
   stood labs Ls = top labs Ls ∷ rest labs Ls
@@ -166,52 +166,52 @@ module _ {S V : Type 0} (r : Round) (rule : RuleSense S) (tally : TallySense V) 
     pub filled : Filled labs (length L)
     pub room : length L ≤ W
     pub even : (a : ℕ) → a < length L → length (node L a) ≡ r.n
-    pub tops : (a j b : ℕ) → target (node L a) j ≡ suc b → get_or (upsIn (top (labelsNext r rule tally labs L (width Ls)) Ls)) b None ≡ get_or (ups Ls) b None
+    pub tops : (a j b : ℕ) → target (node L a) j ≡ suc b → get_or (ups_in (top (labels_next r rule tally labs L (width Ls)) Ls)) b None ≡ get_or (ups Ls) b None
 
   abbrev pub Full : Labs → Net → Type 0
   Full labs [] = Lasting labs
-  Full labs (L ∷ Ls) = Fit labs L Ls × Full (labelsNext r rule tally labs L (width Ls)) Ls
+  Full labs (L ∷ Ls) = Fit labs L Ls × Full (labels_next r rule tally labs L (width Ls)) Ls
 
   -- ---- a layer
-  row-arcs : (labs : Labs) (L : Layer) (Ls : Net) → Fit labs L Ls → arcsIn r.n (top labs (L ∷ Ls)) ≡ L
+  row-arcs : (labs : Labs) (L : Layer) (Ls : Net) → Fit labs L Ls → arcs_in r.n (top labs (L ∷ Ls)) ≡ L
   row-arcs labs L Ls f =
       map-table (λ (x : Node S V). take r.n x.arcs.to) (length L) (place r rule tally L labs (ups (L ∷ Ls)))
       ∙ table-ext (length L) _ (λ k. get_or L k []) (λ k h. pad-back r.n 16 (node L k) (f.even k h) r.most) ∙ table-back [] L
 
-  row-downs : (labs : Labs) (L : Layer) (Ls : Net) → Fit labs L Ls → downsIn (top labs (L ∷ Ls)) ≡ labs
+  row-downs : (labs : Labs) (L : Layer) (Ls : Net) → Fit labs L Ls → downs_in (top labs (L ∷ Ls)) ≡ labs
   row-downs labs L Ls f =
       map-table (λ (x : Node S V). Some x.label.down) (length L) (place r rule tally L labs (ups (L ∷ Ls)))
-      ∙ table-ext (length L) _ (λ k. get_or labs k None) (λ k h. let x = f.filled.there k h in ap (λ (o : Option (Lab r rule tally)). Some (orBlank r rule tally o)) x.1 ∙ sym x.1)
+      ∙ table-ext (length L) _ (λ k. get_or labs k None) (λ k h. let x = f.filled.there k h in ap (λ (o : Option (Lab r rule tally)). Some (or_blank r rule tally o)) x.1 ∙ sym x.1)
       ∙ rw (← f.filled.long) (table-back None labs)
 
   -- the end's node
-  end-top : (labs : Labs) (l : Lab r rule tally) → get_or labs 0 None ≡ Some l → eqb l.lasts 0 ≡ false → top labs [] ≡ record { arcs = record { to = padded [] }; label = record { down = l; up = noUp } } ∷ []
+  end-top : (labs : Labs) (l : Lab r rule tally) → get_or labs 0 None ≡ Some l → eqb l.lasts 0 ≡ false → top labs [] ≡ record { arcs = record { to = padded [] }; label = record { down = l; up = no_up } } ∷ []
   end-top labs l e q =
-      let P : Option (Lab r rule tally) → Node S V = λ o. record { arcs = record { to = padded [] }; label = record { down = orBlank r rule tally o; up = noUp } } in
+      let P : Option (Lab r rule tally) → Node S V = λ o. record { arcs = record { to = padded [] }; label = record { down = or_blank r rule tally o; up = no_up } } in
       rw e (ap (λ (z : Bool). cond (not z) (P (Some l) ∷ []) []) q)
 
-  tops-end : (labs : Labs) (L : Layer) → Filled labs (length L) → Tied (L ∷ []) → (a j b : ℕ) → target (node L a) j ≡ suc b → get_or (upsIn (top (labelsNext r rule tally labs L 1) [])) b None ≡ get_or (ups []) b None
-  unfolding labelsNext
+  tops-end : (labs : Labs) (L : Layer) → Filled labs (length L) → Tied (L ∷ []) → (a j b : ℕ) → target (node L a) j ≡ suc b → get_or (ups_in (top (labels_next r rule tally labs L 1) [])) b None ≡ get_or (ups []) b None
+  unfolding labels_next
   tops-end labs L f t a j b e =
       let z : b ≡ 0 = omega (arith, t a j b e) in
       let l = f.there a (has-arc L a j b e) in
       let n = next-at {A = Lab r rule tally} (merge r rule tally) (λ x y. Unit {0}) (λ x. tt) (λ x y z f g. tt) (λ x y. tt) (λ x y. tt) (arrive r rule tally) labs L 1 a j b l.0 e l.1 (t a j b e) in
       let n0 : get_or (next (arrive r rule tally) (merge r rule tally) labs L 1) 0 None ≡ Some n.0 = ap (λ (k : ℕ). get_or (next (arrive r rule tally) (merge r rule tally) labs L 1) k None) (sym z) ∙ n.1 in
       let q = lasting-next labs L 1 0 n.0 n0 in
-      ap (λ (x : List (Node S V)). get_or (upsIn x) b None) (end-top (next (arrive r rule tally) (merge r rule tally) labs L 1) n.0 n0 q)
-      ∙ ap (λ (k : ℕ). get_or {A = Option Up} (Some noUp ∷ []) k None) z ∙ sym (ups-end b z)
+      ap (λ (x : List (Node S V)). get_or (ups_in x) b None) (end-top (next (arrive r rule tally) (merge r rule tally) labs L 1) n.0 n0 q)
+      ∙ ap (λ (k : ℕ). get_or {A = Option Up} (Some no_up ∷ []) k None) z ∙ sym (ups-end b z)
 
-  tops-inner : (labs : Labs) (M : Layer) (Ls : Net) (b : ℕ) → Led M → Tied (M ∷ Ls) → b < length M → get_or (upsIn (top labs (M ∷ Ls))) b None ≡ get_or (ups (M ∷ Ls)) b None
+  tops-inner : (labs : Labs) (M : Layer) (Ls : Net) (b : ℕ) → Led M → Tied (M ∷ Ls) → b < length M → get_or (ups_in (top labs (M ∷ Ls))) b None ≡ get_or (ups (M ∷ Ls)) b None
   tops-inner labs M Ls b led t h =
       let x = ups-full M Ls led t b h in
       ap (λ (z : List (Option Up)). get_or z b None) (map-table (λ (x : Node S V). Some x.label.up) (length M) (place r rule tally M labs (ups (M ∷ Ls))))
-      ∙ table_at (length M) b (λ k. Some (orNoUp (get_or (ups (M ∷ Ls)) k None))) None h ∙ ap (λ (o : Option Up). Some (orNoUp o)) x.1 ∙ sym x.1
+      ∙ table_at (length M) b (λ k. Some (or_no_up (get_or (ups (M ∷ Ls)) k None))) None h ∙ ap (λ (o : Option Up). Some (or_no_up o)) x.1 ∙ sym x.1
 
   full_from : (labs : Labs) (L : Layer) (Ls : Net) → Filled labs (length L) → Tied (L ∷ Ls) → Roomy W (L ∷ Ls) → Even r.n (L ∷ Ls) → Full labs (L ∷ Ls)
   full_from labs L [] f t room even = (record { filled = f; room = room.0; even = even.0; tops = tops-end labs L f t }, lasting-next labs L 1)
   full_from labs L (M ∷ Ls) f t room even = (
-    record { filled = f; room = room.0; even = even.0; tops = λ a j b e. tops-inner (labelsNext r rule tally labs L (length M)) M Ls b t.2 t.3 (t.0 a j b e) },
-    full_from (labelsNext r rule tally labs L (length M)) M Ls (filled_next labs L M Ls t f) t.3 room.1 even.1,
+    record { filled = f; room = room.0; even = even.0; tops = λ a j b e. tops-inner (labels_next r rule tally labs L (length M)) M Ls b t.2 t.3 (t.0 a j b e) },
+    full_from (labels_next r rule tally labs L (length M)) M Ls (filled_next labs L M Ls t f) t.3 room.1 even.1,
   )
 
   pub full-first : (L : Layer) (Ls : Net) → length L ≡ 1 → Tied (L ∷ Ls) → Roomy W (L ∷ Ls) → Even r.n (L ∷ Ls) → Full (firsts r rule tally) (L ∷ Ls)
@@ -221,45 +221,45 @@ module _ {S V : Type 0} (r : Round) (rule : RuleSense S) (tally : TallySense V) 
   one-row : (labs : Labs) (L : Layer) (Ls : Net) → Fit labs L Ls → standing (table W (place r rule tally L labs (ups (L ∷ Ls)))) ≡ top labs (L ∷ Ls)
   one-row labs L Ls f = stand-table W (length L) (place r rule tally L labs (ups (L ∷ Ls))) f.room
       (λ k h. let x = f.filled.there k h in rw x.1 (ap not (f.filled.lasting k x.0 x.1)))
-      (λ h. ap (λ (o : Option (Lab r rule tally)). not (eqb (orBlank r rule tally o).lasts 0)) f.filled.beyond)
+      (λ h. ap (λ (o : Option (Lab r rule tally)). not (eqb (or_blank r rule tally o).lasts 0)) f.filled.beyond)
 
-  pub layers-laid : (later : List (Node S V)) (labs : Labs) (Ls : Net) → Full labs Ls → layers W (length Ls) (laidFrom r rule tally W labs Ls ++ later) ≡ stood labs Ls
-  unfolding laidFrom
+  pub layers-laid : (later : List (Node S V)) (labs : Labs) (Ls : Net) → Full labs Ls → layers W (length Ls) (laid_from r rule tally W labs Ls ++ later) ≡ stood labs Ls
+  unfolding laid_from
   layers-laid later labs [] f = refl
   layers-laid later labs (L ∷ Ls) f =
       let f' = place r rule tally L labs (ups (L ∷ Ls)) in
-      let X = laidFrom r rule tally W (labelsNext r rule tally labs L (width Ls)) Ls in
+      let X = laid_from r rule tally W (labels_next r rule tally labs L (width Ls)) Ls in
       ap₂ (λ (x y : List (Node S V)). standing x ∷ layers W (length Ls) y)
       (ap (take W) (append_assoc (table W f') X later) ∙ take-table W f' (X ++ later))
       (ap (drop W) (append_assoc (table W f') X later) ∙ drop-table W f' (X ++ later))
-      ∙ ap₂ (λ (x : List (Node S V)) (y : List (List (Node S V))). x ∷ y) (one-row labs L Ls f.0) (layers-laid later (labelsNext r rule tally labs L (width Ls)) Ls f.1)
+      ∙ ap₂ (λ (x : List (Node S V)) (y : List (List (Node S V))). x ∷ y) (one-row labs L Ls f.0) (layers-laid later (labels_next r rule tally labs L (width Ls)) Ls f.1)
 
   pub drawn-stood : (labs : Labs) (Ls : Net) → Full labs Ls → drawn r.n (stood labs Ls) ≡ Ls
   drawn-stood labs [] f = refl
-  drawn-stood labs (L ∷ Ls) f = ap₂ (λ (x : Layer) (y : Net). x ∷ y) (row-arcs labs L Ls f.0) (drawn-stood (labelsNext r rule tally labs L (width Ls)) Ls f.1)
+  drawn-stood labs (L ∷ Ls) f = ap₂ (λ (x : Layer) (y : Net). x ∷ y) (row-arcs labs L Ls f.0) (drawn-stood (labels_next r rule tally labs L (width Ls)) Ls f.1)
 
   -- ---- the calls on the nodes that stand
   pub thinned-stood : (i : ℕ) (labs : Labs) (Ls : Net) → i + length Ls ≡ r.n → Full labs Ls → thinned r rule tally i (stood labs Ls) ≡ sweeps r rule tally i labs Ls
   unfolding thinned sweeps
   thinned-stood i labs [] e f = refl
   thinned-stood i labs (L ∷ Ls) e f =
-      let labs' = labelsNext r rule tally labs L (width Ls) in
+      let labs' = labels_next r rule tally labs L (width Ls) in
       let F : ℕ → Labs → List (Option Up) → ℕ → ℕ → ℕ → ℕ = λ h x y a j b. cond (barred r rule tally i h j (get_or x a None) (get_or y b None)) 0 (suc b) in
       ap₂ (λ (x : Layer) (y : Net). x ∷ y)
-      (ap₂ (λ (x : Labs) (y : Layer). redirect (F (r.n - i) x (upsIn (top labs' Ls))) y) (row-downs labs L Ls f.0) (row-arcs labs L Ls f.0)
-      ∙ redirect-cong (F (r.n - i) labs (upsIn (top labs' Ls))) (F (suc (length Ls)) labs (ups Ls)) L
+      (ap₂ (λ (x : Labs) (y : Layer). redirect (F (r.n - i) x (ups_in (top labs' Ls))) y) (row-downs labs L Ls f.0) (row-arcs labs L Ls f.0)
+      ∙ redirect-cong (F (r.n - i) labs (ups_in (top labs' Ls))) (F (suc (length Ls)) labs (ups Ls)) L
       (λ a j b g. ap₂ (λ (h : ℕ) (u : Option Up). cond (barred r rule tally i h j (get_or labs a None) u) 0 (suc b)) (omega arith) (f.0.tops a j b g)))
       (thinned-stood (suc i) labs' Ls (omega arith) f.1)
 
-  pub quiet-stood : (i : ℕ) (labs : Labs) (Ls : Net) → i + length Ls ≡ r.n → Full labs Ls → quietFrom r rule tally i (stood labs Ls) ≡ quiet r rule tally i labs Ls
-  unfolding quietFrom quiet
+  pub quiet-stood : (i : ℕ) (labs : Labs) (Ls : Net) → i + length Ls ≡ r.n → Full labs Ls → quiet_from r rule tally i (stood labs Ls) ≡ quiet r rule tally i labs Ls
+  unfolding quiet_from quiet
   quiet-stood i labs [] e f = refl
   quiet-stood i labs (L ∷ Ls) e f =
-      let labs' = labelsNext r rule tally labs L (width Ls) in
+      let labs' = labels_next r rule tally labs L (width Ls) in
       let F : ℕ → Labs → List (Option Up) → ℕ → ℕ → ℕ → Bool = λ h x y a j b. not (barred r rule tally i h j (get_or x a None) (get_or y b None)) in
       ap₂ ◌&&◌
-      (ap₂ (λ (x : Labs) (y : Layer). everyArc (F (r.n - i) x (upsIn (top labs' Ls))) 0 y) (row-downs labs L Ls f.0) (row-arcs labs L Ls f.0)
-      ∙ everyArc-cong (F (r.n - i) labs (upsIn (top labs' Ls))) (F (suc (length Ls)) labs (ups Ls)) 0 L
+      (ap₂ (λ (x : Labs) (y : Layer). every_arc (F (r.n - i) x (ups_in (top labs' Ls))) 0 y) (row-downs labs L Ls f.0) (row-arcs labs L Ls f.0)
+      ∙ every_arc-cong (F (r.n - i) labs (ups_in (top labs' Ls))) (F (suc (length Ls)) labs (ups Ls)) 0 L
       (λ a j b g. ap₂ (λ (h : ℕ) (u : Option Up). not (barred r rule tally i h j (get_or labs (0 + a) None) u)) (omega arith) (f.0.tops a j b g)))
       (quiet-stood (suc i) labs' Ls (omega arith) f.1)
 
@@ -269,74 +269,74 @@ module _ {S V : Type 0} (r : Round) (rule : RuleSense S) (tally : TallySense V) 
   trimmed-stood c labs (L ∷ Ls) f =
       ap₂ (λ (x : Layer) (y : Net). x ∷ y)
       (ap₂ (λ (x : Labs) (y : Layer). redirect (λ a j b. cond (dear r rule tally c j (get_or x a None)) 0 (suc b)) y) (row-downs labs L Ls f.0) (row-arcs labs L Ls f.0))
-      (trimmed-stood c (labelsNext r rule tally labs L (width Ls)) Ls f.1)
+      (trimmed-stood c (labels_next r rule tally labs L (width Ls)) Ls f.1)
 
   row-arrivals : (labs : Labs) (L : Layer) (Ls : Net) (b : ℕ) → Fit labs L Ls → arrivals r rule tally (top labs (L ∷ Ls)) b ≡ ins (arrive r rule tally) b labs L
   unfolding arrivals
   row-arrivals labs L Ls b f = ap₂ (λ (x : Labs) (y : Layer). ins (arrive r rule tally) b x y) (row-downs labs L Ls f) (row-arcs labs L Ls f)
 
-  agreed-stood : (labs : Labs) (L : Layer) (Ls : Net) (b : ℕ) → Fit labs L Ls → agreedBelow r rule tally (top labs (L ∷ Ls)) b ≡ agreed r rule tally labs L b
-  unfolding agreedBelow agreed
+  agreed-stood : (labs : Labs) (L : Layer) (Ls : Net) (b : ℕ) → Fit labs L Ls → agreed_below r rule tally (top labs (L ∷ Ls)) b ≡ agreed r rule tally labs L b
+  unfolding agreed_below agreed
   agreed-stood labs L Ls zero f = refl
   agreed-stood labs L Ls (suc b) f = ap₂ ◌&&◌ (ap (agreeing r rule tally) (row-arrivals labs L Ls b f)) (agreed-stood labs L Ls b f)
 
-  pub agrees-stood : (labs : Labs) (Ls : Net) → Full labs Ls → agreedAll r rule tally (stood labs Ls) ≡ agrees r rule tally labs Ls
-  unfolding agreedAll agrees
+  pub agrees-stood : (labs : Labs) (Ls : Net) → Full labs Ls → agreed_all r rule tally (stood labs Ls) ≡ agrees r rule tally labs Ls
+  unfolding agreed_all agrees
   agrees-stood labs [] f = refl
   agrees-stood labs (L ∷ []) f = refl
   agrees-stood labs (L ∷ M ∷ Ls) f =
-      let labs' = labelsNext r rule tally labs L (length M) in
-      ap₂ ◌&&◌ (ap (agreedBelow r rule tally (top labs (L ∷ M ∷ Ls))) (table-long (length M) (place r rule tally M labs' (ups (M ∷ Ls)))) ∙ agreed-stood labs L (M ∷ Ls) (length M) f.0)
+      let labs' = labels_next r rule tally labs L (length M) in
+      ap₂ ◌&&◌ (ap (agreed_below r rule tally (top labs (L ∷ M ∷ Ls))) (table-long (length M) (place r rule tally M labs' (ups (M ∷ Ls)))) ∙ agreed-stood labs L (M ∷ Ls) (length M) f.0)
       (agrees-stood labs' (M ∷ Ls) f.1)
 
   -- the labels of layer d
   abbrev pub labsAt : ℕ → Labs → Net → Labs
   labsAt zero labs Ls = labs
   labsAt (suc d) labs [] = []
-  labsAt (suc d) labs (L ∷ Ls) = labsAt d (labelsNext r rule tally labs L (width Ls)) Ls
+  labsAt (suc d) labs (L ∷ Ls) = labsAt d (labels_next r rule tally labs L (width Ls)) Ls
 
   pub stood-at : (d : ℕ) (labs : Labs) (Ls : Net) → Full labs Ls → d < length Ls
-      → (downsIn (get_or (stood labs Ls) d []) ≡ labsAt d labs Ls) × (arcsIn r.n (get_or (stood labs Ls) d []) ≡ get_or Ls d []) × (length (get_or (stood labs Ls) d []) ≡ length (get_or Ls d []))
+      → (downs_in (get_or (stood labs Ls) d []) ≡ labsAt d labs Ls) × (arcs_in r.n (get_or (stood labs Ls) d []) ≡ get_or Ls d []) × (length (get_or (stood labs Ls) d []) ≡ length (get_or Ls d []))
   stood-at d labs [] f h = absurd (not-suc-le-zero h)
   stood-at zero labs (L ∷ Ls) f h = (row-downs labs L Ls f.0, row-arcs labs L Ls f.0, table-long (length L) (place r rule tally L labs (ups (L ∷ Ls))))
-  stood-at (suc d) labs (L ∷ Ls) f h = stood-at d (labelsNext r rule tally labs L (width Ls)) Ls f.1 (le_of_suc-le-suc h)
+  stood-at (suc d) labs (L ∷ Ls) f h = stood-at d (labels_next r rule tally labs L (width Ls)) Ls f.1 (le_of_suc-le-suc h)
 
-  pub group_at : (d a : ℕ) (labs : Labs) (Ls : Net) → d < length Ls → oneGroup r rule tally d a labs Ls ≡ agreeing r rule tally (ins (arrive r rule tally) a (labsAt d labs Ls) (get_or Ls d []))
-  unfolding oneGroup
+  pub group_at : (d a : ℕ) (labs : Labs) (Ls : Net) → d < length Ls → one_group r rule tally d a labs Ls ≡ agreeing r rule tally (ins (arrive r rule tally) a (labsAt d labs Ls) (get_or Ls d []))
+  unfolding one_group
   group_at d a labs [] h = absurd (not-suc-le-zero h)
   group_at zero a labs (L ∷ Ls) h = refl
-  group_at (suc d) a labs (L ∷ Ls) h = group_at d a (labelsNext r rule tally labs L (width Ls)) Ls (le_of_suc-le-suc h)
+  group_at (suc d) a labs (L ∷ Ls) h = group_at d a (labels_next r rule tally labs L (width Ls)) Ls (le_of_suc-le-suc h)
 
-  pub part-at : (d a : ℕ) (labs : Labs) (Ls : Net) → partedAt r rule tally d a (labsAt d labs Ls) Ls ≡ part_at r rule tally d a labs Ls
-  unfolding partedAt part_at
+  pub part-at : (d a : ℕ) (labs : Labs) (Ls : Net) → parted_at r rule tally d a (labsAt d labs Ls) Ls ≡ part_at r rule tally d a labs Ls
+  unfolding parted_at part_at
   part-at zero a labs [] = refl
   part-at (suc d) a labs [] = refl
   part-at zero a labs (L ∷ []) = refl
   part-at zero a labs (L ∷ M ∷ Ls) = refl
-  part-at (suc d) a labs (L ∷ Ls) = ap (λ (x : Net). L ∷ x) (part-at d a (labelsNext r rule tally labs L (width Ls)) Ls)
+  part-at (suc d) a labs (L ∷ Ls) = ap (λ (x : Net). L ∷ x) (part-at d a (labels_next r rule tally labs L (width Ls)) Ls)
 
   -- the end's value
-  pub value-stood : (labs : Labs) (Ls : Net) → Full labs Ls → valueIn (get_or (stood labs Ls) (length Ls) []) ≡ valueO r rule tally (final (arrive r rule tally) (merge r rule tally) labs Ls)
-  unfolding final labelsNext
+  pub value-stood : (labs : Labs) (Ls : Net) → Full labs Ls → value_in (get_or (stood labs Ls) (length Ls) []) ≡ valueO r rule tally (final (arrive r rule tally) (merge r rule tally) labs Ls)
+  unfolding final labels_next
   value-stood labs [] f = go (get_or labs 0 None) refl
     where
       P : Option (Lab r rule tally) → Node S V
-      P o = record { arcs = record { to = padded [] }; label = record { down = orBlank r rule tally o; up = noUp } }
+      P o = record { arcs = record { to = padded [] }; label = record { down = or_blank r rule tally o; up = no_up } }
 
-      go : (o : Option (Lab r rule tally)) → get_or labs 0 None ≡ o → valueIn (standing (P o ∷ [])) ≡ valueO r rule tally o
+      go : (o : Option (Lab r rule tally)) → get_or labs 0 None ≡ o → value_in (standing (P o ∷ [])) ≡ valueO r rule tally o
       go None e = refl
-      go (Some l) e = ap (λ (z : Bool). valueIn (cond (not z) (P (Some l) ∷ []) [])) (f 0 l e)
-  value-stood labs (L ∷ Ls) f = value-stood (labelsNext r rule tally labs L (width Ls)) Ls f.1
+      go (Some l) e = ap (λ (z : Bool). value_in (cond (not z) (P (Some l) ∷ []) [])) (f 0 l e)
+  value-stood labs (L ∷ Ls) f = value-stood (labels_next r rule tally labs L (width Ls)) Ls f.1
 
   -- ---- later places
-  pub laid-long : (labs : Labs) (Ls : Net) → length (laidFrom r rule tally W labs Ls) ≡ length Ls * W + 1
-  unfolding laidFrom
+  pub laid-long : (labs : Labs) (Ls : Net) → length (laid_from r rule tally W labs Ls) ≡ length Ls * W + 1
+  unfolding laid_from
   laid-long labs [] = omega (arith, zero-mul W)
   laid-long labs (L ∷ Ls) =
       let f' = place r rule tally L labs (ups (L ∷ Ls)) in
-      let X = laidFrom r rule tally W (labelsNext r rule tally labs L (width Ls)) Ls in
-      omega (arith, length-append (table W f') X, table-long W f', laid-long (labelsNext r rule tally labs L (width Ls)) Ls, suc-mul (length Ls) W)
+      let X = laid_from r rule tally W (labels_next r rule tally labs L (width Ls)) Ls in
+      omega (arith, length-append (table W f') X, table-long W f', laid-long (labels_next r rule tally labs L (width Ls)) Ls, suc-mul (length Ls) W)
 
   pub later-stays : (later : List (Node S V)) (Ls : Net) → length Ls ≡ r.n → drop (r.n * W + 1) (laid r rule tally W Ls ++ later) ≡ later
   unfolding laid
-  later-stays later Ls e = drop_at (laidFrom r rule tally W (firsts r rule tally) Ls) later (r.n * W + 1) (laid-long (firsts r rule tally) Ls ∙ ap (λ (k : ℕ). k * W + 1) e)
+  later-stays later Ls e = drop_at (laid_from r rule tally W (firsts r rule tally) Ls) later (r.n * W + 1) (laid-long (firsts r rule tally) Ls ∙ ap (λ (k : ℕ). k * W + 1) e)

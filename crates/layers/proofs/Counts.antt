@@ -4,85 +4,85 @@ use Rattle.std.proofs.lemmas.Bool.{false≢true, not-true, and_parts}
 use Rattle.round.specs.declared.table.Round.{Round}
 use Rattle.rules.specs.Rules.{RuleSense}
 use Rattle.tallies.specs.Tallies.{TallySense}
-use Rattle.layers.specs.Flow.{Outs, Layer, Net, node, target, width, eachDoor, eachNode, redirect, countDoors, countLayer, countArcs, everyDoor, everyArc, up, Mark, marksNext, marksUp, flags, rank, compress, renumber, tidy, tidied, Led, Tied}
-use Rattle.layers.specs.Labels.{Lab, firsts, labelsNext, barred, ups}
+use Rattle.layers.specs.Flow.{Outs, Layer, Net, node, target, width, each_door, each_node, redirect, count_doors, count_layer, count_arcs, every_door, every_arc, up, Mark, marks_next, marks_up, flags, rank, compress, renumber, tidy, tidied, Led, Tied}
+use Rattle.layers.specs.Labels.{Lab, firsts, labels_next, barred, ups}
 use Rattle.layers.proofs.Flows.{has-arc, mark-next, flags-at, renumber-at}
 use Rattle.layers.proofs.Model.{sweeps, sweep, settles, settled, agrees, quiet}
-use Rattle.layers.proofs.Exact.{everyArc-at}
+use Rattle.layers.proofs.Exact.{every_arc-at}
 use Rattle.layers.proofs.Tied.{climbs}
 
-count-one : (t : ℕ) (ts : Outs) → countDoors (t ∷ ts) ≤ suc (countDoors ts)
-unfolding countDoors
+count-one : (t : ℕ) (ts : Outs) → count_doors (t ∷ ts) ≤ suc (count_doors ts)
+unfolding count_doors
 count-one zero ts = omega arith
 count-one (suc t) ts = omega arith
 
-doors-fewer : (f : ℕ → ℕ → ℕ) (j : ℕ) (ts : Outs) → countDoors (eachDoor f j ts) ≤ countDoors ts
-unfolding countDoors eachDoor
+doors-fewer : (f : ℕ → ℕ → ℕ) (j : ℕ) (ts : Outs) → count_doors (each_door f j ts) ≤ count_doors ts
+unfolding count_doors each_door
 doors-fewer f j [] = omega arith
 doors-fewer f j (zero ∷ ts) = doors-fewer f (suc j) ts
-doors-fewer f j (suc b ∷ ts) = let h = doors-fewer f (suc j) ts in omega (arith, count-one (f j b) (eachDoor f (suc j) ts))
+doors-fewer f j (suc b ∷ ts) = let h = doors-fewer f (suc j) ts in omega (arith, count-one (f j b) (each_door f (suc j) ts))
 
-pub nodes-fewer : (f : ℕ → ℕ → ℕ → ℕ) (a : ℕ) (L : Layer) → countLayer (eachNode f a L) ≤ countLayer L
-unfolding countLayer eachNode
+pub nodes-fewer : (f : ℕ → ℕ → ℕ → ℕ) (a : ℕ) (L : Layer) → count_layer (each_node f a L) ≤ count_layer L
+unfolding count_layer each_node
 nodes-fewer f a [] = omega arith
 nodes-fewer f a (nd ∷ L) = let h = nodes-fewer f (suc a) L in omega (arith, doors-fewer (f a) 1 nd)
 
-pub redirect-fewer : (f : ℕ → ℕ → ℕ → ℕ) (L : Layer) → countLayer (redirect f L) ≤ countLayer L
+pub redirect-fewer : (f : ℕ → ℕ → ℕ → ℕ) (L : Layer) → count_layer (redirect f L) ≤ count_layer L
 unfolding redirect
 redirect-fewer f L = nodes-fewer f 0 L
 
-compress-fewer : (fs : List Bool) (L : Layer) → countLayer (compress fs L) ≤ countLayer L
-unfolding countLayer compress
+compress-fewer : (fs : List Bool) (L : Layer) → count_layer (compress fs L) ≤ count_layer L
+unfolding count_layer compress
 compress-fewer [] L = omega arith
 compress-fewer (f ∷ fs) [] = omega arith
 compress-fewer (true ∷ fs) (x ∷ L) = let h = compress-fewer fs L in omega arith
 compress-fewer (false ∷ fs) (x ∷ L) = let h = compress-fewer fs L in omega arith
 
-tidy-fewer : (fr : List (Option Mark)) (Ls : Net) → countArcs (tidy fr Ls) ≤ countArcs Ls
-unfolding countArcs tidy
+tidy-fewer : (fr : List (Option Mark)) (Ls : Net) → count_arcs (tidy fr Ls) ≤ count_arcs Ls
+unfolding count_arcs tidy
 tidy-fewer fr [] = omega arith
 tidy-fewer fr (L ∷ Ls) =
-    let f : ℕ → ℕ → ℕ → ℕ = λ a j b. renumber (flags (marksNext fr L (width Ls)) (marksUp Ls)) b in
-    omega (arith, compress-fewer (flags fr (marksUp (L ∷ Ls))) (redirect f L), redirect-fewer f L, tidy-fewer (marksNext fr L (width Ls)) Ls)
+    let f : ℕ → ℕ → ℕ → ℕ = λ a j b. renumber (flags (marks_next fr L (width Ls)) (marks_up Ls)) b in
+    omega (arith, compress-fewer (flags fr (marks_up (L ∷ Ls))) (redirect f L), redirect-fewer f L, tidy-fewer (marks_next fr L (width Ls)) Ls)
 
-tidied-fewer : (Ls : Net) → countArcs (tidied Ls) ≤ countArcs Ls
-unfolding countArcs tidied
+tidied-fewer : (Ls : Net) → count_arcs (tidied Ls) ≤ count_arcs Ls
+unfolding count_arcs tidied
 tidied-fewer [] = omega arith
 tidied-fewer (L ∷ Ls) =
-    let f : ℕ → ℕ → ℕ → ℕ = λ a j b. renumber (flags (marksNext (Some tt ∷ []) L (width Ls)) (marksUp Ls)) b in
-    omega (arith, redirect-fewer f L, tidy-fewer (marksNext (Some tt ∷ []) L (width Ls)) Ls)
+    let f : ℕ → ℕ → ℕ → ℕ = λ a j b. renumber (flags (marks_next (Some tt ∷ []) L (width Ls)) (marks_up Ls)) b in
+    omega (arith, redirect-fewer f L, tidy-fewer (marks_next (Some tt ∷ []) L (width Ls)) Ls)
 
 module _ {S V : Type 0} (r : Round) (rule : RuleSense S) (tally : TallySense V) where
-  sweeps-fewer : (i : ℕ) (labs : List (Option (Lab r rule tally))) (Ls : Net) → countArcs (sweeps r rule tally i labs Ls) ≤ countArcs Ls
-  unfolding countArcs sweeps
+  sweeps-fewer : (i : ℕ) (labs : List (Option (Lab r rule tally))) (Ls : Net) → count_arcs (sweeps r rule tally i labs Ls) ≤ count_arcs Ls
+  unfolding count_arcs sweeps
   sweeps-fewer i labs [] = omega arith
   sweeps-fewer i labs (L ∷ Ls) =
       let f : ℕ → ℕ → ℕ → ℕ = λ a j b. cond (barred r rule tally i (suc (length Ls)) j (get_or labs a None) (get_or (ups Ls) b None)) 0 (suc b) in
-      omega (arith, redirect-fewer f L, sweeps-fewer (suc i) (labelsNext r rule tally labs L (width Ls)) Ls)
+      omega (arith, redirect-fewer f L, sweeps-fewer (suc i) (labels_next r rule tally labs L (width Ls)) Ls)
 
-  pub sweep-fewer : (Ls : Net) → countArcs (sweep r rule tally Ls) ≤ countArcs Ls
+  pub sweep-fewer : (Ls : Net) → count_arcs (sweep r rule tally Ls) ≤ count_arcs Ls
   unfolding sweep
   sweep-fewer Ls = omega (arith, tidied-fewer (sweeps r rule tally 0 (firsts r rule tally) Ls), sweeps-fewer 0 (firsts r rule tally) Ls)
 
 -- ---- tidying leaves a tied diagram as it is
-eachDoor-same : (f : ℕ → ℕ → ℕ) (j : ℕ) (ts : Outs) → ((k b : ℕ) → get_or ts k 0 ≡ suc b → f (j + k) b ≡ suc b) → eachDoor f j ts ≡ ts
-unfolding eachDoor
-eachDoor-same f j [] h = refl
-eachDoor-same f j (zero ∷ ts) h = ap (λ (x : Outs). zero ∷ x) (eachDoor-same f (suc j) ts (λ k b e. ap (λ (z : ℕ). f z b) (omega arith) ∙ h (suc k) b e))
-eachDoor-same f j (suc b ∷ ts) h =
-    ap₂ (λ (x : ℕ) (y : Outs). x ∷ y) (ap (λ (z : ℕ). f z b) (omega arith) ∙ h 0 b refl) (eachDoor-same f (suc j) ts (λ k c e. ap (λ (z : ℕ). f z c) (omega arith) ∙ h (suc k) c e))
+each_door-same : (f : ℕ → ℕ → ℕ) (j : ℕ) (ts : Outs) → ((k b : ℕ) → get_or ts k 0 ≡ suc b → f (j + k) b ≡ suc b) → each_door f j ts ≡ ts
+unfolding each_door
+each_door-same f j [] h = refl
+each_door-same f j (zero ∷ ts) h = ap (λ (x : Outs). zero ∷ x) (each_door-same f (suc j) ts (λ k b e. ap (λ (z : ℕ). f z b) (omega arith) ∙ h (suc k) b e))
+each_door-same f j (suc b ∷ ts) h =
+    ap₂ (λ (x : ℕ) (y : Outs). x ∷ y) (ap (λ (z : ℕ). f z b) (omega arith) ∙ h 0 b refl) (each_door-same f (suc j) ts (λ k c e. ap (λ (z : ℕ). f z c) (omega arith) ∙ h (suc k) c e))
 
-eachNode-same : (f : ℕ → ℕ → ℕ → ℕ) (i : ℕ) (L : Layer) → ((a j b : ℕ) → target (node L a) j ≡ suc b → f (i + a) j b ≡ suc b) → eachNode f i L ≡ L
-unfolding eachNode
-eachNode-same f i [] h = refl
-eachNode-same f i (nd ∷ L) h =
+each_node-same : (f : ℕ → ℕ → ℕ → ℕ) (i : ℕ) (L : Layer) → ((a j b : ℕ) → target (node L a) j ≡ suc b → f (i + a) j b ≡ suc b) → each_node f i L ≡ L
+unfolding each_node
+each_node-same f i [] h = refl
+each_node-same f i (nd ∷ L) h =
     ap₂ (λ (x : Outs) (y : Layer). x ∷ y)
-    (eachDoor-same (f i) 1 nd (λ k b e. ap (λ (z : ℕ). f i z b) (omega arith) ∙ ap (λ (z : ℕ). f z (suc k) b) (omega arith) ∙ h 0 (suc k) b e))
-    (eachNode-same f (suc i) L (λ a j b e. ap (λ (z : ℕ). f z j b) (omega arith) ∙ h (suc a) j b e))
+    (each_door-same (f i) 1 nd (λ k b e. ap (λ (z : ℕ). f i z b) (omega arith) ∙ ap (λ (z : ℕ). f z (suc k) b) (omega arith) ∙ h 0 (suc k) b e))
+    (each_node-same f (suc i) L (λ a j b e. ap (λ (z : ℕ). f z j b) (omega arith) ∙ h (suc a) j b e))
 
 pub redirect-same : (f : ℕ → ℕ → ℕ → ℕ) (L : Layer) → ((a j b : ℕ) → target (node L a) j ≡ suc b → f a j b ≡ suc b) → redirect f L ≡ L
 unfolding redirect
-redirect-same f L h = eachNode-same f 0 L (λ a j b e. ap (λ (z : ℕ). f z j b) (omega arith) ∙ h a j b e)
+redirect-same f L h = each_node-same f 0 L (λ a j b e. ap (λ (z : ℕ). f z j b) (omega arith) ∙ h a j b e)
 
 compress-all : (fs : List Bool) (L : Layer) → ((a : ℕ) → a < length L → get_or fs a false ≡ true) → compress fs L ≡ L
 unfolding compress
@@ -101,41 +101,41 @@ rank-all (false ∷ fs) zero h = refl
 rank-all (true ∷ fs) (suc b) h = ap suc (rank-all fs b (λ c k. h (suc c) (omega arith)))
 rank-all (false ∷ fs) (suc b) h = absurd (false≢true (h 0 (omega arith)))
 
-end-up : (b : ℕ) → b < 1 → get_or (marksUp []) b None ≡ Some tt
-unfolding marksUp
+end-up : (b : ℕ) → b < 1 → get_or (marks_up []) b None ≡ Some tt
+unfolding marks_up
 end-up zero h = unfold up in refl
 end-up (suc b) h = absurd (not-suc-le-zero (le_of_suc-le-suc h))
 
-marks-full : (M : Layer) (Ls : Net) → Led M → Tied (M ∷ Ls) → (a : ℕ) → a < length M → get_or (marksUp (M ∷ Ls)) a None ≡ Some tt
+marks-full : (M : Layer) (Ls : Net) → Led M → Tied (M ∷ Ls) → (a : ℕ) → a < length M → get_or (marks_up (M ∷ Ls)) a None ≡ Some tt
 marks-full M [] led t a h = let s = led a h in climbs M [] a s.0 s.1 s.2 (end-up s.1 (t a s.0 s.1 s.2))
 marks-full M (N ∷ Ls) led t a h = let s = led a h in climbs M (N ∷ Ls) a s.0 s.1 s.2 (marks-full N Ls t.2 t.3 s.1 (t.0 a s.0 s.1 s.2))
 
 -- a layer whose nodes are all marked keeps its arcs
 arcs-same : (fr : List (Option Mark)) (L : Layer) (Ls : Net) → ((a : ℕ) → a < length L → get_or fr a None ≡ Some tt) → Tied (L ∷ Ls)
-    → redirect (λ a j b. renumber (flags (marksNext fr L (width Ls)) (marksUp Ls)) b) L ≡ L
-arcs-same fr L [] m t = redirect-same (λ a j b. renumber (flags (marksNext fr L 1) (marksUp [])) b) L (λ a j b e.
+    → redirect (λ a j b. renumber (flags (marks_next fr L (width Ls)) (marks_up Ls)) b) L ≡ L
+arcs-same fr L [] m t = redirect-same (λ a j b. renumber (flags (marks_next fr L 1) (marks_up [])) b) L (λ a j b e.
     let z = t a j b e in
-    let f = flags-at (marksNext fr L 1) (marksUp []) b (mark-next fr L 1 a j b e (m a (has-arc L a j b e)) z) (end-up b z) in
-    renumber-at (flags (marksNext fr L 1) (marksUp [])) b f ∙ ap suc (rank-all (flags (marksNext fr L 1) (marksUp [])) b (λ c k. absurd (omega arith))))
-arcs-same fr L (M ∷ Ls) m t = redirect-same (λ a j b. renumber (flags (marksNext fr L (length M)) (marksUp (M ∷ Ls))) b) L (λ a j b e.
+    let f = flags-at (marks_next fr L 1) (marks_up []) b (mark-next fr L 1 a j b e (m a (has-arc L a j b e)) z) (end-up b z) in
+    renumber-at (flags (marks_next fr L 1) (marks_up [])) b f ∙ ap suc (rank-all (flags (marks_next fr L 1) (marks_up [])) b (λ c k. absurd (omega arith))))
+arcs-same fr L (M ∷ Ls) m t = redirect-same (λ a j b. renumber (flags (marks_next fr L (length M)) (marks_up (M ∷ Ls))) b) L (λ a j b e.
     let z = t.0 a j b e in
-    renumber-at (flags (marksNext fr L (length M)) (marksUp (M ∷ Ls))) b (on b z) ∙ ap suc (rank-all (flags (marksNext fr L (length M)) (marksUp (M ∷ Ls))) b (λ c k. on c (omega arith))))
+    renumber-at (flags (marks_next fr L (length M)) (marks_up (M ∷ Ls))) b (on b z) ∙ ap suc (rank-all (flags (marks_next fr L (length M)) (marks_up (M ∷ Ls))) b (λ c k. on c (omega arith))))
   where
-    on : (b : ℕ) → b < length M → get_or (flags (marksNext fr L (length M)) (marksUp (M ∷ Ls))) b false ≡ true
+    on : (b : ℕ) → b < length M → get_or (flags (marks_next fr L (length M)) (marks_up (M ∷ Ls))) b false ≡ true
     on b h = let s = t.1 b h in
-        flags-at (marksNext fr L (length M)) (marksUp (M ∷ Ls)) b (mark-next fr L (length M) s.0 s.1 b s.2 (m s.0 (has-arc L s.0 s.1 b s.2)) h) (marks-full M Ls t.2 t.3 b h)
+        flags-at (marks_next fr L (length M)) (marks_up (M ∷ Ls)) b (mark-next fr L (length M) s.0 s.1 b s.2 (m s.0 (has-arc L s.0 s.1 b s.2)) h) (marks-full M Ls t.2 t.3 b h)
 
-marks-next : (fr : List (Option Mark)) (L M : Layer) (Ls : Net) → ((a : ℕ) → a < length L → get_or fr a None ≡ Some tt) → Tied (L ∷ M ∷ Ls) → (b : ℕ) → b < length M → get_or (marksNext fr L (length M)) b None ≡ Some tt
+marks-next : (fr : List (Option Mark)) (L M : Layer) (Ls : Net) → ((a : ℕ) → a < length L → get_or fr a None ≡ Some tt) → Tied (L ∷ M ∷ Ls) → (b : ℕ) → b < length M → get_or (marks_next fr L (length M)) b None ≡ Some tt
 marks-next fr L M Ls m t b h = let s = t.1 b h in mark-next fr L (length M) s.0 s.1 b s.2 (m s.0 (has-arc L s.0 s.1 b s.2)) h
 
 tidy-same : (fr : List (Option Mark)) (L : Layer) (Ls : Net) → ((a : ℕ) → a < length L → get_or fr a None ≡ Some tt) → Led L → Tied (L ∷ Ls) → tidy fr (L ∷ Ls) ≡ L ∷ Ls
 unfolding tidy
 tidy-same fr L [] m led t =
-    ap (λ (x : Layer). x ∷ []) (ap (compress (flags fr (marksUp (L ∷ [])))) (arcs-same fr L [] m t) ∙ compress-all (flags fr (marksUp (L ∷ []))) L (λ a k. flags-at fr (marksUp (L ∷ [])) a (m a k) (marks-full L [] led t a k)))
+    ap (λ (x : Layer). x ∷ []) (ap (compress (flags fr (marks_up (L ∷ [])))) (arcs-same fr L [] m t) ∙ compress-all (flags fr (marks_up (L ∷ []))) L (λ a k. flags-at fr (marks_up (L ∷ [])) a (m a k) (marks-full L [] led t a k)))
 tidy-same fr L (M ∷ Ls) m led t =
     ap₂ (λ (x : Layer) (y : Net). x ∷ y)
-    (ap (compress (flags fr (marksUp (L ∷ M ∷ Ls)))) (arcs-same fr L (M ∷ Ls) m t) ∙ compress-all (flags fr (marksUp (L ∷ M ∷ Ls))) L (λ a k. flags-at fr (marksUp (L ∷ M ∷ Ls)) a (m a k) (marks-full L (M ∷ Ls) led t a k)))
-    (tidy-same (marksNext fr L (length M)) M Ls (marks-next fr L M Ls m t) t.2 t.3)
+    (ap (compress (flags fr (marks_up (L ∷ M ∷ Ls)))) (arcs-same fr L (M ∷ Ls) m t) ∙ compress-all (flags fr (marks_up (L ∷ M ∷ Ls))) L (λ a k. flags-at fr (marks_up (L ∷ M ∷ Ls)) a (m a k) (marks-full L (M ∷ Ls) led t a k)))
+    (tidy-same (marks_next fr L (length M)) M Ls (marks-next fr L M Ls m t) t.2 t.3)
 
 pub tidied-same : (Ls : Net) → width Ls ≡ 1 → Tied Ls → tidied Ls ≡ Ls
 unfolding tidied
@@ -147,7 +147,7 @@ tidied-same (L ∷ []) w t = unfold tidy in ap (λ (x : Layer). x ∷ []) (arcs-
     only (suc a) k = absurd (not-suc-le-zero (le_of_suc-le-suc k))
 tidied-same (L ∷ M ∷ Ls) w t =
     ap₂ (λ (x : Layer) (y : Net). x ∷ y) (arcs-same (Some tt ∷ []) L (M ∷ Ls) (λ a k. only a (omega arith)) t)
-    (tidy-same (marksNext (Some tt ∷ []) L (length M)) M Ls (marks-next (Some tt ∷ []) L M Ls (λ a k. only a (omega arith)) t) t.2 t.3)
+    (tidy-same (marks_next (Some tt ∷ []) L (length M)) M Ls (marks-next (Some tt ∷ []) L M Ls (λ a k. only a (omega arith)) t) t.2 t.3)
   where
     only : (a : ℕ) → a < 1 → get_or {A = Option Mark} (Some tt ∷ []) a None ≡ Some tt
     only zero k = refl
@@ -155,48 +155,48 @@ tidied-same (L ∷ M ∷ Ls) w t =
 
 -- ---- settled: a sweep would change nothing
 module _ {S V : Type 0} (r : Round) (rule : RuleSense S) (tally : TallySense V) where
-  kept-arcs : (i h : ℕ) (labs : List (Option (Lab r rule tally))) (Ls : Net) (L : Layer) → everyArc (λ a j b. not (barred r rule tally i h j (get_or labs a None) (get_or (ups Ls) b None))) 0 L ≡ true
+  kept-arcs : (i h : ℕ) (labs : List (Option (Lab r rule tally))) (Ls : Net) (L : Layer) → every_arc (λ a j b. not (barred r rule tally i h j (get_or labs a None) (get_or (ups Ls) b None))) 0 L ≡ true
       → redirect (λ a j b. cond (barred r rule tally i h j (get_or labs a None) (get_or (ups Ls) b None)) 0 (suc b)) L ≡ L
   kept-arcs i h labs Ls L e = redirect-same (λ a j b. cond (barred r rule tally i h j (get_or labs a None) (get_or (ups Ls) b None)) 0 (suc b)) L (λ a j b g.
-      ap (λ (q : Bool). cond q 0 (suc b)) (not-true (barred r rule tally i h j (get_or labs a None) (get_or (ups Ls) b None)) (everyArc-at (λ a j b. not (barred r rule tally i h j (get_or labs a None) (get_or (ups Ls) b None))) 0 L a a j b (omega arith) e g)))
+      ap (λ (q : Bool). cond q 0 (suc b)) (not-true (barred r rule tally i h j (get_or labs a None) (get_or (ups Ls) b None)) (every_arc-at (λ a j b. not (barred r rule tally i h j (get_or labs a None) (get_or (ups Ls) b None))) 0 L a a j b (omega arith) e g)))
 
   quiet_same : (i : ℕ) (labs : List (Option (Lab r rule tally))) (Ls : Net) → quiet r rule tally i labs Ls ≡ true → sweeps r rule tally i labs Ls ≡ Ls
   unfolding sweeps quiet
   quiet_same i labs [] e = refl
   quiet_same i labs (L ∷ Ls) e =
-      let q = and_parts (everyArc (λ a j b. not (barred r rule tally i (suc (length Ls)) j (get_or labs a None) (get_or (ups Ls) b None))) 0 L) (quiet r rule tally (suc i) (labelsNext r rule tally labs L (width Ls)) Ls) e in
-      ap₂ (λ (x : Layer) (y : Net). x ∷ y) (kept-arcs i (suc (length Ls)) labs Ls L q.0) (quiet_same (suc i) (labelsNext r rule tally labs L (width Ls)) Ls q.1)
+      let q = and_parts (every_arc (λ a j b. not (barred r rule tally i (suc (length Ls)) j (get_or labs a None) (get_or (ups Ls) b None))) 0 L) (quiet r rule tally (suc i) (labels_next r rule tally labs L (width Ls)) Ls) e in
+      ap₂ (λ (x : Layer) (y : Net). x ∷ y) (kept-arcs i (suc (length Ls)) labs Ls L q.0) (quiet_same (suc i) (labels_next r rule tally labs L (width Ls)) Ls q.1)
 
   -- where a sweep takes out nothing, no arc is one that it takes out
-  doors-quiet : (t : ℕ → ℕ → Bool) (j : ℕ) (ts : Outs) → countDoors (eachDoor (λ j b. cond (t j b) 0 (suc b)) j ts) ≡ countDoors ts → everyDoor (λ j b. not (t j b)) j ts ≡ true
-  unfolding countDoors eachDoor everyDoor
+  doors-quiet : (t : ℕ → ℕ → Bool) (j : ℕ) (ts : Outs) → count_doors (each_door (λ j b. cond (t j b) 0 (suc b)) j ts) ≡ count_doors ts → every_door (λ j b. not (t j b)) j ts ≡ true
+  unfolding count_doors each_door every_door
   doors-quiet t j [] e = refl
   doors-quiet t j (zero ∷ ts) e = doors-quiet t (suc j) ts e
   doors-quiet t j (suc b ∷ ts) e = go (t j b) e (λ h. doors-quiet t (suc j) ts h)
     where
-      go : (q : Bool) → countDoors (cond q 0 (suc b) ∷ eachDoor (λ j b. cond (t j b) 0 (suc b)) (suc j) ts) ≡ suc (countDoors ts)
-          → (countDoors (eachDoor (λ j b. cond (t j b) 0 (suc b)) (suc j) ts) ≡ countDoors ts → everyDoor (λ j b. not (t j b)) (suc j) ts ≡ true)
-          → (not q && everyDoor (λ j b. not (t j b)) (suc j) ts) ≡ true
+      go : (q : Bool) → count_doors (cond q 0 (suc b) ∷ each_door (λ j b. cond (t j b) 0 (suc b)) (suc j) ts) ≡ suc (count_doors ts)
+          → (count_doors (each_door (λ j b. cond (t j b) 0 (suc b)) (suc j) ts) ≡ count_doors ts → every_door (λ j b. not (t j b)) (suc j) ts ≡ true)
+          → (not q && every_door (λ j b. not (t j b)) (suc j) ts) ≡ true
       go true h f = absurd (omega (arith, h, doors-fewer (λ j b. cond (t j b) 0 (suc b)) (suc j) ts))
       go false h f = f (omega arith)
 
-  pub layer-quiet : (t : ℕ → ℕ → ℕ → Bool) (i : ℕ) (L : Layer) → countLayer (eachNode (λ a j b. cond (t a j b) 0 (suc b)) i L) ≡ countLayer L → everyArc (λ a j b. not (t a j b)) i L ≡ true
-  unfolding countLayer eachNode everyArc
+  pub layer-quiet : (t : ℕ → ℕ → ℕ → Bool) (i : ℕ) (L : Layer) → count_layer (each_node (λ a j b. cond (t a j b) 0 (suc b)) i L) ≡ count_layer L → every_arc (λ a j b. not (t a j b)) i L ≡ true
+  unfolding count_layer each_node every_arc
   layer-quiet t i [] e = refl
   layer-quiet t i (nd ∷ L) e =
       let x = doors-fewer (λ j b. cond (t i j b) 0 (suc b)) 1 nd in
       let y = nodes-fewer (λ a j b. cond (t a j b) 0 (suc b)) (suc i) L in
       rw (doors-quiet (t i) 1 nd (omega arith)) (layer-quiet t (suc i) L (omega arith))
 
-  sweeps-quiet : (i : ℕ) (labs : List (Option (Lab r rule tally))) (Ls : Net) → countArcs (sweeps r rule tally i labs Ls) ≡ countArcs Ls → quiet r rule tally i labs Ls ≡ true
-  unfolding sweeps quiet countArcs redirect
+  sweeps-quiet : (i : ℕ) (labs : List (Option (Lab r rule tally))) (Ls : Net) → count_arcs (sweeps r rule tally i labs Ls) ≡ count_arcs Ls → quiet r rule tally i labs Ls ≡ true
+  unfolding sweeps quiet count_arcs redirect
   sweeps-quiet i labs [] e = refl
   sweeps-quiet i labs (L ∷ Ls) e =
       let t : ℕ → ℕ → ℕ → Bool = λ a j b. barred r rule tally i (suc (length Ls)) j (get_or labs a None) (get_or (ups Ls) b None) in
       let x = nodes-fewer (λ a j b. cond (t a j b) 0 (suc b)) 0 L in
-      let y = sweeps-fewer r rule tally (suc i) (labelsNext r rule tally labs L (width Ls)) Ls in
-      let p : everyArc (λ a j b. not (t a j b)) 0 L ≡ true = layer-quiet t 0 L (omega arith) in
-      rw p (sweeps-quiet (suc i) (labelsNext r rule tally labs L (width Ls)) Ls (omega arith))
+      let y = sweeps-fewer r rule tally (suc i) (labels_next r rule tally labs L (width Ls)) Ls in
+      let p : every_arc (λ a j b. not (t a j b)) 0 L ≡ true = layer-quiet t 0 L (omega arith) in
+      rw p (sweeps-quiet (suc i) (labels_next r rule tally labs L (width Ls)) Ls (omega arith))
 
   -- settled is yes exactly when the in-arcs agree and a sweep would answer 0
   pub settled-yes : (Ls : Net) → width Ls ≡ 1 → Tied Ls → settled r rule tally Ls ≡ true → (agrees r rule tally (firsts r rule tally) Ls ≡ true) × (sweep r rule tally Ls ≡ Ls)
@@ -205,7 +205,7 @@ module _ {S V : Type 0} (r : Round) (rule : RuleSense S) (tally : TallySense V) 
       let p = and_parts (agrees r rule tally (firsts r rule tally) Ls) (quiet r rule tally 0 (firsts r rule tally) Ls) e in
       (p.0, ap tidied (quiet_same 0 (firsts r rule tally) Ls p.1) ∙ tidied-same Ls w t)
 
-  pub settled-if : (Ls : Net) → agrees r rule tally (firsts r rule tally) Ls ≡ true → countArcs (sweep r rule tally Ls) ≡ countArcs Ls → settled r rule tally Ls ≡ true
+  pub settled-if : (Ls : Net) → agrees r rule tally (firsts r rule tally) Ls ≡ true → count_arcs (sweep r rule tally Ls) ≡ count_arcs Ls → settled r rule tally Ls ≡ true
   unfolding settled settles sweep
   settled-if Ls a c =
       let x = tidied-fewer (sweeps r rule tally 0 (firsts r rule tally) Ls) in

@@ -12,12 +12,12 @@ use Rattle.rules.specs.Rules.{RuleLaws, RuleSense, state_of}
 use Rattle.tallies.specs.Tallies.{TallyLaws, TallySense}
 use Rattle.orders.proofs.Times.{trip-van}
 use Rattle.orders.specs.Allowed.{Allowed}
-use Rattle.orders.specs.Costs.{Trip, cost, rides, tripAfter}
-use Rattle.orders.specs.Times.{finishOf, Timely}
+use Rattle.orders.specs.Costs.{Trip, cost, rides, trip_after}
+use Rattle.orders.specs.Times.{finish_of, Timely}
 use Rattle.orders.specs.declared.van.Van.{Van}
 use Rattle.layers.specs.declared.node.Up.{Up}
-use Rattle.layers.specs.Flow.{Outs, Layer, Net, node, target, width, Path-from, tidy, tidied, Mark, marksNext, joinAt, final, everyDoor, everyArc, ins, gather}
-use Rattle.layers.specs.Labels.{one, leg, ups, Lab, first, arrive, merge, firsts, labelsNext, barred, opened, allDoors, agree, agreeAll, agreeing}
+use Rattle.layers.specs.Flow.{Outs, Layer, Net, node, target, width, PathFrom, tidy, tidied, Mark, marks_next, join_at, final, every_door, every_arc, ins, gather}
+use Rattle.layers.specs.Labels.{one, leg, ups, Lab, first, arrive, merge, firsts, labels_next, barred, opened, all_doors, agree, agree_all, agreeing}
 use Rattle.layers.specs.Calls.{Call, EachCut, Sweep, Part, Join, Cut, Refine}
 use Rattle.layers.proofs.Flows.{Among, table-long, From, inside, ins-in, ins-from, next-some, next-within, next-at}
 use Rattle.layers.proofs.Sets.{or_left, or_right, one-self}
@@ -31,15 +31,15 @@ use Rattle.layers.proofs.Calls.{safe-after, neat-opened}
 tidy-length : (fr : List (Option Mark)) (Ls : Net) → length (tidy fr Ls) ≡ length Ls
 unfolding tidy
 tidy-length fr [] = refl
-tidy-length fr (L ∷ Ls) = ap suc (tidy-length (marksNext fr L (width Ls)) Ls)
+tidy-length fr (L ∷ Ls) = ap suc (tidy-length (marks_next fr L (width Ls)) Ls)
 
 pub tidied-length : (Ls : Net) → length (tidied Ls) ≡ length Ls
 unfolding tidied
 tidied-length [] = refl
-tidied-length (L ∷ Ls) = ap suc (tidy-length (marksNext (Some tt ∷ []) L (width Ls)) Ls)
+tidied-length (L ∷ Ls) = ap suc (tidy-length (marks_next (Some tt ∷ []) L (width Ls)) Ls)
 
-pub join-length : (d lo hi : ℕ) (Ls : Net) → length (joinAt d lo hi Ls) ≡ length Ls
-unfolding joinAt
+pub join-length : (d lo hi : ℕ) (Ls : Net) → length (join_at d lo hi Ls) ≡ length Ls
+unfolding join_at
 join-length zero lo hi [] = refl
 join-length (suc d) lo hi [] = refl
 join-length zero lo hi (L ∷ []) = refl
@@ -53,17 +53,17 @@ module _ {S V : Type 0} (r : Round) (rule : RuleSense S) (tally : TallySense V) 
   part_length (suc d) a labs [] = refl
   part_length zero a labs (L ∷ []) = refl
   part_length zero a labs (L ∷ M ∷ Ls) = refl
-  part_length (suc d) a labs (L ∷ Ls) = ap suc (part_length d a (labelsNext r rule tally labs L (width Ls)) Ls)
+  part_length (suc d) a labs (L ∷ Ls) = ap suc (part_length d a (labels_next r rule tally labs L (width Ls)) Ls)
 
   pub sweeps-length : (i : ℕ) (labs : List (Option (Lab r rule tally))) (Ls : Net) → length (sweeps r rule tally i labs Ls) ≡ length Ls
   unfolding sweeps
   sweeps-length i labs [] = refl
-  sweeps-length i labs (L ∷ Ls) = ap suc (sweeps-length (suc i) (labelsNext r rule tally labs L (width Ls)) Ls)
+  sweeps-length i labs (L ∷ Ls) = ap suc (sweeps-length (suc i) (labels_next r rule tally labs L (width Ls)) Ls)
 
   pub cuts-length : (c : V) (labs : List (Option (Lab r rule tally))) (Ls : Net) → length (cuts r rule tally c labs Ls) ≡ length Ls
   unfolding cuts
   cuts-length c labs [] = refl
-  cuts-length c labs (L ∷ Ls) = ap suc (cuts-length c (labelsNext r rule tally labs L (width Ls)) Ls)
+  cuts-length c labs (L ∷ Ls) = ap suc (cuts-length c (labels_next r rule tally labs L (width Ls)) Ls)
 
   abbrev pub Shape : Net → Type 0
   Shape Ls = Neat r.n Ls × (length Ls ≡ r.n)
@@ -84,25 +84,25 @@ module _ {S V : Type 0} (r : Round) (rule : RuleSense S) (tally : TallySense V) 
         (λ c Ls q s. (neat-tidied r.n (cuts r rule tally c (firsts r rule tally) Ls) (neat-cuts r.n r rule tally c (firsts r rule tally) Ls s.0), tidied-length (cuts r rule tally c (firsts r rule tally) Ls) ∙ cuts-length c (firsts r rule tally) Ls ∙ s.1))
         (λ d a Ls x y z s. (neat-part r.n r rule tally d a (firsts r rule tally) Ls s.0, part_length d a (firsts r rule tally) Ls ∙ s.1))
         (λ d lo hi Ls x y z s. (neat-join r.n d lo hi Ls s.0, join-length d lo hi Ls ∙ s.1))
-        cs (opened r rule tally) (any-cut cs) (neat-opened r rule tally, table-long r.n (λ i. allDoors r rule tally ∷ []))
+        cs (opened r rule tally) (any-cut cs) (neat-opened r rule tally, table-long r.n (λ i. all_doors r rule tally ∷ []))
 
 -- ---- tests that passed
-everyDoor-at : (f : ℕ → ℕ → Bool) (j : ℕ) (ts : Outs) (k m b : ℕ) → j + k ≡ m → everyDoor f j ts ≡ true → get_or ts k 0 ≡ suc b → f m b ≡ true
-unfolding everyDoor
-everyDoor-at f j [] k m b h t e = absurd (omega arith)
-everyDoor-at f j (zero ∷ ts) zero m b h t e = absurd (omega arith)
-everyDoor-at f j (zero ∷ ts) (suc k) m b h t e = everyDoor-at f (suc j) ts k m b (omega arith) t e
-everyDoor-at f j (suc c ∷ ts) zero m b h t e = let x : m ≡ j = omega arith in let y : b ≡ c = omega arith in let z : f m b ≡ f j c = cc in z ∙ (and_parts (f j c) (everyDoor f (suc j) ts) t).0
-everyDoor-at f j (suc c ∷ ts) (suc k) m b h t e = everyDoor-at f (suc j) ts k m b (omega arith) (and_parts (f j c) (everyDoor f (suc j) ts) t).1 e
+every_door-at : (f : ℕ → ℕ → Bool) (j : ℕ) (ts : Outs) (k m b : ℕ) → j + k ≡ m → every_door f j ts ≡ true → get_or ts k 0 ≡ suc b → f m b ≡ true
+unfolding every_door
+every_door-at f j [] k m b h t e = absurd (omega arith)
+every_door-at f j (zero ∷ ts) zero m b h t e = absurd (omega arith)
+every_door-at f j (zero ∷ ts) (suc k) m b h t e = every_door-at f (suc j) ts k m b (omega arith) t e
+every_door-at f j (suc c ∷ ts) zero m b h t e = let x : m ≡ j = omega arith in let y : b ≡ c = omega arith in let z : f m b ≡ f j c = cc in z ∙ (and_parts (f j c) (every_door f (suc j) ts) t).0
+every_door-at f j (suc c ∷ ts) (suc k) m b h t e = every_door-at f (suc j) ts k m b (omega arith) (and_parts (f j c) (every_door f (suc j) ts) t).1 e
 
-pub everyArc-at : (f : ℕ → ℕ → ℕ → Bool) (c : ℕ) (L : Layer) (a m j b : ℕ) → c + a ≡ m → everyArc f c L ≡ true → target (node L a) j ≡ suc b → f m j b ≡ true
-unfolding everyArc
-everyArc-at f c [] a m zero b h t e = absurd (omega arith)
-everyArc-at f c [] a m (suc k) b h t e = absurd (omega arith)
-everyArc-at f c (nd ∷ L) zero m zero b h t e = absurd (omega arith)
-everyArc-at f c (nd ∷ L) zero m (suc k) b h t e =
-    ap (λ (x : ℕ). f x (suc k) b) (omega arith) ∙ everyDoor-at (f c) 1 nd k (suc k) b (omega arith) (and_parts (everyDoor (f c) 1 nd) (everyArc f (suc c) L) t).0 e
-everyArc-at f c (nd ∷ L) (suc a) m j b h t e = everyArc-at f (suc c) L a m j b (omega arith) (and_parts (everyDoor (f c) 1 nd) (everyArc f (suc c) L) t).1 e
+pub every_arc-at : (f : ℕ → ℕ → ℕ → Bool) (c : ℕ) (L : Layer) (a m j b : ℕ) → c + a ≡ m → every_arc f c L ≡ true → target (node L a) j ≡ suc b → f m j b ≡ true
+unfolding every_arc
+every_arc-at f c [] a m zero b h t e = absurd (omega arith)
+every_arc-at f c [] a m (suc k) b h t e = absurd (omega arith)
+every_arc-at f c (nd ∷ L) zero m zero b h t e = absurd (omega arith)
+every_arc-at f c (nd ∷ L) zero m (suc k) b h t e =
+    ap (λ (x : ℕ). f x (suc k) b) (omega arith) ∙ every_door-at (f c) 1 nd k (suc k) b (omega arith) (and_parts (every_door (f c) 1 nd) (every_arc f (suc c) L) t).0 e
+every_arc-at f c (nd ∷ L) (suc a) m j b h t e = every_arc-at f (suc c) L a m j b (omega arith) (and_parts (every_door (f c) 1 nd) (every_arc f (suc c) L) t).1 e
 
 module _ {S V : Type 0} {Keeps : List ℕ → Type 0} {Stands : S → List ℕ → Type 0} {Allows : ℕ → V → Type 0} (r : Round) (rule : RuleSense S) (ruled : RuleLaws r.n rule Keeps Stands) (tally : TallySense V) (tallied : TallyLaws r.n tally Allows) where
   -- ---- labels with one key
@@ -119,7 +119,7 @@ module _ {S V : Type 0} {Keeps : List ℕ → Type 0} {Stands : S → List ℕ �
       let q = and_parts (eqb x.some y.some) _ p.1 in
       let s = and_parts (eqb x.finish y.finish) _ q.1 in
       let t = and_parts (eqb x.lasts y.lasts) _ s.1 in
-      record { all = eqb-true x.all y.all p.0; finish = eqb-true x.finish y.finish s.0; lasts = eqb-true x.lasts y.lasts t.0; state = ruled.same-is x.state y.state t.1 }
+      record { all = eqb-true x.all y.all p.0; finish = eqb-true x.finish y.finish s.0; lasts = eqb-true x.lasts y.lasts t.0; state = ruled.same_is x.state y.state t.1 }
 
   same-merge : (x y z : Lab r rule tally) → Same x y → Same x z → Same x (merge r rule tally y z)
   unfolding merge
@@ -127,7 +127,7 @@ module _ {S V : Type 0} {Keeps : List ℕ → Type 0} {Stands : S → List ℕ �
     all = sym (and_self x.all) ∙ ap (λ (t : ℕ). bit_and t x.all) p.all ∙ ap (bit_and y.all) q.all;
     finish = omega (arith, p.finish, q.finish);
     lasts = sym (or_self x.lasts) ∙ ap (λ (t : ℕ). bit_or t x.lasts) p.lasts ∙ ap (bit_or y.lasts) q.lasts;
-    state = sym (ruled.cover-same x.state) ∙ ap (λ (t : S). rule.cover t x.state) p.state ∙ ap (rule.cover y.state) q.state;
+    state = sym (ruled.cover_same x.state) ∙ ap (λ (t : S). rule.cover t x.state) p.state ∙ ap (rule.cover y.state) q.state;
   }
 
   same_self : (x : Lab r rule tally) → Same x x
@@ -136,11 +136,11 @@ module _ {S V : Type 0} {Keeps : List ℕ → Type 0} {Stands : S → List ℕ �
   same_back : (x y z : Lab r rule tally) → Same x y → Same x z → Same y z
   same_back x y z p q = record { all = sym p.all ∙ q.all; finish = sym p.finish ∙ q.finish; lasts = sym p.lasts ∙ q.lasts; state = sym p.state ∙ q.state }
 
-  same-all : (x : Lab r rule tally) (l : List (Lab r rule tally)) → agreeAll r rule tally x l ≡ true → (y : Lab r rule tally) → Among y l → Same x y
-  unfolding agreeAll
+  same-all : (x : Lab r rule tally) (l : List (Lab r rule tally)) → agree_all r rule tally x l ≡ true → (y : Lab r rule tally) → Among y l → Same x y
+  unfolding agree_all
   same-all x [] e y i = absurd i
-  same-all x (z ∷ l) e y (inl f) = rw f (same-agree x z (and_parts (agree r rule tally x z) (agreeAll r rule tally x l) e).0)
-  same-all x (z ∷ l) e y (inr i) = same-all x l (and_parts (agree r rule tally x z) (agreeAll r rule tally x l) e).1 y i
+  same-all x (z ∷ l) e y (inl f) = rw f (same-agree x z (and_parts (agree r rule tally x z) (agree_all r rule tally x l) e).0)
+  same-all x (z ∷ l) e y (inr i) = same-all x l (and_parts (agree r rule tally x z) (agree_all r rule tally x l) e).1 y i
 
   same_fold : (x y : Lab r rule tally) (l : List (Lab r rule tally)) → Same x y → ((z : Lab r rule tally) → Among z l → Same x z) → Same x (fold (merge r rule tally) y l)
   same_fold x y [] s f = s
@@ -160,7 +160,7 @@ module _ {S V : Type 0} {Keeps : List ℕ → Type 0} {Stands : S → List ℕ �
   Attained v l = (x : Lab r rule tally) × Among x l × (x.value ≡ v)
 
   lesser-one : (a b : V) (l : List (Lab r rule tally)) → Attained a l → Attained b l → Attained (tally.lesser a b) l
-  lesser-one a b l p q = rw (tallied.lesser-is a b) (go (tally.notAbove a b))
+  lesser-one a b l p q = rw (tallied.lesser_is a b) (go (tally.not_above a b))
     where
       go : (t : Bool) → Attained (cond t a b) l
       go true = p
@@ -186,12 +186,12 @@ module _ {S V : Type 0} {Keeps : List ℕ → Type 0} {Stands : S → List ℕ �
 
   pub record Exact (l : Lab r rule tally) (p : List ℕ) : Type 0 where
     pub all : (j : ℕ) → In j p → has l.all j ≡ true
-    pub finish : l.finish ≡ (tripAfter r tally p).van.finish
-    pub lasts : l.lasts ≡ one (tripAfter r tally p).van.last
+    pub finish : l.finish ≡ (trip_after r tally p).van.finish
+    pub lasts : l.lasts ≡ one (trip_after r tally p).van.last
     pub state : l.state ≡ state_of rule p
 
   sound_none : Sound []
-  sound_none = record { keeps = ruled.keeps-none; timely = each_none _; told = told_none r rule ruled tally tallied }
+  sound_none = record { keeps = ruled.keeps_none; timely = each_none _; told = told_none r rule ruled tally tallied }
 
   exact-first : Exact (first r rule tally) []
   exact-first = record { all = λ j i. absurd i; finish = refl; lasts = refl; state = refl }
@@ -231,15 +231,15 @@ module _ {S V : Type 0} {Keeps : List ℕ → Type 0} {Stands : S → List ℕ �
       let n : ¬ In j p = λ i. absurd (true≢false (sym (e.all j i) ∙ c.new)) in
       let z = trip-snoc r tally p j in
       let t = s.told in
-      let g : leg r l.lasts j ≡ drive r (tripAfter r tally p).van.last j =
-      ap (λ (m : ℕ). leg r m j) e.lasts ∙ leg-one r (tripAfter r tally p).van.last j t.here (ne_eqb (tripAfter r tally p).van.last j (t.last j n d.low)) in
-      let f : finish r l.finish (leg r l.lasts j) j ≡ (rides r tally (tripAfter r tally p) j).van.finish =
-      ap (λ (x : ℕ). finish r x (leg r l.lasts j) j) e.finish ∙ ap (λ (x : ℕ). finish r (tripAfter r tally p).van.finish x j) g in
-      let v : finishOf r (p ++ (j ∷ [])) ≡ finish r l.finish (leg r l.lasts j) j =
+      let g : leg r l.lasts j ≡ drive r (trip_after r tally p).van.last j =
+      ap (λ (m : ℕ). leg r m j) e.lasts ∙ leg-one r (trip_after r tally p).van.last j t.here (ne_eqb (trip_after r tally p).van.last j (t.last j n d.low)) in
+      let f : finish r l.finish (leg r l.lasts j) j ≡ (rides r tally (trip_after r tally p) j).van.finish =
+      ap (λ (x : ℕ). finish r x (leg r l.lasts j) j) e.finish ∙ ap (λ (x : ℕ). finish r (trip_after r tally p).van.finish x j) g in
+      let v : finish_of r (p ++ (j ∷ [])) ≡ finish r l.finish (leg r l.lasts j) j =
       ap (λ (a : Van). a.finish) (sym (trip-van r tally (p ++ (j ∷ [])))) ∙ ap (λ (q : Trip V). q.van.finish) z ∙ sym f in
       record {
         sound = record {
-          keeps = ruled.clear-keeps p j (record { part = t.part; door = d; new = n }) s.keeps (rw (← e.state) c.free);
+          keeps = ruled.clear_keeps p j (record { part = t.part; door = d; new = n }) s.keeps (rw (← e.state) c.free);
           timely = each_more _ p j s.timely (rw v c.early);
           told = told-next r rule ruled tally tallied p j t d k n;
         };
@@ -254,7 +254,7 @@ module _ {S V : Type 0} {Keeps : List ℕ → Type 0} {Stands : S → List ℕ �
         };
         worth = λ v. ap (λ (q : V). tally.step q j (leg r l.lasts j) (finish r l.finish (leg r l.lasts j) j)) v
             ∙ ap (λ (q : ℕ). tally.step (cost r tally p) j q (finish r l.finish (leg r l.lasts j) j)) g
-            ∙ ap (λ (q : ℕ). tally.step (cost r tally p) j (drive r (tripAfter r tally p).van.last j) q) f
+            ∙ ap (λ (q : ℕ). tally.step (cost r tally p) j (drive r (trip_after r tally p).van.last j) q) f
             ∙ ap (λ (q : Trip V). q.cost) (sym z);
       }
 
@@ -263,7 +263,7 @@ module _ {S V : Type 0} {Keeps : List ℕ → Type 0} {Stands : S → List ℕ �
       → target (node L a) j ≡ suc b → get_or labs a None ≡ Some l → Clear l j
   unfolding settles quiet
   settles-arc i labs L Ls a j b l s e g =
-      clear i (suc (length Ls)) j l (get_or (ups Ls) b None) (rw (← g) (not-true _ (everyArc-at (λ a j b. not (barred r rule tally i (suc (length Ls)) j (get_or labs a None) (get_or (ups Ls) b None))) 0 L a a j b (omega arith)
+      clear i (suc (length Ls)) j l (get_or (ups Ls) b None) (rw (← g) (not-true _ (every_arc-at (λ a j b. not (barred r rule tally i (suc (length Ls)) j (get_or labs a None) (get_or (ups Ls) b None))) 0 L a a j b (omega arith)
       (and_parts _ _ (and_parts (agrees r rule tally labs (L ∷ Ls)) (quiet r rule tally i labs (L ∷ Ls)) s).1).0 e)))
 
   agreed-at : (labs : List (Option (Lab r rule tally))) (L : Layer) (k b : ℕ) → agreed r rule tally labs L k ≡ true → b < k → agreeing r rule tally (ins (arrive r rule tally) b labs L) ≡ true
@@ -276,17 +276,17 @@ module _ {S V : Type 0} {Keeps : List ℕ → Type 0} {Stands : S → List ℕ �
       go false f g = g (omega (arith, eqb-false b k f))
 
   settles-next : (i : ℕ) (labs : List (Option (Lab r rule tally))) (L M : Layer) (Ls : Net) → settles r rule tally i labs (L ∷ M ∷ Ls) ≡ true
-      → (agreed r rule tally labs L (length M) ≡ true) × (settles r rule tally (suc i) (labelsNext r rule tally labs L (length M)) (M ∷ Ls) ≡ true)
+      → (agreed r rule tally labs L (length M) ≡ true) × (settles r rule tally (suc i) (labels_next r rule tally labs L (length M)) (M ∷ Ls) ≡ true)
   unfolding settles agrees quiet
   settles-next i labs L M Ls s =
       let p = and_parts (agrees r rule tally labs (L ∷ M ∷ Ls)) (quiet r rule tally i labs (L ∷ M ∷ Ls)) s in
-      let q = and_parts (agreed r rule tally labs L (length M)) (agrees r rule tally (labelsNext r rule tally labs L (length M)) (M ∷ Ls)) p.0 in
-      (q.0, rw q.1 (and_parts _ (quiet r rule tally (suc i) (labelsNext r rule tally labs L (length M)) (M ∷ Ls)) p.1).1)
+      let q = and_parts (agreed r rule tally labs L (length M)) (agrees r rule tally (labels_next r rule tally labs L (length M)) (M ∷ Ls)) p.0 in
+      (q.0, rw q.1 (and_parts _ (quiet r rule tally (suc i) (labels_next r rule tally labs L (length M)) (M ∷ Ls)) p.1).1)
 
   -- ---- every path is sound
   pub paths-sound : (i : ℕ) (p w : List ℕ) (labs : List (Option (Lab r rule tally))) (Ls : Net) (a : ℕ) (l : Lab r rule tally) → length p + length Ls ≡ r.n → settles r rule tally i labs Ls ≡ true
-      → get_or labs a None ≡ Some l → Exact l p → Sound p → Neat r.n Ls → Path-from Ls a w → Sound (p ++ w)
-  unfolding labelsNext
+      → get_or labs a None ≡ Some l → Exact l p → Sound p → Neat r.n Ls → PathFrom Ls a w → Sound (p ++ w)
+  unfolding labels_next
   paths-sound i p [] labs [] a l t s g e o neat q = rw (append-nil p) o
   paths-sound i p (j ∷ w) labs [] a l t s g e o neat q = absurd q
   paths-sound i p [] labs (L ∷ Ls) a l t s g e o neat q = absurd q
@@ -301,10 +301,10 @@ module _ {S V : Type 0} {Keeps : List ℕ → Type 0} {Stands : S → List ℕ �
       let sn = settles-next i labs L M Ls s in
       let same = same-gather (ins (arrive r rule tally) b labs L) n.0 (arrive r rule tally l j) (agreed-at labs L (length M) b sn.0 h)
       (next-some (arrive r rule tally) (merge r rule tally) labs L (length M) b n.0 n.1) (ins-in (arrive r rule tally) (merge r rule tally) b labs L a j l q.1 g) in
-      rw (← (snoc-assoc p w j)) (paths-sound (suc i) (p ++ (j ∷ [])) w (labelsNext r rule tally labs L (length M)) (M ∷ Ls) b n.0 (omega (arith, length-snoc p j)) sn.1 n.1
+      rw (← (snoc-assoc p w j)) (paths-sound (suc i) (p ++ (j ∷ [])) w (labels_next r rule tally labs L (length M)) (M ∷ Ls) b n.0 (omega (arith, length-snoc p j)) sn.1 n.1
       (exact_same (arrive r rule tally l j) n.0 (p ++ (j ∷ [])) same on.exact) on.sound neat.1 q.2)
 
-  pub paths-allowed : (D : Net) (w : List ℕ) → length D ≡ r.n → Neat r.n D → settled r rule tally D ≡ true → Path-from D 0 w → Allowed r Keeps w
+  pub paths-allowed : (D : Net) (w : List ℕ) → length D ≡ r.n → Neat r.n D → settled r rule tally D ≡ true → PathFrom D 0 w → Allowed r Keeps w
   unfolding settled
   paths-allowed D w t neat s q =
       let o = paths-sound 0 [] w (firsts r rule tally) D 0 (first r rule tally) (omega arith) s refl exact-first sound_none neat q in
@@ -314,7 +314,7 @@ module _ {S V : Type 0} {Keeps : List ℕ → Type 0} {Stands : S → List ℕ �
   module _ (D : Net) where
     record Reached (Ls : Net) (k a : ℕ) (l : Lab r rule tally) : Type 0 where
       way : List ℕ
-      leads : (w : List ℕ) → Path-from Ls a w → Path-from D 0 (way ++ w)
+      leads : (w : List ℕ) → PathFrom Ls a w → PathFrom D 0 (way ++ w)
       sound : Sound way
       exact : Exact l way
       worth : l.value ≡ cost r tally way
@@ -346,8 +346,8 @@ module _ {S V : Type 0} {Keeps : List ℕ → Type 0} {Stands : S → List ℕ �
 
     attain : (i k : ℕ) (labs : List (Option (Lab r rule tally))) (Ls : Net) (l : Lab r rule tally) → k + length Ls ≡ r.n → settles r rule tally i labs Ls ≡ true → Neat r.n Ls
         → ((a : ℕ) (l : Lab r rule tally) → get_or labs a None ≡ Some l → Reached Ls k a l) → final (arrive r rule tally) (merge r rule tally) labs Ls ≡ Some l
-        → (w : List ℕ) × Path-from D 0 w × (cost r tally w ≡ l.value)
-    unfolding final labelsNext
+        → (w : List ℕ) × PathFrom D 0 w × (cost r tally w ≡ l.value)
+    unfolding final labels_next
     attain i k labs [] l t s neat reach g =
         let c = reach 0 l g in (c.way ++ [], c.leads [] refl, ap (cost r tally) (append-nil c.way) ∙ sym c.worth)
     attain i k labs (L ∷ []) l t s neat reach g =
@@ -356,7 +356,7 @@ module _ {S V : Type 0} {Keeps : List ℕ → Type 0} {Stands : S → List ℕ �
         (c.way ++ [], c.leads [] refl, ap (cost r tally) (append-nil c.way) ∙ sym c.worth ∙ x.2)
     attain i k labs (L ∷ M ∷ Ls) l t s neat reach g =
         let sn = settles-next i labs L M Ls s in
-        attain (suc i) (suc k) (labelsNext r rule tally labs L (length M)) (M ∷ Ls) l (omega arith) sn.1 neat.1
+        attain (suc i) (suc k) (labels_next r rule tally labs L (length M)) (M ∷ Ls) l (omega arith) sn.1 neat.1
         (λ b m e.
         let e' = next-some (arrive r rule tally) (merge r rule tally) labs L (length M) b m e in
         let h = next-within (arrive r rule tally) (merge r rule tally) labs L (length M) b m e in
@@ -366,7 +366,7 @@ module _ {S V : Type 0} {Keeps : List ℕ → Type 0} {Stands : S → List ℕ �
         record { way = c.way; leads = c.leads; sound = c.sound; exact = exact_same x.0 m c.way same c.exact; worth = sym x.2 ∙ c.worth; long = c.long })
         g
 
-    pub bound-attained : (v : V) → length D ≡ r.n → Neat r.n D → settled r rule tally D ≡ true → bound r rule tally D ≡ Some v → (w : List ℕ) × Path-from D 0 w × (cost r tally w ≡ v)
+    pub bound-attained : (v : V) → length D ≡ r.n → Neat r.n D → settled r rule tally D ≡ true → bound r rule tally D ≡ Some v → (w : List ℕ) × PathFrom D 0 w × (cost r tally w ≡ v)
     unfolding settled bound
     bound-attained v t neat s e = go (final (arrive r rule tally) (merge r rule tally) (firsts r rule tally) D) refl e
       where
@@ -375,7 +375,7 @@ module _ {S V : Type 0} {Keeps : List ℕ → Type 0} {Stands : S → List ℕ �
             rw (← x) (record { way = []; leads = λ w q. q; sound = sound_none; exact = exact-first; worth = refl; long = refl })
         start (suc a) l f = absurd cc
 
-        go : (x : Option (Lab r rule tally)) → final (arrive r rule tally) (merge r rule tally) (firsts r rule tally) D ≡ x → valueO r rule tally x ≡ Some v → (w : List ℕ) × Path-from D 0 w × (cost r tally w ≡ v)
+        go : (x : Option (Lab r rule tally)) → final (arrive r rule tally) (merge r rule tally) (firsts r rule tally) D ≡ x → valueO r rule tally x ≡ Some v → (w : List ℕ) × PathFrom D 0 w × (cost r tally w ≡ v)
         go None f g = absurd cc
         go (Some l) f g =
             let y : l.value ≡ v = cc in

@@ -2,7 +2,7 @@
 use Rattle.std.proofs.Common.{◌≡◌, ℕ, zero, suc, ◌+◌, ◌<◌, Bool, true, false, eqb, ◌⊎◌, List, [], ◌∷◌, ◌++◌, map, length, get_or, Some, None, fold, Option, refl, ap, ◌∙◌, inl, inr, le_of_suc-le-suc, not-suc-le-zero, arith}
 use Rattle.std.proofs.lemmas.Bool.{eqb-true, eq-eqb}
 use Rattle.std.proofs.lemmas.List.{get_or-map}
-use Rattle.layers.specs.Flow.{table, Outs, Layer, Net, node, target, width, Path-from, eachDoor, eachNode, redirect, put, insDoor, ins, gather, next, read, consO, outs, up, Mark, marksNext, marksUp, flags, rank, compress, renumber, tidy, tidied}
+use Rattle.layers.specs.Flow.{table, Outs, Layer, Net, node, target, width, PathFrom, each_door, each_node, redirect, put, ins_door, ins, gather, next, read, cons_if_some, outs, up, Mark, marks_next, marks_up, flags, rank, compress, renumber, tidy, tidied}
 
 -- membership, in lists of any kind
 abbrev pub Among : {A : Type 0} → A → List A → Type 0
@@ -19,25 +19,25 @@ table-long zero f = refl
 table-long (suc k) f = ap suc (table-long k (λ m. f (suc m)))
 
 -- ---- redirecting
-eachDoor-at : (f : ℕ → ℕ → ℕ) (j : ℕ) (ts : Outs) (k m b : ℕ) → j + k ≡ m → get_or ts k 0 ≡ suc b → get_or (eachDoor f j ts) k 0 ≡ f m b
-unfolding eachDoor
-eachDoor-at f j [] k m b h e = absurd (omega arith)
-eachDoor-at f j (zero ∷ ts) zero m b h e = absurd (omega arith)
-eachDoor-at f j (zero ∷ ts) (suc k) m b h e = eachDoor-at f (suc j) ts k m b (omega arith) e
-eachDoor-at f j (suc c ∷ ts) zero m b h e = let x : j ≡ m = omega arith in let y : c ≡ b = omega arith in cc
-eachDoor-at f j (suc c ∷ ts) (suc k) m b h e = eachDoor-at f (suc j) ts k m b (omega arith) e
+each_door-at : (f : ℕ → ℕ → ℕ) (j : ℕ) (ts : Outs) (k m b : ℕ) → j + k ≡ m → get_or ts k 0 ≡ suc b → get_or (each_door f j ts) k 0 ≡ f m b
+unfolding each_door
+each_door-at f j [] k m b h e = absurd (omega arith)
+each_door-at f j (zero ∷ ts) zero m b h e = absurd (omega arith)
+each_door-at f j (zero ∷ ts) (suc k) m b h e = each_door-at f (suc j) ts k m b (omega arith) e
+each_door-at f j (suc c ∷ ts) zero m b h e = let x : j ≡ m = omega arith in let y : c ≡ b = omega arith in cc
+each_door-at f j (suc c ∷ ts) (suc k) m b h e = each_door-at f (suc j) ts k m b (omega arith) e
 
-eachNode-at : (f : ℕ → ℕ → ℕ → ℕ) (c : ℕ) (L : Layer) (a m j b : ℕ) → c + a ≡ m → target (node L a) j ≡ suc b → target (node (eachNode f c L) a) j ≡ f m j b
-unfolding eachNode
-eachNode-at f c [] a m zero b h e = absurd (omega arith)
-eachNode-at f c [] a m (suc k) b h e = absurd (omega arith)
-eachNode-at f c (nd ∷ L) zero m zero b h e = absurd (omega arith)
-eachNode-at f c (nd ∷ L) zero m (suc k) b h e = eachDoor-at (f c) 1 nd k (suc k) b (omega arith) e ∙ ap (λ (x : ℕ). f x (suc k) b) (omega arith)
-eachNode-at f c (nd ∷ L) (suc a) m j b h e = eachNode-at f (suc c) L a m j b (omega arith) e
+each_node-at : (f : ℕ → ℕ → ℕ → ℕ) (c : ℕ) (L : Layer) (a m j b : ℕ) → c + a ≡ m → target (node L a) j ≡ suc b → target (node (each_node f c L) a) j ≡ f m j b
+unfolding each_node
+each_node-at f c [] a m zero b h e = absurd (omega arith)
+each_node-at f c [] a m (suc k) b h e = absurd (omega arith)
+each_node-at f c (nd ∷ L) zero m zero b h e = absurd (omega arith)
+each_node-at f c (nd ∷ L) zero m (suc k) b h e = each_door-at (f c) 1 nd k (suc k) b (omega arith) e ∙ ap (λ (x : ℕ). f x (suc k) b) (omega arith)
+each_node-at f c (nd ∷ L) (suc a) m j b h e = each_node-at f (suc c) L a m j b (omega arith) e
 
 pub redirect-arc : (f : ℕ → ℕ → ℕ → ℕ) (L : Layer) (a j b : ℕ) → target (node L a) j ≡ suc b → target (node (redirect f L) a) j ≡ f a j b
 unfolding redirect
-redirect-arc f L a j b e = eachNode-at f 0 L a a j b (omega arith) e
+redirect-arc f L a j b e = each_node-at f 0 L a a j b (omega arith) e
 
 -- ---- places in range
 pub has-arc : (L : Layer) (a j b : ℕ) → target (node L a) j ≡ suc b → a < length L
@@ -46,7 +46,7 @@ has-arc [] a (suc k) b e = absurd (omega arith)
 has-arc (nd ∷ L) zero j b e = omega arith
 has-arc (nd ∷ L) (suc a) j b e = let h : a < length L = has-arc L a j b e in omega arith
 
-pub inside : (Ls : Net) (a : ℕ) (w : List ℕ) → Path-from Ls a w → a < width Ls
+pub inside : (Ls : Net) (a : ℕ) (w : List ℕ) → PathFrom Ls a w → a < width Ls
 inside [] a [] p = omega arith
 inside [] a (j ∷ w) p = absurd p
 inside (L ∷ Ls) a [] p = absurd p
@@ -71,11 +71,11 @@ module _ {A : Type 0} (arrive : A → ℕ → A) (merge : A → A → A) where
   put-tail true x y r i = inr i
   put-tail false x y r i = i
 
-  insDoor-in : (b : ℕ) (l : A) (j : ℕ) (ts : Outs) (k m : ℕ) → j + k ≡ m → get_or ts k 0 ≡ suc b → Among (arrive l m) (insDoor arrive b l j ts)
-  unfolding insDoor
-  insDoor-in b l j [] k m h e = absurd (omega arith)
-  insDoor-in b l j (t ∷ ts) zero m h e = put_in (eqb t (suc b)) (arrive l m) (arrive l j) (insDoor arrive b l (suc j) ts) (eq-eqb t (suc b) e) (ap (arrive l) (omega arith))
-  insDoor-in b l j (t ∷ ts) (suc k) m h e = put-tail (eqb t (suc b)) (arrive l m) (arrive l j) (insDoor arrive b l (suc j) ts) (insDoor-in b l (suc j) ts k m (omega arith) e)
+  ins_door-in : (b : ℕ) (l : A) (j : ℕ) (ts : Outs) (k m : ℕ) → j + k ≡ m → get_or ts k 0 ≡ suc b → Among (arrive l m) (ins_door arrive b l j ts)
+  unfolding ins_door
+  ins_door-in b l j [] k m h e = absurd (omega arith)
+  ins_door-in b l j (t ∷ ts) zero m h e = put_in (eqb t (suc b)) (arrive l m) (arrive l j) (ins_door arrive b l (suc j) ts) (eq-eqb t (suc b) e) (ap (arrive l) (omega arith))
+  ins_door-in b l j (t ∷ ts) (suc k) m h e = put-tail (eqb t (suc b)) (arrive l m) (arrive l j) (ins_door arrive b l (suc j) ts) (ins_door-in b l (suc j) ts k m (omega arith) e)
 
   pub ins-in : (b : ℕ) (labs : List (Option A)) (L : Layer) (a j : ℕ) (l : A) → target (node L a) j ≡ suc b → get_or labs a None ≡ Some l → Among (arrive l j) (ins arrive b labs L)
   unfolding ins
@@ -87,8 +87,8 @@ module _ {A : Type 0} (arrive : A → ℕ → A) (merge : A → A → A) where
   ins-in b (Some l' ∷ labs) (nd ∷ L) zero zero l e g = absurd (omega arith)
   ins-in b (Some l' ∷ labs) (nd ∷ L) zero (suc k) l e g =
       let x : l' ≡ l = cc in
-      among-left (arrive l (suc k)) (insDoor arrive b l' 1 nd) (ins arrive b labs L) (rw (← x) (insDoor-in b l' 1 nd k (suc k) (omega arith) e))
-  ins-in b (Some l' ∷ labs) (nd ∷ L) (suc a) j l e g = among-right (arrive l j) (insDoor arrive b l' 1 nd) (ins arrive b labs L) (ins-in b labs L a j l e g)
+      among-left (arrive l (suc k)) (ins_door arrive b l' 1 nd) (ins arrive b labs L) (rw (← x) (ins_door-in b l' 1 nd k (suc k) (omega arith) e))
+  ins-in b (Some l' ∷ labs) (nd ∷ L) (suc a) j l e g = among-right (arrive l j) (ins_door arrive b l' 1 nd) (ins arrive b labs L) (ins-in b labs L a j l e g)
 
 module _ {A : Type 0} (merge : A → A → A) (R : A → A → Type 0) (R-refl : (x : A) → R x x) (R-trans : (x y z : A) → R x y → R y z → R x z)
     (left : (x y : A) → R x (merge x y)) (right : (x y : A) → R y (merge x y)) where
@@ -123,7 +123,7 @@ module _ {A : Type 0} (merge : A → A → A) (R : A → A → Type 0) (R-refl :
       rw x (inl (ap (climb u) y))
   outs-in climb us u j (t ∷ ts) (suc k) m b h e g = more (read us t) (outs-in climb us u (suc j) ts k m b (omega arith) e g)
     where
-      more : (o : Option A) → Among (climb u m) (outs climb us (suc j) ts) → Among (climb u m) (consO climb j o (outs climb us (suc j) ts))
+      more : (o : Option A) → Among (climb u m) (outs climb us (suc j) ts) → Among (climb u m) (cons_if_some climb j o (outs climb us (suc j) ts))
       more None i = i
       more (Some l) i = inr i
 
@@ -137,13 +137,13 @@ module _ {A : Type 0} (merge : A → A → A) (R : A → A → Type 0) (R-refl :
       (q.0, get_or-map (λ nd. gather merge (outs climb us 1 nd)) L a [] None (has-arc L a (suc k) b e) ∙ q.1, q.2)
 
 -- ---- tidying
-pub mark-next : (fr : List (Option Mark)) (L : Layer) (count a j b : ℕ) → target (node L a) j ≡ suc b → get_or fr a None ≡ Some tt → b < count → get_or (marksNext fr L count) b None ≡ Some tt
-unfolding marksNext
+pub mark-next : (fr : List (Option Mark)) (L : Layer) (count a j b : ℕ) → target (node L a) j ≡ suc b → get_or fr a None ≡ Some tt → b < count → get_or (marks_next fr L count) b None ≡ Some tt
+unfolding marks_next
 mark-next fr L count a j b e g h =
     let q = next-at {A = Mark} (λ x y. tt) (λ x y. Unit {0}) (λ x. tt) (λ x y z p q. tt) (λ x y. tt) (λ x y. tt) (λ m k. tt) fr L count a j b tt e g h in q.1
 
-mark-up : (Ls : Net) (a : ℕ) (w : List ℕ) → Path-from Ls a w → get_or (marksUp Ls) a None ≡ Some tt
-unfolding marksUp
+mark-up : (Ls : Net) (a : ℕ) (w : List ℕ) → PathFrom Ls a w → get_or (marks_up Ls) a None ≡ Some tt
+unfolding marks_up
 mark-up [] a [] p = unfold up in ap (λ (x : ℕ). get_or {A = Option Mark} (Some tt ∷ []) x None) p
 mark-up [] a (j ∷ w) p = absurd p
 mark-up (L ∷ Ls) a [] p = absurd p
@@ -176,33 +176,33 @@ pub renumber-at : (fs : List Bool) (b : ℕ) → get_or fs b false ≡ true → 
 unfolding renumber
 renumber-at fs b e = rw e
 
-tidy-from : (fr : List (Option Mark)) (Ls : Net) (a : ℕ) (w : List ℕ) → get_or fr a None ≡ Some tt → Path-from Ls a w → Path-from (tidy fr Ls) (rank (flags fr (marksUp Ls)) a) w
+tidy-from : (fr : List (Option Mark)) (Ls : Net) (a : ℕ) (w : List ℕ) → get_or fr a None ≡ Some tt → PathFrom Ls a w → PathFrom (tidy fr Ls) (rank (flags fr (marks_up Ls)) a) w
 unfolding tidy
-tidy-from fr [] a [] g p = ap (rank (flags fr (marksUp []))) p ∙ rank-zero (flags fr (marksUp []))
+tidy-from fr [] a [] g p = ap (rank (flags fr (marks_up []))) p ∙ rank-zero (flags fr (marks_up []))
 tidy-from fr [] a (j ∷ w) g p = absurd p
 tidy-from fr (L ∷ Ls) a [] g p = absurd p
 tidy-from fr (L ∷ Ls) a (j ∷ w) g p =
     let b = p.0 in
-    let fr' = marksNext fr L (width Ls) in
+    let fr' = marks_next fr L (width Ls) in
     let g' = mark-next fr L (width Ls) a j b p.1 g (inside Ls b w p.2) in
-    let fs = flags fr' (marksUp Ls) in
-    let here = flags-at fr (marksUp (L ∷ Ls)) a g (mark-up (L ∷ Ls) a (j ∷ w) p) in
-    let there = flags-at fr' (marksUp Ls) b g' (mark-up Ls b w p.2) in (
+    let fs = flags fr' (marks_up Ls) in
+    let here = flags-at fr (marks_up (L ∷ Ls)) a g (mark-up (L ∷ Ls) a (j ∷ w) p) in
+    let there = flags-at fr' (marks_up Ls) b g' (mark-up Ls b w p.2) in (
       rank fs b,
-      rw (compress-at (flags fr (marksUp (L ∷ Ls))) (redirect (λ x y c. renumber fs c) L) a here) (redirect-arc (λ x y c. renumber fs c) L a j b p.1 ∙ renumber-at fs b there),
+      rw (compress-at (flags fr (marks_up (L ∷ Ls))) (redirect (λ x y c. renumber fs c) L) a here) (redirect-arc (λ x y c. renumber fs c) L a j b p.1 ∙ renumber-at fs b there),
       tidy-from fr' Ls b w g' p.2,
     )
 
-pub tidy-keeps : (Ls : Net) (w : List ℕ) → Path-from Ls 0 w → Path-from (tidied Ls) 0 w
+pub tidy-keeps : (Ls : Net) (w : List ℕ) → PathFrom Ls 0 w → PathFrom (tidied Ls) 0 w
 unfolding tidied
 tidy-keeps [] w p = p
 tidy-keeps (L ∷ Ls) [] p = absurd p
 tidy-keeps (L ∷ Ls) (j ∷ w) p =
     let b = p.0 in
-    let fr = marksNext (Some tt ∷ []) L (width Ls) in
-    let fs = flags fr (marksUp Ls) in
+    let fr = marks_next (Some tt ∷ []) L (width Ls) in
+    let fs = flags fr (marks_up Ls) in
     let g = mark-next (Some tt ∷ []) L (width Ls) 0 j b p.1 refl (inside Ls b w p.2) in
-    let there = flags-at fr (marksUp Ls) b g (mark-up Ls b w p.2) in
+    let there = flags-at fr (marks_up Ls) b g (mark-up Ls b w p.2) in
     (rank fs b, redirect-arc (λ x y c. renumber fs c) L 0 j b p.1 ∙ renumber-at fs b there, tidy-from fr Ls b w g p.2)
 
 -- ---- where an arrival comes from
@@ -229,13 +229,13 @@ module _ {A : Type 0} (arrive : A → ℕ → A) where
   put-from true x y r (inr i) = inr i
   put-from false x y r i = inr i
 
-  insDoor-from : (b : ℕ) (l x : A) (j : ℕ) (ts : Outs) → Among x (insDoor arrive b l j ts) → (k : ℕ) × (get_or ts k 0 ≡ suc b) × (x ≡ arrive l (j + k))
-  unfolding insDoor
-  insDoor-from b l x j [] i = absurd i
-  insDoor-from b l x j (t ∷ ts) i = go (put-from (eqb t (suc b)) x (arrive l j) (insDoor arrive b l (suc j) ts) i) (λ h. insDoor-from b l x (suc j) ts h)
+  ins_door-from : (b : ℕ) (l x : A) (j : ℕ) (ts : Outs) → Among x (ins_door arrive b l j ts) → (k : ℕ) × (get_or ts k 0 ≡ suc b) × (x ≡ arrive l (j + k))
+  unfolding ins_door
+  ins_door-from b l x j [] i = absurd i
+  ins_door-from b l x j (t ∷ ts) i = go (put-from (eqb t (suc b)) x (arrive l j) (ins_door arrive b l (suc j) ts) i) (λ h. ins_door-from b l x (suc j) ts h)
     where
-      go : ((eqb t (suc b) ≡ true) × (x ≡ arrive l j)) ⊎ Among x (insDoor arrive b l (suc j) ts)
-          → (Among x (insDoor arrive b l (suc j) ts) → (k : ℕ) × (get_or ts k 0 ≡ suc b) × (x ≡ arrive l (suc j + k)))
+      go : ((eqb t (suc b) ≡ true) × (x ≡ arrive l j)) ⊎ Among x (ins_door arrive b l (suc j) ts)
+          → (Among x (ins_door arrive b l (suc j) ts) → (k : ℕ) × (get_or ts k 0 ≡ suc b) × (x ≡ arrive l (suc j + k)))
           → (k : ℕ) × (get_or (t ∷ ts) k 0 ≡ suc b) × (x ≡ arrive l (j + k))
       go (inl h) f = (0, eqb-true t (suc b) h.0, h.1 ∙ ap (arrive l) (omega arith))
       go (inr h) f = let q = f h in (suc q.0, q.1, q.2 ∙ ap (arrive l) (omega arith))
@@ -246,10 +246,10 @@ module _ {A : Type 0} (arrive : A → ℕ → A) where
   ins-from b (o ∷ labs) [] x i = absurd i
   ins-from b (None ∷ labs) (nd ∷ L) x i =
       let q = ins-from b labs L x i in record { source = suc q.source; door = q.door; label = q.label; arc = q.arc; labelled = q.labelled; is = q.is }
-  ins-from b (Some l ∷ labs) (nd ∷ L) x i = go (among-split x (insDoor arrive b l 1 nd) (ins arrive b labs L) i) (λ h. ins-from b labs L x h)
+  ins-from b (Some l ∷ labs) (nd ∷ L) x i = go (among-split x (ins_door arrive b l 1 nd) (ins arrive b labs L) i) (λ h. ins-from b labs L x h)
     where
-      go : Among x (insDoor arrive b l 1 nd) ⊎ Among x (ins arrive b labs L) → (Among x (ins arrive b labs L) → From arrive b labs L x) → From arrive b (Some l ∷ labs) (nd ∷ L) x
-      go (inl h) f = let q = insDoor-from b l x 1 nd h in
+      go : Among x (ins_door arrive b l 1 nd) ⊎ Among x (ins arrive b labs L) → (Among x (ins arrive b labs L) → From arrive b labs L x) → From arrive b (Some l ∷ labs) (nd ∷ L) x
+      go (inl h) f = let q = ins_door-from b l x 1 nd h in
           record { source = 0; door = suc q.0; label = l; arc = q.1; labelled = refl; is = q.2 ∙ ap (arrive l) (omega arith) }
       go (inr h) f = let q = f h in record { source = suc q.source; door = q.door; label = q.label; arc = q.arc; labelled = q.labelled; is = q.is }
 
@@ -306,7 +306,7 @@ outs-from {A} climb us x j (t ∷ ts) i = go t (read us t) refl i (λ h. outs-fr
     later : (t : ℕ) → Climbs climb us (suc j) ts x → Climbs climb us j (t ∷ ts) x
     later t c = record { skip = suc c.skip; to = c.to; label = c.label; arc = c.arc; labelled = c.labelled; is = c.is ∙ ap (climb c.label) (omega arith) }
 
-    go : (t : ℕ) (o : Option A) → read us t ≡ o → Among x (consO climb j o (outs climb us (suc j) ts)) → (Among x (outs climb us (suc j) ts) → Climbs climb us (suc j) ts x) → Climbs climb us j (t ∷ ts) x
+    go : (t : ℕ) (o : Option A) → read us t ≡ o → Among x (cons_if_some climb j o (outs climb us (suc j) ts)) → (Among x (outs climb us (suc j) ts) → Climbs climb us (suc j) ts x) → Climbs climb us j (t ∷ ts) x
     go t None e i f = later t (f i)
     go zero (Some u) e i f = absurd cc
     go (suc b) (Some u) e (inl h) f = record { skip = 0; to = b; label = u; arc = refl; labelled = e; is = h ∙ ap (climb u) (omega arith) }

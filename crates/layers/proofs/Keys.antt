@@ -6,8 +6,8 @@ use Rattle.round.specs.declared.table.Round.{Round}
 use Rattle.round.specs.Clock.{finish}
 use Rattle.rules.specs.Rules.{RuleLaws, RuleSense}
 use Rattle.tallies.specs.Tallies.{TallySense}
-use Rattle.layers.specs.Flow.{Layer, Net, node, target, width, redirect, ins, Mark, marksNext, marksUp, flags, rank, compress, renumber, tidy, tidied, Tied}
-use Rattle.layers.specs.Labels.{one, leg, ups, Lab, first, firsts, arrive, merge, labelsNext, barred, agree, agreeAll, agreeing, headO, leaves}
+use Rattle.layers.specs.Flow.{Layer, Net, node, target, width, redirect, ins, Mark, marks_next, marks_up, flags, rank, compress, renumber, tidy, tidied, Tied}
+use Rattle.layers.specs.Labels.{one, leg, ups, Lab, first, firsts, arrive, merge, labels_next, barred, agree, agree_all, agreeing, first_arrival, leaves}
 use Rattle.layers.proofs.Flows.{Among, has-arc, ins-from, next-some, gather-all, compress-at}
 use Rattle.layers.proofs.Ways.{length-snoc}
 use Rattle.layers.proofs.Model.{sweeps, sweep, part_at, agreed, agrees}
@@ -52,20 +52,20 @@ was-node gs X c j b e =
     let z : unrank gs c ≡ q.0 = ap (unrank gs) (sym q.2) ∙ unrank-rank gs q.0 q.1 in
     rw (z, ← (compress-at gs X q.0 q.1), q.2) e
 
-sub-tidy : (fr : List (Option Mark)) (Ls : Net) → Sub (unrank (flags fr (marksUp Ls))) (tidy fr Ls) Ls
+sub-tidy : (fr : List (Option Mark)) (Ls : Net) → Sub (unrank (flags fr (marks_up Ls))) (tidy fr Ls) Ls
 unfolding tidy
 sub-tidy fr [] = tt
 sub-tidy fr (L ∷ Ls) =
-    let fs = flags (marksNext fr L (width Ls)) (marksUp Ls) in
-    let gs = flags fr (marksUp (L ∷ Ls)) in
-    (unrank fs, (λ a j b e. was-arc fs L (unrank gs a) j b (was-node gs (redirect (λ a j b. renumber fs b) L) a j b e)), sub-tidy (marksNext fr L (width Ls)) Ls)
+    let fs = flags (marks_next fr L (width Ls)) (marks_up Ls) in
+    let gs = flags fr (marks_up (L ∷ Ls)) in
+    (unrank fs, (λ a j b e. was-arc fs L (unrank gs a) j b (was-node gs (redirect (λ a j b. renumber fs b) L) a j b e)), sub-tidy (marks_next fr L (width Ls)) Ls)
 
 sub-tidied : (Ls : Net) → Sub (λ a. a) (tidied Ls) Ls
 unfolding tidied
 sub-tidied [] = tt
 sub-tidied (L ∷ Ls) =
-    let fr = marksNext (Some tt ∷ []) L (width Ls) in
-    let fs = flags fr (marksUp Ls) in
+    let fr = marks_next (Some tt ∷ []) L (width Ls) in
+    let fs = flags fr (marks_up Ls) in
     (unrank fs, (λ a j b e. was-arc fs L a j b e), sub-tidy fr Ls)
 
 tied-tail : (L : Layer) (Ls : Net) → Tied (L ∷ Ls) → Tied Ls
@@ -77,7 +77,7 @@ module _ {S V : Type 0} (r : Round) (rule : RuleSense S) (tally : TallySense V) 
   sub-sweeps : (i : ℕ) (labs : List (Option (Lab r rule tally))) (Ls : Net) → Sub (λ a. a) (sweeps r rule tally i labs Ls) Ls
   unfolding sweeps
   sub-sweeps i labs [] = tt
-  sub-sweeps i labs (L ∷ Ls) = (λ b. b, stays, sub-sweeps (suc i) (labelsNext r rule tally labs L (width Ls)) Ls)
+  sub-sweeps i labs (L ∷ Ls) = (λ b. b, stays, sub-sweeps (suc i) (labels_next r rule tally labs L (width Ls)) Ls)
     where
       f : ℕ → ℕ → ℕ → ℕ
       f a j b = cond (barred r rule tally i (suc (length Ls)) j (get_or labs a None) (get_or (ups Ls) b None)) 0 (suc b)
@@ -108,7 +108,7 @@ module _ {S V : Type 0} (r : Round) (rule : RuleSense S) (tally : TallySense V) 
       g-old c h = ap (λ (q : Bool). cond q a c) (ne_eqb c (length M) (λ e. omega arith))
 
       h : Option (Lab r rule tally)
-      h = headO r rule tally (ins (arrive r rule tally) a labs L)
+      h = first_arrival r rule tally (ins (arrive r rule tally) a labs L)
 
       f : ℕ → ℕ → ℕ → ℕ
       f u j b = cond (eqb b a && leaves r rule tally h (get_or labs u None) j) (suc (length M)) (suc b)
@@ -128,7 +128,7 @@ module _ {S V : Type 0} (r : Round) (rule : RuleSense S) (tally : TallySense V) 
             | inl q ↦ rw ((g-old c q.0), ← q.1) e
             | inr q ↦ rw ((ap g q.0 ∙ g-new), ← q.1) e
           ]
-  sub_part (suc d) a labs (L ∷ Ls) t = (λ b. b, λ x j b e. e, sub_part d a (labelsNext r rule tally labs L (width Ls)) Ls (tied-tail L Ls t))
+  sub_part (suc d) a labs (L ∷ Ls) t = (λ b. b, λ x j b e. e, sub_part d a (labels_next r rule tally labs L (width Ls)) Ls (tied-tail L Ls t))
 
 module _ {S V : Type 0} {Keeps : List ℕ → Type 0} {Stands : S → List ℕ → Type 0} (r : Round) (rule : RuleSense S) (ruled : RuleLaws r.n rule Keeps Stands) (tally : TallySense V) where
   -- ---- labels that agree in all but the value
@@ -146,7 +146,7 @@ module _ {S V : Type 0} {Keeps : List ℕ → Type 0} {Stands : S → List ℕ �
       let q = and_parts (eqb x.some y.some) _ p.1 in
       let s = and_parts (eqb x.finish y.finish) _ q.1 in
       let t = and_parts (eqb x.lasts y.lasts) _ s.1 in
-      record { all = eqb-true x.all y.all p.0; some = eqb-true x.some y.some q.0; finish = eqb-true x.finish y.finish s.0; lasts = eqb-true x.lasts y.lasts t.0; state = ruled.same-is x.state y.state t.1 }
+      record { all = eqb-true x.all y.all p.0; some = eqb-true x.some y.some q.0; finish = eqb-true x.finish y.finish s.0; lasts = eqb-true x.lasts y.lasts t.0; state = ruled.same_is x.state y.state t.1 }
 
   yes-agree : (x y : Lab r rule tally) → Agree x y → agree r rule tally x y ≡ true
   unfolding agree
@@ -168,7 +168,7 @@ module _ {S V : Type 0} {Keeps : List ℕ → Type 0} {Stands : S → List ℕ �
     some = sym (or_self x.some) ∙ ap (λ (t : ℕ). bit_or t x.some) p.some ∙ ap (bit_or y.some) q.some;
     finish = omega (arith, p.finish, q.finish);
     lasts = sym (or_self x.lasts) ∙ ap (λ (t : ℕ). bit_or t x.lasts) p.lasts ∙ ap (bit_or y.lasts) q.lasts;
-    state = sym (ruled.cover-same x.state) ∙ ap (λ (t : S). rule.cover t x.state) p.state ∙ ap (rule.cover y.state) q.state;
+    state = sym (ruled.cover_same x.state) ∙ ap (λ (t : S). rule.cover t x.state) p.state ∙ ap (rule.cover y.state) q.state;
   }
 
   pub agree-arrive : (x y : Lab r rule tally) (j : ℕ) → Agree x y → Agree (arrive r rule tally x j) (arrive r rule tally y j)
@@ -182,14 +182,14 @@ module _ {S V : Type 0} {Keeps : List ℕ → Type 0} {Stands : S → List ℕ �
   }
 
   -- a list of arrivals agrees if any two do
-  all_yes : (x : Lab r rule tally) (l : List (Lab r rule tally)) → agreeAll r rule tally x l ≡ true → (y : Lab r rule tally) → Among y l → Agree x y
-  unfolding agreeAll
+  all_yes : (x : Lab r rule tally) (l : List (Lab r rule tally)) → agree_all r rule tally x l ≡ true → (y : Lab r rule tally) → Among y l → Agree x y
+  unfolding agree_all
   all_yes x [] e y i = absurd i
-  all_yes x (z ∷ l) e y (inl f) = rw f (agree-yes x z (and_parts (agree r rule tally x z) (agreeAll r rule tally x l) e).0)
-  all_yes x (z ∷ l) e y (inr i) = all_yes x l (and_parts (agree r rule tally x z) (agreeAll r rule tally x l) e).1 y i
+  all_yes x (z ∷ l) e y (inl f) = rw f (agree-yes x z (and_parts (agree r rule tally x z) (agree_all r rule tally x l) e).0)
+  all_yes x (z ∷ l) e y (inr i) = all_yes x l (and_parts (agree r rule tally x z) (agree_all r rule tally x l) e).1 y i
 
-  yes-all : (x : Lab r rule tally) (l : List (Lab r rule tally)) → ((y : Lab r rule tally) → Among y l → Agree x y) → agreeAll r rule tally x l ≡ true
-  unfolding agreeAll
+  yes-all : (x : Lab r rule tally) (l : List (Lab r rule tally)) → ((y : Lab r rule tally) → Among y l → Agree x y) → agree_all r rule tally x l ≡ true
+  unfolding agree_all
   yes-all x [] f = refl
   yes-all x (y ∷ l) f = rw (yes-agree x y (f y (inl refl))) (yes-all x l (λ z i. f z (inr i)))
 
@@ -252,8 +252,8 @@ module _ {S V : Type 0} {Keeps : List ℕ → Type 0} {Stands : S → List ℕ �
         let p = agree-arrive (K f.source) f.label f.door (fit f.source f.label f.labelled) in
         rw f.is (agree-back (arrive r rule tally (K f.source) f.door) (K' b) (arrive r rule tally f.label f.door) (on f.source f.door b f.arc) p)
 
-    pub fit_next : (count : ℕ) → Fit (labelsNext r rule tally labs L count) K'
-    unfolding labelsNext
+    pub fit_next : (count : ℕ) → Fit (labels_next r rule tally labs L count) K'
+    unfolding labels_next
     fit_next count b m e = gather-all (merge r rule tally) (Agree (K' b)) (agree-merge (K' b)) (ins (arrive r rule tally) b labs L) m (arrival-fits b) (next-some (arrive r rule tally) (merge r rule tally) labs L count b m e)
 
     agreed-keyed : (k : ℕ) → agreed r rule tally labs L k ≡ true
@@ -267,7 +267,7 @@ module _ {S V : Type 0} {Keeps : List ℕ → Type 0} {Stands : S → List ℕ �
   agrees-keyed i K labs (L ∷ []) h fit k = refl
   agrees-keyed zero K labs (L ∷ M ∷ Ls) h fit k = absurd (omega arith)
   agrees-keyed (suc i) K labs (L ∷ M ∷ Ls) h fit k =
-      rw (agreed-keyed labs K k.0 fit L k.1 (length M)) (agrees-keyed i k.0 (labelsNext r rule tally labs L (length M)) (M ∷ Ls) (omega arith) (fit_next labs K k.0 fit L k.1 (length M)) k.2)
+      rw (agreed-keyed labs K k.0 fit L k.1 (length M)) (agrees-keyed i k.0 (labels_next r rule tally labs L (length M)) (M ∷ Ls) (omega arith) (fit_next labs K k.0 fit L k.1 (length M)) k.2)
 
   pub keyed-agrees : (i : ℕ) (Ls : Net) → length Ls ≤ suc i → KeyedTo i Ls → agrees r rule tally (firsts r rule tally) Ls ≡ true
   keyed-agrees i Ls h k = agrees-keyed i (λ a. first r rule tally) (firsts r rule tally) Ls h fit-first k

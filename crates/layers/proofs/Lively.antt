@@ -4,8 +4,8 @@ use Rattle.round.specs.declared.table.Round.{Round}
 use Rattle.rules.specs.Rules.{RuleSense}
 use Rattle.tallies.specs.Tallies.{TallySense}
 use Rattle.layers.specs.declared.node.Up.{Up}
-use Rattle.layers.specs.Flow.{table, Layer, Net, node, width, Path-from, redirect, up, Mark, marksNext, marksUp, flags, compress, renumber, tidy, tidied, moved, bothOut, joinAt, Led, Tied, Roomy}
-use Rattle.layers.specs.Labels.{Lab, arrive, merge, labelsNext, climb, mergeUp, noUp, ups, allDoors}
+use Rattle.layers.specs.Flow.{table, Layer, Net, node, width, PathFrom, redirect, up, Mark, marks_next, marks_up, flags, compress, renumber, tidy, tidied, moved, both_out, join_at, Led, Tied, Roomy}
+use Rattle.layers.specs.Labels.{Lab, arrive, merge, labels_next, climb, merge_up, no_up, ups, all_doors}
 use Rattle.layers.proofs.Ways.{length-snoc}
 use Rattle.layers.proofs.Flows.{next-at, up_at, has-arc}
 use Rattle.layers.proofs.Model.{sweeps, cuts, part_at}
@@ -25,24 +25,24 @@ module _ (W : ℕ) where
   unfolding tidy
   roomy-tidy fr [] h = tt
   roomy-tidy fr (L ∷ Ls) h = (
-    compress-short (flags fr (marksUp (L ∷ Ls))) (redirect (λ a j b. renumber (flags (marksNext fr L (width Ls)) (marksUp Ls)) b) L) W
-        (omega (arith, h.0, redirect-length (λ a j b. renumber (flags (marksNext fr L (width Ls)) (marksUp Ls)) b) L)),
-    roomy-tidy (marksNext fr L (width Ls)) Ls h.1,
+    compress-short (flags fr (marks_up (L ∷ Ls))) (redirect (λ a j b. renumber (flags (marks_next fr L (width Ls)) (marks_up Ls)) b) L) W
+        (omega (arith, h.0, redirect-length (λ a j b. renumber (flags (marks_next fr L (width Ls)) (marks_up Ls)) b) L)),
+    roomy-tidy (marks_next fr L (width Ls)) Ls h.1,
   )
 
   pub roomy-tidied : (Ls : Net) → Roomy W Ls → Roomy W (tidied Ls)
   unfolding tidied
   roomy-tidied [] h = tt
   roomy-tidied (L ∷ Ls) h =
-      (omega (arith, h.0, redirect-length (λ a j b. renumber (flags (marksNext (Some tt ∷ []) L (width Ls)) (marksUp Ls)) b) L), roomy-tidy (marksNext (Some tt ∷ []) L (width Ls)) Ls h.1)
+      (omega (arith, h.0, redirect-length (λ a j b. renumber (flags (marks_next (Some tt ∷ []) L (width Ls)) (marks_up Ls)) b) L), roomy-tidy (marks_next (Some tt ∷ []) L (width Ls)) Ls h.1)
 
-  pub roomy-join : (d lo hi : ℕ) (Ls : Net) → hi < length (get_or Ls (suc d) []) → Roomy W Ls → Roomy W (joinAt d lo hi Ls)
-  unfolding joinAt
+  pub roomy-join : (d lo hi : ℕ) (Ls : Net) → hi < length (get_or Ls (suc d) []) → Roomy W Ls → Roomy W (join_at d lo hi Ls)
+  unfolding join_at
   roomy-join zero lo hi [] k h = h
   roomy-join (suc d) lo hi [] k h = h
   roomy-join zero lo hi (L ∷ []) k h = h
   roomy-join zero lo hi (L ∷ M ∷ Ls) k h =
-      let v = bothOut (node M lo) (node M hi) in
+      let v = both_out (node M lo) (node M hi) in
       (omega (arith, h.0, redirect-length (λ a j b. suc (moved lo hi b)) L), (omega (arith, h.1.0, drop-length hi (set M lo v) (omega (arith, length-set M lo v)), length-set M lo v), h.1.1))
   roomy-join (suc d) lo hi (L ∷ Ls) k h = (h.0, roomy-join d lo hi Ls k h.1)
 
@@ -50,12 +50,12 @@ module _ {S V : Type 0} (r : Round) (rule : RuleSense S) (tally : TallySense V) 
   pub roomy-sweeps : (i : ℕ) (labs : List (Option (Lab r rule tally))) (Ls : Net) → Roomy W Ls → Roomy W (sweeps r rule tally i labs Ls)
   unfolding sweeps
   roomy-sweeps i labs [] h = tt
-  roomy-sweeps i labs (L ∷ Ls) h = (simp redirect-length h.0, roomy-sweeps (suc i) (labelsNext r rule tally labs L (width Ls)) Ls h.1)
+  roomy-sweeps i labs (L ∷ Ls) h = (simp redirect-length h.0, roomy-sweeps (suc i) (labels_next r rule tally labs L (width Ls)) Ls h.1)
 
   pub roomy-cuts : (c : V) (labs : List (Option (Lab r rule tally))) (Ls : Net) → Roomy W Ls → Roomy W (cuts r rule tally c labs Ls)
   unfolding cuts
   roomy-cuts c labs [] h = tt
-  roomy-cuts c labs (L ∷ Ls) h = (simp redirect-length h.0, roomy-cuts c (labelsNext r rule tally labs L (width Ls)) Ls h.1)
+  roomy-cuts c labs (L ∷ Ls) h = (simp redirect-length h.0, roomy-cuts c (labels_next r rule tally labs L (width Ls)) Ls h.1)
 
   pub roomy-part : (d a : ℕ) (labs : List (Option (Lab r rule tally))) (Ls : Net) → length (get_or Ls (suc d) []) < W → Roomy W Ls → Roomy W (part_at r rule tally d a labs Ls)
   unfolding part_at
@@ -63,16 +63,16 @@ module _ {S V : Type 0} (r : Round) (rule : RuleSense S) (tally : TallySense V) 
   roomy-part (suc d) a labs [] k h = h
   roomy-part zero a labs (L ∷ []) k h = h
   roomy-part zero a labs (L ∷ M ∷ Ls) k h = (simp redirect-length h.0, (omega (arith, length-snoc M (node M a)), h.1.1))
-  roomy-part (suc d) a labs (L ∷ Ls) k h = (h.0, roomy-part d a (labelsNext r rule tally labs L (width Ls)) Ls k h.1)
+  roomy-part (suc d) a labs (L ∷ Ls) k h = (h.0, roomy-part d a (labels_next r rule tally labs L (width Ls)) Ls k h.1)
 
-  pub roomy-open : (k : ℕ) → Roomy W (table k (λ i. allDoors r rule tally ∷ []))
+  pub roomy-open : (k : ℕ) → Roomy W (table k (λ i. all_doors r rule tally ∷ []))
   roomy-open zero = tt
   roomy-open (suc k) = (w, roomy-open k)
 
   -- so every node has a label, from below and from above
   pub labels_full : (labs : List (Option (Lab r rule tally))) (L M : Layer) (Ls : Net) → Tied (L ∷ M ∷ Ls) → ((a : ℕ) → a < length L → (l : Lab r rule tally) × (get_or labs a None ≡ Some l))
-      → (b : ℕ) → b < length M → (m : Lab r rule tally) × (get_or (labelsNext r rule tally labs L (length M)) b None ≡ Some m)
-  unfolding labelsNext
+      → (b : ℕ) → b < length M → (m : Lab r rule tally) × (get_or (labels_next r rule tally labs L (length M)) b None ≡ Some m)
+  unfolding labels_next
   labels_full labs L M Ls t f b h =
       let s = t.1 b h in
       let l = f s.0 (has-arc L s.0 s.1 b s.2) in
@@ -84,16 +84,16 @@ unfolding ups
 ups-full M [] led t a h =
     let s = led a h in
     let z : s.1 ≡ 0 = omega (arith, t a s.0 s.1 s.2) in
-    let q = up_at {A = Up} mergeUp (λ x y. Unit {0}) (λ x. tt) (λ x y z f g. tt) (λ x y. tt) (λ x y. tt) climb noUp M [] a s.0 s.1 noUp s.2 (unfold up in ap (λ (k : ℕ). get_or {A = Option Up} (Some noUp ∷ []) k None) z) in
+    let q = up_at {A = Up} merge_up (λ x y. Unit {0}) (λ x. tt) (λ x y z f g. tt) (λ x y. tt) (λ x y. tt) climb no_up M [] a s.0 s.1 no_up s.2 (unfold up in ap (λ (k : ℕ). get_or {A = Option Up} (Some no_up ∷ []) k None) z) in
     (q.0, q.1)
 ups-full M (N ∷ Ls) led t a h =
     let s = led a h in
     let x = ups-full N Ls t.2 t.3 s.1 (t.0 a s.0 s.1 s.2) in
-    let q = up_at {A = Up} mergeUp (λ x y. Unit {0}) (λ x. tt) (λ x y z f g. tt) (λ x y. tt) (λ x y. tt) climb noUp M (N ∷ Ls) a s.0 s.1 x.0 s.2 x.1 in
+    let q = up_at {A = Up} merge_up (λ x y. Unit {0}) (λ x. tt) (λ x y z f g. tt) (λ x y. tt) (λ x y. tt) climb no_up M (N ∷ Ls) a s.0 s.1 x.0 s.2 x.1 in
     (q.0, q.1)
 
 -- ---- from each node there is a way on to the end
-pub way_on : (M : Layer) (Ls : Net) → Led M → Tied (M ∷ Ls) → (a : ℕ) → a < length M → (w : List ℕ) × Path-from (M ∷ Ls) a w
+pub way_on : (M : Layer) (Ls : Net) → Led M → Tied (M ∷ Ls) → (a : ℕ) → a < length M → (w : List ℕ) × PathFrom (M ∷ Ls) a w
 way_on M [] led t a h = let s = led a h in (s.0 ∷ [], (s.1, s.2, omega (arith, t a s.0 s.1 s.2)))
 way_on M (N ∷ Ls) led t a h =
     let s = led a h in let x = way_on N Ls t.2 t.3 s.1 (t.0 a s.0 s.1 s.2) in (s.0 ∷ x.0, (s.1, s.2, x.1))

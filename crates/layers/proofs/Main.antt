@@ -6,11 +6,11 @@ use Rattle.rules.specs.Rules.{RuleLaws, RuleSense}
 use Rattle.tallies.specs.Tallies.{TallyLaws, TallySense}
 use Rattle.orders.specs.Allowed.{Allowed}
 use Rattle.layers.specs.declared.node.Node.{Node}
-use Rattle.layers.specs.Flow.{Net, Path-from, seeks}
+use Rattle.layers.specs.Flow.{Net, PathFrom, seeks}
 use Rattle.layers.specs.Labels.{opened}
 use Rattle.layers.specs.Records.{laid}
 use Rattle.layers.specs.Calls.{Call, arcs, relaid, bound, must, settled}
-use Rattle.layers.specs.Claim.{IsPath, Must-means, Nothing-lost, Nothing-false, Kept, Worked-out, Settled-means}
+use Rattle.layers.specs.Claim.{IsPath, MustMeans, NothingLost, NothingFalse, Kept, WorkedOut, SettledMeans}
 use Rattle.layers.proofs.Model.{after, bound as boundOf, must as mustOf, settled as settled_of}
 use Rattle.layers.proofs.Calls.{still, bound-below}
 use Rattle.layers.proofs.Seeks.{seen, sought, all_there, one-ahead}
@@ -29,11 +29,11 @@ module _ {S V : Type 0} {Keeps : List ℕ → Type 0} {Stands : S → List ℕ �
   well = proper-after r rule ruled.same_self tally W w1 cs (opened r rule tally) (proper-opened r rule tally W w1)
 
   -- from the records to the arcs and back
-  on-path : (w : List ℕ) → Path-from D 0 w → IsPath r.n W Y w
-  on-path w = subst (λ (A : Net). Path-from A 0 w) (sym (arcs-X r rule ruled.same_self tally W w1 later D well))
+  on-path : (w : List ℕ) → PathFrom D 0 w → IsPath r.n W Y w
+  on-path w = subst (λ (A : Net). PathFrom A 0 w) (sym (arcs-X r rule ruled.same_self tally W w1 later D well))
 
-  off-path : (w : List ℕ) → IsPath r.n W Y w → Path-from D 0 w
-  off-path w = subst (λ (A : Net). Path-from A 0 w) (arcs-X r rule ruled.same_self tally W w1 later D well)
+  off-path : (w : List ℕ) → IsPath r.n W Y w → PathFrom D 0 w
+  off-path w = subst (λ (A : Net). PathFrom A 0 w) (arcs-X r rule ruled.same_self tally W w1 later D well)
 
   of-bound : (o : Option V) → bound r.n W Y ≡ o → boundOf r rule tally D ≡ o
   of-bound o e = sym (bound-X r rule ruled.same_self tally W w1 later D well) ∙ e
@@ -41,42 +41,42 @@ module _ {S V : Type 0} {Keeps : List ℕ → Type 0} {Stands : S → List ℕ �
   of-must : (i j : ℕ) (q : Bool) → must r.n W i j Y ≡ q → mustOf r rule tally i j D ≡ q
   of-must i j q e = sym (must-X r rule ruled.same_self tally W w1 later i j D well) ∙ e
 
-  none-lost : Nothing-lost r rule Keeps tally W cs Y
+  none-lost : NothingLost r rule Keeps tally W cs Y
   unfolding mustOf
   none-lost = record {
     still = λ w o. on-path w (still r rule ruled tally tallied W w o.0 cs o.1).1;
     low = λ w v o e. let s = still r rule ruled tally tallied W w o.0 cs o.1 in let b = bound-below r rule ruled tally tallied w D o.0 s.0 s.1 in let e' = of-bound (Some v) e in
         let x : b.0 ≡ v = cc (b.1, e') in rw (← x) b.2;
-    low-none = λ e w o. let s = still r rule ruled tally tallied W w o.0 cs o.1 in let b = bound-below r rule ruled tally tallied w D o.0 s.0 s.1 in let e' = of-bound None e in
+    low_none = λ e w o. let s = still r rule ruled tally tallied W w o.0 cs o.1 in let b = bound-below r rule ruled tally tallied w D o.0 s.0 s.1 in let e' = of-bound None e in
         let z : ◌≡◌ {A = ℕ} 0 1 = cc (b.1, e') in omega arith;
-    must-yes = λ i j di dj ne e w o. let s = still r rule ruled tally tallied W w o.0 cs o.1 in
+    must_yes = λ i j di dj ne e w o. let s = still r rule ruled tally tallied W w o.0 cs o.1 in
         elim (one-ahead i j w ne (all_there r.n w o.0.whole o.0.part i di) (all_there r.n w o.0.whole o.0.part j dj)) [
           | inl h ↦ h
           | inr h ↦ absurd (true≢false (sym (seen D j i w s.1 h) ∙ not-true (seeks D 0 (j ∷ i ∷ [])) (of-must i j true e)))
         ];
   }
 
-  none-false : settled r rule tally W Y ≡ true → Nothing-false r rule Keeps tally W cs Y
+  none-false : settled r rule tally W Y ≡ true → NothingFalse r rule Keeps tally W cs Y
   unfolding mustOf
   none-false s =
       let sh = shape-after r rule tally W cs in
       let s' : settled_of r rule tally D ≡ true = sym (settled-X r rule ruled.same_self tally W w1 later D well) ∙ s in
-      let ok : (w : List ℕ) → Path-from D 0 w → Allowed r Keeps w = λ w q. paths-allowed r rule ruled tally tallied D w sh.1 sh.0 s' q in
+      let ok : (w : List ℕ) → PathFrom D 0 w → Allowed r Keeps w = λ w q. paths-allowed r rule ruled tally tallied D w sh.1 sh.0 s' q in
       record {
         allowed = λ w q. ok w (off-path w q);
         least = λ v e. let b = bound-attained r rule ruled tally tallied D v sh.1 sh.0 s' (of-bound (Some v) e) in (b.0, on-path b.0 b.1, b.2);
-        least-of = λ v e w q. let b = bound-below r rule ruled tally tallied w D (ok w (off-path w q)) sh.0 (off-path w q) in let e' = of-bound (Some v) e in let x : b.0 ≡ v = cc (b.1, e') in rw (← x) b.2;
-        least-none = λ e w q. let b = bound-below r rule ruled tally tallied w D (ok w (off-path w q)) sh.0 (off-path w q) in let e' = of-bound None e in let z : ◌≡◌ {A = ℕ} 0 1 = cc (b.1, e') in omega arith;
-        must-no = λ i j e. let b = sought D j i (not-false (seeks D 0 (j ∷ i ∷ [])) (of-must i j false e)) in (b.0, on-path b.0 b.1, b.2);
+        least_of = λ v e w q. let b = bound-below r rule ruled tally tallied w D (ok w (off-path w q)) sh.0 (off-path w q) in let e' = of-bound (Some v) e in let x : b.0 ≡ v = cc (b.1, e') in rw (← x) b.2;
+        least_none = λ e w q. let b = bound-below r rule ruled tally tallied w D (ok w (off-path w q)) sh.0 (off-path w q) in let e' = of-bound None e in let z : ◌≡◌ {A = ℕ} 0 1 = cc (b.1, e') in omega arith;
+        must_no = λ i j e. let b = sought D j i (not-false (seeks D 0 (j ∷ i ∷ [])) (of-must i j false e)) in (b.0, on-path b.0 b.1, b.2);
       }
 
 pub kept : {S V : Type 0} {Keeps : List ℕ → Type 0} {Stands : S → List ℕ → Type 0} {Allows : ℕ → V → Type 0} (A B : ℕ → Type 0) (rule : RuleSense S) (tally : TallySense V)
     → ((n : ℕ) → A n → RuleLaws n rule Keeps Stands) → ((n : ℕ) → B n → TallyLaws n tally Allows) → Kept A rule Keeps B tally
 kept {Keeps} A B rule tally ruled tallied r e f W a b lent cs =
     let x = ruled r.n e in let y = tallied r.n f in let l = drop (r.n * W + 1) lent in
-    rw (run-opened r rule x.same_self tally W a lent cs) (record { nothing-lost = none-lost r rule x tally y W a l cs; nothing_false = none-false r rule x tally y W a l cs })
+    rw (run-opened r rule x.same_self tally W a lent cs) (record { nothing_lost = none-lost r rule x tally y W a l cs; nothing_false = none-false r rule x tally y W a l cs })
 
-pub worked-out : {S V : Type 0} {Keeps : List ℕ → Type 0} {Stands : S → List ℕ → Type 0} (A : ℕ → Type 0) (rule : RuleSense S) (tally : TallySense V) → ((n : ℕ) → A n → RuleLaws n rule Keeps Stands) → Worked-out A rule tally
+pub worked-out : {S V : Type 0} {Keeps : List ℕ → Type 0} {Stands : S → List ℕ → Type 0} (A : ℕ → Type 0) (rule : RuleSense S) (tally : TallySense V) → ((n : ℕ) → A n → RuleLaws n rule Keeps Stands) → WorkedOut A rule tally
 unfolding relaid
 worked-out A rule tally ruled r e W a b lent cs =
     let x = ruled r.n e in let l = drop (r.n * W + 1) lent in let o = run-opened r rule x.same_self tally W a lent cs in
@@ -84,14 +84,14 @@ worked-out A rule tally ruled r e W a b lent cs =
     let p = proper-after r rule x.same_self tally W a cs (opened r rule tally) (proper-opened r rule tally W a) in
     o ∙ ap (λ (z : Net). laid r rule tally W z ++ l) (sym (ap (arcs r.n W) o ∙ arcs-X r rule x.same_self tally W a l D p))
 
-pub settled-means : {S V : Type 0} {Keeps : List ℕ → Type 0} {Stands : S → List ℕ → Type 0} (A : ℕ → Type 0) (rule : RuleSense S) (tally : TallySense V) → ((n : ℕ) → A n → RuleLaws n rule Keeps Stands) → Settled-means A rule tally
+pub settled-means : {S V : Type 0} {Keeps : List ℕ → Type 0} {Stands : S → List ℕ → Type 0} (A : ℕ → Type 0) (rule : RuleSense S) (tally : TallySense V) → ((n : ℕ) → A n → RuleLaws n rule Keeps Stands) → SettledMeans A rule tally
 settled-means {S} {V} A rule tally ruled r e W a b lent cs =
     let x = ruled r.n e in let l = drop (r.n * W + 1) lent in
     let D = after r rule tally W cs (opened r rule tally) in
     let p = proper-after r rule x.same_self tally W a cs (opened r rule tally) (proper-opened r rule tally W a) in
     rw (run-opened r rule x.same_self tally W a lent cs) (settled-means-X r rule x.same_self tally W a l D p)
 
-pub must-means : {S V : Type 0} (n W i j : ℕ) (xs : List (Node S V)) → Must-means n W i j xs (must n W i j xs)
+pub must-means : {S V : Type 0} (n W i j : ℕ) (xs : List (Node S V)) → MustMeans n W i j xs (must n W i j xs)
 unfolding must
 must-means n W i j xs = record {
   yes = λ e w p h. both_ways (seeks (arcs n W xs) 0 (j ∷ i ∷ [])) (not-true (seeks (arcs n W xs) 0 (j ∷ i ∷ [])) e) (seen (arcs n W xs) j i w p h);

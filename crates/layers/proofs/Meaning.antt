@@ -5,11 +5,11 @@ use Rattle.round.specs.declared.table.Round.{Round}
 use Rattle.rules.specs.Rules.{RuleLaws, RuleSense}
 use Rattle.tallies.specs.Tallies.{TallyLaws, TallySense}
 use Rattle.layers.specs.declared.node.Node.{Node}
-use Rattle.layers.specs.Flow.{Net, width, Path-from, up, Tied}
-use Rattle.layers.specs.Labels.{Lab, firsts, labelsNext, noUp, ups, opened}
-use Rattle.layers.specs.Records.{standing, padded, orNoUp, orBlank, place}
+use Rattle.layers.specs.Flow.{Net, width, PathFrom, up, Tied}
+use Rattle.layers.specs.Labels.{Lab, firsts, labels_next, no_up, ups, opened}
+use Rattle.layers.specs.Records.{standing, padded, or_no_up, or_blank, place}
 use Rattle.layers.specs.Calls.{arcs, layer}
-use Rattle.layers.specs.LabelLaws.{Leads-to, Labelled, Labels-mean}
+use Rattle.layers.specs.LabelLaws.{LeadsTo, Labelled, LabelsMean}
 use Rattle.layers.proofs.Flows.{table_at}
 use Rattle.layers.proofs.Model.{after}
 use Rattle.layers.proofs.Walk.{Neat, Good}
@@ -21,7 +21,7 @@ use Rattle.layers.proofs.Standing.{Well, X, full, nodes-X, arcs-X, run-opened}
 use Rattle.layers.proofs.Means.{Tells, all-exact, some-exact, owed-at, tells_at, good-at, up-exact}
 
 -- after the first layer a path leads on from each node
-leads-at : (D : Net) (i a : ℕ) → Tied D → 1 ≤ i → i ≤ length D → a < width (drop i D) → (w : List ℕ) × Path-from (drop i D) a w
+leads-at : (D : Net) (i a : ℕ) → Tied D → 1 ≤ i → i ≤ length D → a < width (drop i D) → (w : List ℕ) × PathFrom (drop i D) a w
 leads-at D zero a t lo hi h = absurd (omega arith)
 leads-at [] (suc i) a t lo hi h = absurd (not-suc-le-zero hi)
 leads-at (L ∷ []) (suc zero) a t lo hi h = ([], omega arith)
@@ -36,14 +36,14 @@ module _ {S V : Type 0} {Keeps : List ℕ → Type 0} {Stands : S → List ℕ �
     label : Lab r rule tally
     labelled : get_or labs a None ≡ Some label
     down : x.label.down ≡ label
-    up : x.label.up ≡ orNoUp (get_or (ups Ls) a None)
+    up : x.label.up ≡ or_no_up (get_or (ups Ls) a None)
 
   top-at : (labs : Labs r rule tally W w1) (Ls : Net) (a : ℕ) (other : Node S V) → Full r rule tally W w1 labs Ls → a < length (top r rule tally W w1 labs Ls)
       → Stands-at labs Ls a (get_or (top r rule tally W w1 labs Ls) a other)
   top-at labs [] a other f h = go (get_or labs 0 None) refl h
     where
       P : Option (Lab r rule tally) → Node S V
-      P o = record { arcs = record { to = padded [] }; label = record { down = orBlank r rule tally o; up = noUp } }
+      P o = record { arcs = record { to = padded [] }; label = record { down = or_blank r rule tally o; up = no_up } }
 
       one : (a : ℕ) (l : Lab r rule tally) → get_or labs 0 None ≡ Some l → a < 1 → Stands-at labs [] a (get_or (P (Some l) ∷ []) a other)
       one zero l e k = record { inner = k; label = l; labelled = e; down = refl; up = unfold ups up in refl }
@@ -59,18 +59,18 @@ module _ {S V : Type 0} {Keeps : List ℕ → Type 0} {Stands : S → List ℕ �
       let k : a < length L = omega (arith, table-long (length L) F) in
       let x = f.0.filled.there a k in
       let e = table_at (length L) a F other k in
-      record { inner = k; label = x.0; labelled = x.1; down = rw e (ap (orBlank r rule tally) x.1); up = ap (λ (y : Node S V). y.label.up) e }
+      record { inner = k; label = x.0; labelled = x.1; down = rw e (ap (or_blank r rule tally) x.1); up = ap (λ (y : Node S V). y.label.up) e }
 
   -- the same in layer d
   full_at : (d : ℕ) (labs : Labs r rule tally W w1) (Ls : Net) → d ≤ length Ls → Full r rule tally W w1 labs Ls → Full r rule tally W w1 (labsAt r rule tally W w1 d labs Ls) (drop d Ls)
   full_at zero labs Ls h f = f
   full_at (suc d) labs [] h f = absurd (not-suc-le-zero h)
-  full_at (suc d) labs (L ∷ Ls) h f = full_at d (labelsNext r rule tally labs L (width Ls)) Ls (le_of_suc-le-suc h) f.1
+  full_at (suc d) labs (L ∷ Ls) h f = full_at d (labels_next r rule tally labs L (width Ls)) Ls (le_of_suc-le-suc h) f.1
 
   stood-top : (d : ℕ) (labs : Labs r rule tally W w1) (Ls : Net) → d ≤ length Ls → get_or (stood r rule tally W w1 labs Ls) d [] ≡ top r rule tally W w1 (labsAt r rule tally W w1 d labs Ls) (drop d Ls)
   stood-top zero labs Ls h = refl
   stood-top (suc d) labs [] h = absurd (not-suc-le-zero h)
-  stood-top (suc d) labs (L ∷ Ls) h = stood-top d (labelsNext r rule tally labs L (width Ls)) Ls (le_of_suc-le-suc h)
+  stood-top (suc d) labs (L ∷ Ls) h = stood-top d (labels_next r rule tally labs L (width Ls)) Ls (le_of_suc-le-suc h)
 
   module _ {Allows : ℕ → V → Type 0} (tallied : TallyLaws r.n tally Allows) where
     -- on the arcs
@@ -78,15 +78,15 @@ module _ {S V : Type 0} {Keeps : List ℕ → Type 0} {Stands : S → List ℕ �
         → Stands-at (labsAt r rule tally W w1 i (firsts r rule tally) D) (drop i D) a x → Labelled Allows D i a x
     labelled later D p neat i a x h s =
         let o = owed-at r rule ruled tally W w1 D i h a s.label s.labelled in
-        let t : (w : List ℕ) → Leads-to D i a w → Tells s.label.all s.label.some w =
+        let t : (w : List ℕ) → LeadsTo D i a w → Tells s.label.all s.label.some w =
         λ w q. let y = tells_at r rule ruled tally W w1 D p.tied i h a w q in let e : y.0 ≡ s.label = cc (y.1, s.labelled) in rw (← e) y.2 in
         let g : Allows i s.label.value × (s.label.finish ≤ latest i) = unfold Good in good-at r rule ruled tally W w1 D tallied (omega (arith, p.deep, r.most)) neat i h a s.label s.labelled in
         let u = up-exact (drop i D) a in
         record {
           reached = o.way;
           leads = λ lo. leads-at D i a p.tied lo h s.inner;
-          all = rw s.down (all-exact s.label.all s.label.some (Leads-to D i a) o t);
-          some = rw s.down (some-exact s.label.all s.label.some (Leads-to D i a) o t);
+          all = rw s.down (all-exact s.label.all s.label.some (LeadsTo D i a) o t);
+          some = rw s.down (some-exact s.label.all s.label.some (LeadsTo D i a) o t);
           allup = rw s.up u.0;
           someup = rw s.up u.1;
           finish = rw s.down g.1;
@@ -107,7 +107,7 @@ module _ {S V : Type 0} {Keeps : List ℕ → Type 0} {Stands : S → List ℕ �
         rw ((arcs-X r rule ruled.same_self tally W w1 later D p), e) (labelled later D p neat i a (get_or (top r rule tally W w1 labs (drop i D)) a other) h' s)
 
 pub labels-mean : {S V : Type 0} {Keeps : List ℕ → Type 0} {Stands : S → List ℕ → Type 0} {Allows : ℕ → V → Type 0} (A B : ℕ → Type 0) (rule : RuleSense S) (tally : TallySense V)
-    → ((n : ℕ) → A n → RuleLaws n rule Keeps Stands) → ((n : ℕ) → B n → TallyLaws n tally Allows) → Labels-mean A rule B tally Allows
+    → ((n : ℕ) → A n → RuleLaws n rule Keeps Stands) → ((n : ℕ) → B n → TallyLaws n tally Allows) → LabelsMean A rule B tally Allows
 labels-mean {S} {V} {Allows} A B rule tally ruled tallied r e f W lo hi lent cs =
     let x = ruled r.n e in let y = tallied r.n f in let l = drop (r.n * W + 1) lent in
     let D = after r rule tally W cs (opened r rule tally) in

@@ -9,10 +9,10 @@ use Rattle.round.specs.declared.table.Round.{Round}
 use Rattle.rules.specs.Rules.{RuleLaws, RuleSense}
 use Rattle.tallies.specs.Tallies.{TallyLaws, TallySense}
 use Rattle.layers.specs.declared.node.Up.{Up}
-use Rattle.layers.specs.Flow.{Layer, Net, node, target, width, Path-from, ins, gather, outs, up, Ranged, Tied}
-use Rattle.layers.specs.Labels.{one, climb, mergeUp, noUp, ups, Lab, first, arrive, merge, firsts, labelsNext}
-use Rattle.layers.specs.Records.{orNoUp}
-use Rattle.layers.specs.LabelLaws.{Path-to, Leads-to, On-every, On-one, Exactly}
+use Rattle.layers.specs.Flow.{Layer, Net, node, target, width, PathFrom, ins, gather, outs, up, Ranged, Tied}
+use Rattle.layers.specs.Labels.{one, climb, merge_up, no_up, ups, Lab, first, arrive, merge, firsts, labels_next}
+use Rattle.layers.specs.Records.{or_no_up}
+use Rattle.layers.specs.LabelLaws.{PathTo, LeadsTo, OnEvery, OnOne, Exactly}
 use Rattle.doors.proofs.Orders.{in_left}
 use Rattle.layers.proofs.Flows.{Climbs, outs-from, map-some, From, ins-from, next-some, next-at, gather-all}
 use Rattle.layers.proofs.Sets.{or_left, or_right, or_split, and_left, and_right, one-self, one_only, none_has}
@@ -28,17 +28,17 @@ and_both a b j x y = true-has (bit_and a b) j (omega (arith, digit_and a b j, ha
 pub record Owed (all some : ℕ) (P : List ℕ → Type 0) : Type 0 where
   pub way : (w : List ℕ) × P w
   pub all-if : (j : ℕ) → ((w : List ℕ) → P w → In j w) → has all j ≡ true
-  pub some-from : (j : ℕ) → has some j ≡ true → On-one P j
+  pub some-from : (j : ℕ) → has some j ≡ true → OnOne P j
 
 -- what the path w has is told by the label
 pub record Tells (all some : ℕ) (w : List ℕ) : Type 0 where
   pub all_in : (j : ℕ) → has all j ≡ true → In j w
   pub in_some : (j : ℕ) → In j w → has some j ≡ true
 
-pub all-exact : (all some : ℕ) (P : List ℕ → Type 0) → Owed all some P → ((w : List ℕ) → P w → Tells all some w) → Exactly all (On-every P)
+pub all-exact : (all some : ℕ) (P : List ℕ → Type 0) → Owed all some P → ((w : List ℕ) → P w → Tells all some w) → Exactly all (OnEvery P)
 all-exact all some P o t j = (λ h. (o.way, λ w p. (t w p).all_in j (true-has all j h)), λ h. has-true all j (o.all-if j h.1))
 
-pub some-exact : (all some : ℕ) (P : List ℕ → Type 0) → Owed all some P → ((w : List ℕ) → P w → Tells all some w) → Exactly some (On-one P)
+pub some-exact : (all some : ℕ) (P : List ℕ → Type 0) → Owed all some P → ((w : List ℕ) → P w → Tells all some w) → Exactly some (OnOne P)
 some-exact all some P o t j = (λ h. o.some-from j (true-has some j h), λ h. has-true some j ((t h.0 h.1).in_some j h.2))
 
 owed-merge : (a s a' s' : ℕ) (P : List ℕ → Type 0) → Owed a s P → Owed a' s' P → Owed (bit_and a a') (bit_or s s') P
@@ -84,7 +84,7 @@ tells-step a s k more w l t = record {
 }
 
 -- ---- paths to a node
-path-push : (D : Net) (x a k b : ℕ) (p : List ℕ) → Path-to D x p a → target (node (get_or D (length p) []) a) k ≡ suc b → Path-to D x (p ++ (k ∷ [])) b
+path-push : (D : Net) (x a k b : ℕ) (p : List ℕ) → PathTo D x p a → target (node (get_or D (length p) []) a) k ≡ suc b → PathTo D x (p ++ (k ∷ [])) b
 path-push [] x a zero b [] q e = absurd (omega arith)
 path-push [] x a (suc k) b [] q e = absurd (omega arith)
 path-push [] x a k b (j ∷ p) q e = absurd q
@@ -97,11 +97,11 @@ record Last (D : Net) (x d b : ℕ) (w : List ℕ) : Type 0 where
   door : ℕ
   source : ℕ
   is : w ≡ before ++ (door ∷ [])
-  path : Path-to D x before source
+  path : PathTo D x before source
   long : length before ≡ d
   arc : target (node (get_or D d []) source) door ≡ suc b
 
-path-last : (D : Net) (x d b : ℕ) (w : List ℕ) → Path-to D x w b → length w ≡ suc d → Last D x d b w
+path-last : (D : Net) (x d b : ℕ) (w : List ℕ) → PathTo D x w b → length w ≡ suc d → Last D x d b w
 path-last D x d b [] q e = absurd (omega arith)
 path-last [] x d b (j ∷ w) q e = absurd q
 path-last (L ∷ Ls) x zero b (j ∷ []) q e = record { before = []; door = j; source = x; is = refl; path = refl; long = refl; arc = q.1 ∙ ap suc q.2 }
@@ -128,15 +128,15 @@ module _ {S V : Type 0} {Keeps : List ℕ → Type 0} {Stands : S → List ℕ �
   At d D = labsAt r rule tally W w1 d (firsts r rule tally) D
 
   labs-step : (d : ℕ) (labs : Labs r rule tally W w1) (Ls : Net) → d < length Ls
-      → labsAt r rule tally W w1 (suc d) labs Ls ≡ labelsNext r rule tally (labsAt r rule tally W w1 d labs Ls) (get_or Ls d []) (width (drop (suc d) Ls))
+      → labsAt r rule tally W w1 (suc d) labs Ls ≡ labels_next r rule tally (labsAt r rule tally W w1 d labs Ls) (get_or Ls d []) (width (drop (suc d) Ls))
   labs-step d labs [] h = absurd (not-suc-le-zero h)
   labs-step zero labs (L ∷ Ls) h = refl
-  labs-step (suc d) labs (L ∷ Ls) h = labs-step d (labelsNext r rule tally labs L (width Ls)) Ls (le_of_suc-le-suc h)
+  labs-step (suc d) labs (L ∷ Ls) h = labs-step d (labels_next r rule tally labs L (width Ls)) Ls (le_of_suc-le-suc h)
 
   module _ (D : Net) where
     -- a label is owed to the paths to its node
-    pub owed-at : (d : ℕ) → d ≤ length D → (a : ℕ) (l : Lab r rule tally) → get_or (At d D) a None ≡ Some l → Owed l.all l.some (Leads-to D d a)
-    unfolding labelsNext arrive merge
+    pub owed-at : (d : ℕ) → d ≤ length D → (a : ℕ) (l : Lab r rule tally) → get_or (At d D) a None ≡ Some l → Owed l.all l.some (LeadsTo D d a)
+    unfolding labels_next arrive merge
     owed-at zero h zero l e =
         let x : first r rule tally ≡ l = cc in
         rw (← x) (record { way = ([], (refl, refl)); all-if = λ j f. absurd (f [] (refl, refl)); some-from = λ j g. absurd (none_has j g) })
@@ -144,22 +144,22 @@ module _ {S V : Type 0} {Keeps : List ℕ → Type 0} {Stands : S → List ℕ �
     owed-at (suc d) h b m e =
         let L = get_or D d [] in
         let n = width (drop (suc d) D) in
-        let e' : get_or (labelsNext r rule tally (At d D) L n) b None ≡ Some m = ap (λ (z : Labs r rule tally W w1). get_or z b None) (sym (labs-step d (firsts r rule tally) D h)) ∙ e in
-        gather-all (merge r rule tally) (λ x. Owed x.all x.some (Leads-to D (suc d) b))
-        (λ x y p q. owed-merge x.all x.some y.all y.some (Leads-to D (suc d) b) p q)
+        let e' : get_or (labels_next r rule tally (At d D) L n) b None ≡ Some m = ap (λ (z : Labs r rule tally W w1). get_or z b None) (sym (labs-step d (firsts r rule tally) D h)) ∙ e in
+        gather-all (merge r rule tally) (λ x. Owed x.all x.some (LeadsTo D (suc d) b))
+        (λ x y p q. owed-merge x.all x.some y.all y.some (LeadsTo D (suc d) b) p q)
         (ins (arrive r rule tally) b (At d D) L) m
         (λ x i. let f = ins-from (arrive r rule tally) b (At d D) L x i in each x f (owed-at d (omega arith) f.source f.label f.labelled))
         (next-some (arrive r rule tally) (merge r rule tally) (At d D) L n b m e')
       where
-        each : (x : Lab r rule tally) (f : From (arrive r rule tally) b (At d D) (get_or D d []) x) → Owed f.label.all f.label.some (Leads-to D d f.source) → Owed x.all x.some (Leads-to D (suc d) b)
+        each : (x : Lab r rule tally) (f : From (arrive r rule tally) b (At d D) (get_or D d []) x) → Owed f.label.all f.label.some (LeadsTo D d f.source) → Owed x.all x.some (LeadsTo D (suc d) b)
         each x f o =
-            rw f.is (owed-step f.label.all f.label.some f.door (Leads-to D d f.source) (Leads-to D (suc d) b) (λ w. w ++ (f.door ∷ [])) (at_back f.door)
+            rw f.is (owed-step f.label.all f.label.some f.door (LeadsTo D d f.source) (LeadsTo D (suc d) b) (λ w. w ++ (f.door ∷ [])) (at_back f.door)
             (λ w q. (path-push D 0 f.source f.door b w q.0 (rw q.1 f.arc), length-snoc w f.door ∙ ap suc q.1))
             o)
 
     -- a path to a node is told by its label
-    pub tells_at : Tied D → (d : ℕ) → d ≤ length D → (a : ℕ) (w : List ℕ) → Leads-to D d a w → (l : Lab r rule tally) × (get_or (At d D) a None ≡ Some l) × Tells l.all l.some w
-    unfolding labelsNext arrive merge
+    pub tells_at : Tied D → (d : ℕ) → d ≤ length D → (a : ℕ) (w : List ℕ) → LeadsTo D d a w → (l : Lab r rule tally) × (get_or (At d D) a None ≡ Some l) × Tells l.all l.some w
+    unfolding labels_next arrive merge
     tells_at t zero h a [] q = (first r rule tally, ap (λ (z : ℕ). get_or (firsts r rule tally) z None) (sym q.0), record { all_in = λ j g. absurd (none_has j g); in_some = λ j i. absurd i })
     tells_at t zero h a (j ∷ w) q = absurd (omega (arith, q.1))
     tells_at t (suc d) h b w q =
@@ -183,42 +183,42 @@ module _ {S V : Type 0} {Keeps : List ℕ → Type 0} {Stands : S → List ℕ �
         rw (labs-step d (firsts r rule tally) D h) (good-next r rule ruled tally tallied d (At d D) (get_or D d []) (width (drop (suc d) D)) (omega arith) (good-at tallied k s d (omega arith)) (neat-at r.n D d s h))
 
 -- ---- upward
-ups-node : (L : Layer) (Ls : Net) (a : ℕ) (u : Up) → get_or (ups (L ∷ Ls)) a None ≡ Some u → gather mergeUp (outs climb (ups Ls) 1 (node L a)) ≡ Some u
+ups-node : (L : Layer) (Ls : Net) (a : ℕ) (u : Up) → get_or (ups (L ∷ Ls)) a None ≡ Some u → gather merge_up (outs climb (ups Ls) 1 (node L a)) ≡ Some u
 unfolding ups up
-ups-node L Ls a u e = map-some (λ nd. gather mergeUp (outs climb (ups Ls) 1 nd)) L a u e
+ups-node L Ls a u e = map-some (λ nd. gather merge_up (outs climb (ups Ls) 1 nd)) L a u e
 
-owed-up : (Ls : Net) (a : ℕ) (u : Up) → get_or (ups Ls) a None ≡ Some u → Owed u.allup u.someup (Path-from Ls a)
+owed-up : (Ls : Net) (a : ℕ) (u : Up) → get_or (ups Ls) a None ≡ Some u → Owed u.allup u.someup (PathFrom Ls a)
 owed-up [] zero u e =
-    let x : noUp ≡ u = unfold ups up in cc in
+    let x : no_up ≡ u = unfold ups up in cc in
     rw (← x) (record { way = ([], refl); all-if = λ j f. absurd (f [] refl); some-from = λ j g. absurd (none_has j g) })
 owed-up [] (suc a) u e = absurd (unfold ups up in cc)
 owed-up (L ∷ Ls) a u e =
-    gather-all mergeUp (λ x. Owed x.allup x.someup (Path-from (L ∷ Ls) a))
-    (λ x y p q. owed-merge x.allup x.someup y.allup y.someup (Path-from (L ∷ Ls) a) p q)
+    gather-all merge_up (λ x. Owed x.allup x.someup (PathFrom (L ∷ Ls) a))
+    (λ x y p q. owed-merge x.allup x.someup y.allup y.someup (PathFrom (L ∷ Ls) a) p q)
     (outs climb (ups Ls) 1 (node L a)) u
     (λ x i. let c = outs-from climb (ups Ls) x 1 (node L a) i in each x c (owed-up Ls c.to c.label c.labelled))
     (ups-node L Ls a u e)
   where
-    each : (x : Up) (c : Climbs climb (ups Ls) 1 (node L a) x) → Owed c.label.allup c.label.someup (Path-from Ls c.to) → Owed x.allup x.someup (Path-from (L ∷ Ls) a)
+    each : (x : Up) (c : Climbs climb (ups Ls) 1 (node L a) x) → Owed c.label.allup c.label.someup (PathFrom Ls c.to) → Owed x.allup x.someup (PathFrom (L ∷ Ls) a)
     each x c o =
         let k = suc c.skip in
         let is : x ≡ climb c.label k = c.is ∙ ap (climb c.label) (omega arith) in
-        rw is (owed-step c.label.allup c.label.someup k (Path-from Ls c.to) (Path-from (L ∷ Ls) a) (λ w. k ∷ w) (at_front k) (λ w q. (c.to, c.arc, q)) o)
+        rw is (owed-step c.label.allup c.label.someup k (PathFrom Ls c.to) (PathFrom (L ∷ Ls) a) (λ w. k ∷ w) (at_front k) (λ w q. (c.to, c.arc, q)) o)
 
-tells-up : (Ls : Net) (a : ℕ) (u : Up) → get_or (ups Ls) a None ≡ Some u → (w : List ℕ) → Path-from Ls a w → Tells u.allup u.someup w
+tells-up : (Ls : Net) (a : ℕ) (u : Up) → get_or (ups Ls) a None ≡ Some u → (w : List ℕ) → PathFrom Ls a w → Tells u.allup u.someup w
 tells-up Ls a u e w p =
     let q = path-up Ls a w p in
     let x : q.0 ≡ u = cc q.1 in
     rw (← x) (record { all_in = q.2.all; in_some = q.2.some })
 
 -- the sets of a node, also of one from which no path leads to the end
-pub up-exact : (Ls : Net) (a : ℕ) → let u = orNoUp (get_or (ups Ls) a None) in Exactly u.allup (On-every (Path-from Ls a)) × Exactly u.someup (On-one (Path-from Ls a))
+pub up-exact : (Ls : Net) (a : ℕ) → let u = or_no_up (get_or (ups Ls) a None) in Exactly u.allup (OnEvery (PathFrom Ls a)) × Exactly u.someup (OnOne (PathFrom Ls a))
 up-exact Ls a = go (get_or (ups Ls) a None) refl
   where
-    go : (o : Option Up) → get_or (ups Ls) a None ≡ o → Exactly (orNoUp o).allup (On-every (Path-from Ls a)) × Exactly (orNoUp o).someup (On-one (Path-from Ls a))
+    go : (o : Option Up) → get_or (ups Ls) a None ≡ o → Exactly (or_no_up o).allup (OnEvery (PathFrom Ls a)) × Exactly (or_no_up o).someup (OnOne (PathFrom Ls a))
     go None e =
-        let no : (w : List ℕ) → Path-from Ls a w → ⊥ = λ w p. let q = path-up Ls a w p in let z : ◌≡◌ {A = ℕ} 0 1 = cc q.1 in omega arith in
+        let no : (w : List ℕ) → PathFrom Ls a w → ⊥ = λ w p. let q = path-up Ls a w p in let z : ◌≡◌ {A = ℕ} 0 1 = cc q.1 in omega arith in
         (λ j. (λ h. absurd (none_has j (true-has 0 j h)), λ h. absurd (no h.0.0 h.0.1)), λ j. (λ h. absurd (none_has j (true-has 0 j h)), λ h. absurd (no h.0 h.1)))
     go (Some u) e =
         let o = owed-up Ls a u e in let t = tells-up Ls a u e in
-        (all-exact u.allup u.someup (Path-from Ls a) o t, some-exact u.allup u.someup (Path-from Ls a) o t)
+        (all-exact u.allup u.someup (PathFrom Ls a) o t, some-exact u.allup u.someup (PathFrom Ls a) o t)

@@ -4,7 +4,7 @@ use Rattle.std.proofs.lemmas.Bool.{eq-eqb, ne_eqb}
 use Rattle.std.proofs.lemmas.List.{drop-drop, drop_more}
 use Rattle.layers.specs.declared.node.Node.{Node}
 use Rattle.layers.specs.Records.{standing, layers}
-use Rattle.layers.specs.Calls.{bound, valueIn}
+use Rattle.layers.specs.Calls.{bound, value_in}
 
 module _ {S V : Type 0} (W : ℕ) where
   pub layer-at : (n i : ℕ) (xs : List (Node S V)) → i < n → get_or (layers W n xs) i [] ≡ standing (take W (drop (i * W) xs))
@@ -20,9 +20,9 @@ module _ {S V : Type 0} (W : ℕ) where
 pub bound_at : {S V : Type 0} (n W : ℕ) (xs : List (Node S V)) (d : Node S V) → n * W < length xs
     → bound n W xs ≡ cond (eqb (get_or xs (n * W) d).label.down.lasts 0) None (Some (get_or xs (n * W) d).label.down.value)
 unfolding bound
-bound_at {S} {V} n W xs d h = ap valueIn (end-at W n xs ∙ ap (λ (ys : List (Node S V)). standing (take 1 ys)) (drop_more xs (n * W) d h)) ∙ go (eqb (get_or xs (n * W) d).label.down.lasts 0)
+bound_at {S} {V} n W xs d h = ap value_in (end-at W n xs ∙ ap (λ (ys : List (Node S V)). standing (take 1 ys)) (drop_more xs (n * W) d h)) ∙ go (eqb (get_or xs (n * W) d).label.down.lasts 0)
   where
-    go : (q : Bool) → valueIn (cond (not q) (get_or xs (n * W) d ∷ []) []) ≡ cond q None (Some (get_or xs (n * W) d).label.down.value)
+    go : (q : Bool) → value_in (cond (not q) (get_or xs (n * W) d ∷ []) []) ≡ cond q None (Some (get_or xs (n * W) d).label.down.value)
     go true = refl
     go false = refl
 

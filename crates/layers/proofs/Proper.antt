@@ -3,14 +3,14 @@ use Rattle.std.proofs.Common.{◌≡◌, ℕ, zero, suc, ◌<◌, ◌≤◌, Boo
 use Rattle.round.specs.declared.table.Round.{Round}
 use Rattle.rules.specs.Rules.{RuleSense}
 use Rattle.tallies.specs.Tallies.{TallySense}
-use Rattle.layers.specs.Flow.{table, Outs, Layer, Net, node, width, eachNode, redirect, ins, Mark, marksNext, marksUp, flags, compress, renumber, tidy, tidied, dropAt, moved, bothOut, clash, joinAt, Tied, Roomy, Lawful}
-use Rattle.layers.specs.Labels.{Lab, firsts, arrive, labelsNext, agreeing, opened, allDoors}
-use Rattle.layers.specs.Calls.{Call, partedAt}
+use Rattle.layers.specs.Flow.{table, Outs, Layer, Net, node, width, each_node, redirect, ins, Mark, marks_next, marks_up, flags, compress, renumber, tidy, tidied, without_at, moved, both_out, clash, join_at, Tied, Roomy, Lawful}
+use Rattle.layers.specs.Labels.{Lab, firsts, arrive, labels_next, agreeing, opened, all_doors}
+use Rattle.layers.specs.Calls.{Call, parted_at}
 use Rattle.layers.proofs.Ways.{length-snoc}
 use Rattle.layers.proofs.Flows.{Among, among-split}
-use Rattle.layers.proofs.Model.{oneGroup, parted, refines, sweeps, sweep, cuts, cut, part_at, after}
+use Rattle.layers.proofs.Model.{one_group, parted, refines, sweeps, sweep, cuts, cut, part_at, after}
 use Rattle.layers.proofs.Walk.{node-among}
-use Rattle.layers.proofs.Shapes.{eachDoor-length}
+use Rattle.layers.proofs.Shapes.{each_door-length}
 use Rattle.layers.proofs.Calls.{safe-after, safe-parted, safe-refines}
 use Rattle.layers.proofs.Exact.{any-cut, tidied-length, join-length, part_length, sweeps-length, cuts-length}
 use Rattle.layers.proofs.Tied.{redirect-length, tidied-tied}
@@ -30,10 +30,10 @@ module _ (n : ℕ) where
   even-of [] h = tt
   even-of (L ∷ Ls) h = (λ a k. h.0 (node L a) (node-among L a k), even-of Ls h.1)
 
-  even-each : (f : ℕ → ℕ → ℕ → ℕ) (c : ℕ) (L : Layer) → EvenLayer n L → EvenLayer n (eachNode f c L)
-  unfolding eachNode
+  even-each : (f : ℕ → ℕ → ℕ → ℕ) (c : ℕ) (L : Layer) → EvenLayer n L → EvenLayer n (each_node f c L)
+  unfolding each_node
   even-each f c [] h nd i = absurd i
-  even-each f c (x ∷ L) h nd (inl e) = rw e (eachDoor-length (f c) 1 x ∙ h x (inl refl))
+  even-each f c (x ∷ L) h nd (inl e) = rw e (each_door-length (f c) 1 x ∙ h x (inl refl))
   even-each f c (x ∷ L) h nd (inr i) = even-each f (suc c) L (λ y k. h y (inr k)) nd i
 
   pub even-redirect : (f : ℕ → ℕ → ℕ → ℕ) (L : Layer) → EvenLayer n L → EvenLayer n (redirect f L)
@@ -55,8 +55,8 @@ module _ (n : ℕ) where
   even-set (x ∷ L) (suc i) v g h nd (inl e) = h nd (inl e)
   even-set (x ∷ L) (suc i) v g h nd (inr k) = even-set L i v g (λ y m. h y (inr m)) nd k
 
-  even-drop : (i : ℕ) (L : Layer) → EvenLayer n L → EvenLayer n (dropAt i L)
-  unfolding dropAt
+  even-drop : (i : ℕ) (L : Layer) → EvenLayer n L → EvenLayer n (without_at i L)
+  unfolding without_at
   even-drop zero [] h nd k = absurd k
   even-drop (suc i) [] h nd k = absurd k
   even-drop zero (x ∷ L) h nd k = h nd (inr k)
@@ -67,37 +67,37 @@ module _ (n : ℕ) where
   unfolding tidy
   even-tidy fr [] h = tt
   even-tidy fr (L ∷ Ls) h = (
-    even-compress (flags fr (marksUp (L ∷ Ls))) (redirect (λ a j b. renumber (flags (marksNext fr L (width Ls)) (marksUp Ls)) b) L)
-        (even-redirect (λ a j b. renumber (flags (marksNext fr L (width Ls)) (marksUp Ls)) b) L h.0),
-    even-tidy (marksNext fr L (width Ls)) Ls h.1,
+    even-compress (flags fr (marks_up (L ∷ Ls))) (redirect (λ a j b. renumber (flags (marks_next fr L (width Ls)) (marks_up Ls)) b) L)
+        (even-redirect (λ a j b. renumber (flags (marks_next fr L (width Ls)) (marks_up Ls)) b) L h.0),
+    even-tidy (marks_next fr L (width Ls)) Ls h.1,
   )
 
   even-tidied : (Ls : Net) → EvenIn n Ls → EvenIn n (tidied Ls)
   unfolding tidied
   even-tidied [] h = tt
-  even-tidied (L ∷ Ls) h = (even-redirect (λ a j b. renumber (flags (marksNext (Some tt ∷ []) L (width Ls)) (marksUp Ls)) b) L h.0, even-tidy (marksNext (Some tt ∷ []) L (width Ls)) Ls h.1)
+  even-tidied (L ∷ Ls) h = (even-redirect (λ a j b. renumber (flags (marks_next (Some tt ∷ []) L (width Ls)) (marks_up Ls)) b) L h.0, even-tidy (marks_next (Some tt ∷ []) L (width Ls)) Ls h.1)
 
-both-even : (n : ℕ) (x y : Outs) → length x ≡ n → length y ≡ n → length (bothOut x y) ≡ n
-unfolding bothOut
+both-even : (n : ℕ) (x y : Outs) → length x ≡ n → length y ≡ n → length (both_out x y) ≡ n
+unfolding both_out
 both-even n [] y a b = b
 both-even n (s ∷ x) [] a b = a
 both-even zero (s ∷ x) (t ∷ y) a b = absurd (omega arith)
 both-even (suc n) (s ∷ x) (t ∷ y) a b = ap suc (both-even n x y (omega arith) (omega arith))
 
-even-join : (n d lo hi : ℕ) (Ls : Net) → lo < hi → hi < length (get_or Ls (suc d) []) → EvenIn n Ls → EvenIn n (joinAt d lo hi Ls)
-unfolding joinAt
+even-join : (n d lo hi : ℕ) (Ls : Net) → lo < hi → hi < length (get_or Ls (suc d) []) → EvenIn n Ls → EvenIn n (join_at d lo hi Ls)
+unfolding join_at
 even-join n zero lo hi [] a b h = h
 even-join n (suc d) lo hi [] a b h = h
 even-join n zero lo hi (L ∷ []) a b h = h
 even-join n zero lo hi (L ∷ M ∷ Ls) a b h =
-    let v = bothOut (node M lo) (node M hi) in (
+    let v = both_out (node M lo) (node M hi) in (
       even-redirect n (λ a j b. suc (moved lo hi b)) L h.0,
       (even-drop n hi (set M lo v) (even-set n M lo v (both-even n (node M lo) (node M hi) (h.1.0 (node M lo) (node-among M lo (omega arith))) (h.1.0 (node M hi) (node-among M hi b))) h.1.0), h.1.1),
     )
 even-join n (suc d) lo hi (L ∷ Ls) a b h = (h.0, even-join n d lo hi Ls a b h.1)
 
-first-join : (d lo hi : ℕ) (Ls : Net) → width (joinAt d lo hi Ls) ≡ width Ls
-unfolding joinAt
+first-join : (d lo hi : ℕ) (Ls : Net) → width (join_at d lo hi Ls) ≡ width Ls
+unfolding join_at
 first-join zero lo hi [] = refl
 first-join (suc d) lo hi [] = refl
 first-join zero lo hi (L ∷ []) = refl
@@ -112,24 +112,24 @@ first-tidied (L ∷ Ls) = simp redirect-length
 -- every diagram of n doors and width W: n layers of arcs, one first node, n targets to a node, at most W nodes to a layer, each node on a path
 pub record Proper (n W : ℕ) (Ls : Net) : Type 0 where
   pub deep : length Ls ≡ n
-  pub one-first : width Ls ≡ 1
+  pub one_first : width Ls ≡ 1
   pub even : EvenIn n Ls
   pub roomy : Roomy W Ls
   pub tied : Tied Ls
 
 pub lawful : (n W : ℕ) (Ls : Net) → Proper n W Ls → Lawful n W Ls
-lawful n W Ls p = record { deep = p.deep; one-first = p.one-first; even = even-of n Ls p.even; roomy = p.roomy; tied = p.tied }
+lawful n W Ls p = record { deep = p.deep; one_first = p.one_first; even = even-of n Ls p.even; roomy = p.roomy; tied = p.tied }
 
 module _ {S V : Type 0} (r : Round) (rule : RuleSense S) (tally : TallySense V) (W : ℕ) (w : 1 ≤ W) where
   even-sweeps : (i : ℕ) (labs : List (Option (Lab r rule tally))) (Ls : Net) → EvenIn r.n Ls → EvenIn r.n (sweeps r rule tally i labs Ls) × (width (sweeps r rule tally i labs Ls) ≡ width Ls)
   unfolding sweeps
   even-sweeps i labs [] h = (tt, refl)
-  even-sweeps i labs (L ∷ Ls) h = ((even-redirect r.n _ L h.0, (even-sweeps (suc i) (labelsNext r rule tally labs L (width Ls)) Ls h.1).0), simp redirect-length)
+  even-sweeps i labs (L ∷ Ls) h = ((even-redirect r.n _ L h.0, (even-sweeps (suc i) (labels_next r rule tally labs L (width Ls)) Ls h.1).0), simp redirect-length)
 
   even-cuts : (c : V) (labs : List (Option (Lab r rule tally))) (Ls : Net) → EvenIn r.n Ls → EvenIn r.n (cuts r rule tally c labs Ls) × (width (cuts r rule tally c labs Ls) ≡ width Ls)
   unfolding cuts
   even-cuts c labs [] h = (tt, refl)
-  even-cuts c labs (L ∷ Ls) h = ((even-redirect r.n _ L h.0, (even-cuts c (labelsNext r rule tally labs L (width Ls)) Ls h.1).0), simp redirect-length)
+  even-cuts c labs (L ∷ Ls) h = ((even-redirect r.n _ L h.0, (even-cuts c (labels_next r rule tally labs L (width Ls)) Ls h.1).0), simp redirect-length)
 
   even-part : (d a : ℕ) (labs : List (Option (Lab r rule tally))) (Ls : Net) → a < length (get_or Ls (suc d) []) → EvenIn r.n Ls → EvenIn r.n (part_at r rule tally d a labs Ls) × (width (part_at r rule tally d a labs Ls) ≡ width Ls)
   unfolding part_at
@@ -143,45 +143,45 @@ module _ {S V : Type 0} (r : Round) (rule : RuleSense S) (tally : TallySense V) 
     ),
     simp redirect-length,
   )
-  even-part (suc d) a labs (L ∷ Ls) k h = ((h.0, (even-part d a (labelsNext r rule tally labs L (width Ls)) Ls k h.1).0), refl)
+  even-part (suc d) a labs (L ∷ Ls) k h = ((h.0, (even-part d a (labels_next r rule tally labs L (width Ls)) Ls k h.1).0), refl)
 
   pub proper-opened : Proper r.n W (opened r rule tally)
   proper-opened = record {
-    deep = unfold opened in table-long r.n (λ i. allDoors r rule tally ∷ []);
-    one-first = unfold opened in wide r.n;
+    deep = unfold opened in table-long r.n (λ i. all_doors r rule tally ∷ []);
+    one_first = unfold opened in wide r.n;
     even = unfold opened in evens r.n;
     roomy = unfold opened in roomy-open r rule tally W w r.n;
     tied = opened-tied r rule tally;
   }
     where
-      wide : (k : ℕ) → width (table k (λ i. allDoors r rule tally ∷ [])) ≡ 1
+      wide : (k : ℕ) → width (table k (λ i. all_doors r rule tally ∷ [])) ≡ 1
       wide zero = refl
       wide (suc k) = refl
 
-      evens : (k : ℕ) → EvenIn r.n (table k (λ i. allDoors r rule tally ∷ []))
+      evens : (k : ℕ) → EvenIn r.n (table k (λ i. all_doors r rule tally ∷ []))
       evens zero = tt
       evens (suc k) = (λ nd i. elim i [ inl e ↦ rw e (table-long r.n (λ m. 1)) | inr x ↦ absurd x ], evens k)
 
   pub proper-tidied : (Ls : Net) → length Ls ≡ r.n → width Ls ≡ 1 → EvenIn r.n Ls → Roomy W Ls → Proper r.n W (tidied Ls)
-  proper-tidied Ls a b c d = record { deep = tidied-length Ls ∙ a; one-first = first-tidied Ls ∙ b; even = even-tidied r.n Ls c; roomy = roomy-tidied W Ls d; tied = tidied-tied Ls }
+  proper-tidied Ls a b c d = record { deep = tidied-length Ls ∙ a; one_first = first-tidied Ls ∙ b; even = even-tidied r.n Ls c; roomy = roomy-tidied W Ls d; tied = tidied-tied Ls }
 
   pub proper-sweep : (Ls : Net) → Proper r.n W Ls → Proper r.n W (sweep r rule tally Ls)
   unfolding sweep
   proper-sweep Ls p = let e = even-sweeps 0 (firsts r rule tally) Ls p.even in
-      proper-tidied (sweeps r rule tally 0 (firsts r rule tally) Ls) (sweeps-length r rule tally 0 (firsts r rule tally) Ls ∙ p.deep) (e.1 ∙ p.one-first) e.0 (roomy-sweeps r rule tally W w 0 (firsts r rule tally) Ls p.roomy)
+      proper-tidied (sweeps r rule tally 0 (firsts r rule tally) Ls) (sweeps-length r rule tally 0 (firsts r rule tally) Ls ∙ p.deep) (e.1 ∙ p.one_first) e.0 (roomy-sweeps r rule tally W w 0 (firsts r rule tally) Ls p.roomy)
 
   pub proper-cut : (c : V) (Ls : Net) → Unit {0} → Proper r.n W Ls → Proper r.n W (cut r rule tally c Ls)
   unfolding cut
   proper-cut c Ls u p = let e = even-cuts c (firsts r rule tally) Ls p.even in
-      proper-tidied (cuts r rule tally c (firsts r rule tally) Ls) (cuts-length r rule tally c (firsts r rule tally) Ls ∙ p.deep) (e.1 ∙ p.one-first) e.0 (roomy-cuts r rule tally W w c (firsts r rule tally) Ls p.roomy)
+      proper-tidied (cuts r rule tally c (firsts r rule tally) Ls) (cuts-length r rule tally c (firsts r rule tally) Ls ∙ p.deep) (e.1 ∙ p.one_first) e.0 (roomy-cuts r rule tally W w c (firsts r rule tally) Ls p.roomy)
 
-  pub proper-join : (d lo hi : ℕ) (Ls : Net) → lo < hi → hi < length (get_or Ls (suc d) []) → clash (node (get_or Ls (suc d) []) lo) (node (get_or Ls (suc d) []) hi) ≡ false → Proper r.n W Ls → Proper r.n W (joinAt d lo hi Ls)
+  pub proper-join : (d lo hi : ℕ) (Ls : Net) → lo < hi → hi < length (get_or Ls (suc d) []) → clash (node (get_or Ls (suc d) []) lo) (node (get_or Ls (suc d) []) hi) ≡ false → Proper r.n W Ls → Proper r.n W (join_at d lo hi Ls)
   proper-join d lo hi Ls x y z p =
-      record { deep = join-length d lo hi Ls ∙ p.deep; one-first = first-join d lo hi Ls ∙ p.one-first; even = even-join r.n d lo hi Ls x y p.even; roomy = roomy-join W d lo hi Ls y p.roomy; tied = join_tied d lo hi Ls x y z p.tied }
+      record { deep = join-length d lo hi Ls ∙ p.deep; one_first = first-join d lo hi Ls ∙ p.one_first; even = even-join r.n d lo hi Ls x y p.even; roomy = roomy-join W d lo hi Ls y p.roomy; tied = join_tied d lo hi Ls x y z p.tied }
 
   -- parting with any labels of the layer before
-  parted-even : (d a : ℕ) (labs : List (Option (Lab r rule tally))) (Ls : Net) → a < length (get_or Ls (suc d) []) → EvenIn r.n Ls → EvenIn r.n (partedAt r rule tally d a labs Ls) × (width (partedAt r rule tally d a labs Ls) ≡ width Ls)
-  unfolding partedAt
+  parted-even : (d a : ℕ) (labs : List (Option (Lab r rule tally))) (Ls : Net) → a < length (get_or Ls (suc d) []) → EvenIn r.n Ls → EvenIn r.n (parted_at r rule tally d a labs Ls) × (width (parted_at r rule tally d a labs Ls) ≡ width Ls)
+  unfolding parted_at
   parted-even zero a labs [] k h = (h, refl)
   parted-even (suc d) a labs [] k h = (h, refl)
   parted-even zero a labs (L ∷ []) k h = (h, refl)
@@ -194,16 +194,16 @@ module _ {S V : Type 0} (r : Round) (rule : RuleSense S) (tally : TallySense V) 
   )
   parted-even (suc d) a labs (L ∷ Ls) k h = ((h.0, (parted-even d a labs Ls k h.1).0), refl)
 
-  parted-roomy : (d a : ℕ) (labs : List (Option (Lab r rule tally))) (Ls : Net) → length (get_or Ls (suc d) []) < W → Roomy W Ls → Roomy W (partedAt r rule tally d a labs Ls)
-  unfolding partedAt
+  parted-roomy : (d a : ℕ) (labs : List (Option (Lab r rule tally))) (Ls : Net) → length (get_or Ls (suc d) []) < W → Roomy W Ls → Roomy W (parted_at r rule tally d a labs Ls)
+  unfolding parted_at
   parted-roomy zero a labs [] k h = h
   parted-roomy (suc d) a labs [] k h = h
   parted-roomy zero a labs (L ∷ []) k h = h
   parted-roomy zero a labs (L ∷ M ∷ Ls) k h = (simp redirect-length h.0, (omega (arith, length-snoc M (node M a)), h.1.1))
   parted-roomy (suc d) a labs (L ∷ Ls) k h = (h.0, parted-roomy d a labs Ls k h.1)
 
-  parted-length : (d a : ℕ) (labs : List (Option (Lab r rule tally))) (Ls : Net) → length (partedAt r rule tally d a labs Ls) ≡ length Ls
-  unfolding partedAt
+  parted-length : (d a : ℕ) (labs : List (Option (Lab r rule tally))) (Ls : Net) → length (parted_at r rule tally d a labs Ls) ≡ length Ls
+  unfolding parted_at
   parted-length zero a labs [] = refl
   parted-length (suc d) a labs [] = refl
   parted-length zero a labs (L ∷ []) = refl
@@ -211,16 +211,16 @@ module _ {S V : Type 0} (r : Round) (rule : RuleSense S) (tally : TallySense V) 
   parted-length (suc d) a labs (L ∷ Ls) = ap suc (parted-length d a labs Ls)
 
   pub proper-parted-at : ((s : S) → rule.same s s ≡ true) → (d a : ℕ) (labs : List (Option (Lab r rule tally))) (Ls : Net) → a < length (get_or Ls (suc d) []) → length (get_or Ls (suc d) []) < W
-      → agreeing r rule tally (ins (arrive r rule tally) a labs (get_or Ls d [])) ≡ false → Proper r.n W Ls → Proper r.n W (partedAt r rule tally d a labs Ls)
+      → agreeing r rule tally (ins (arrive r rule tally) a labs (get_or Ls d [])) ≡ false → Proper r.n W Ls → Proper r.n W (parted_at r rule tally d a labs Ls)
   proper-parted-at self d a labs Ls x y z p =
       let e = parted-even d a labs Ls x p.even in
-      record { deep = parted-length d a labs Ls ∙ p.deep; one-first = e.1 ∙ p.one-first; even = e.0; roomy = parted-roomy d a labs Ls y p.roomy; tied = parted-tied r rule self tally d a labs Ls x z p.tied }
+      record { deep = parted-length d a labs Ls ∙ p.deep; one_first = e.1 ∙ p.one_first; even = e.0; roomy = parted-roomy d a labs Ls y p.roomy; tied = parted-tied r rule self tally d a labs Ls x z p.tied }
 
 -- parting, and so a list of calls, by the laws of the rule: an arrival agrees with itself
 module _ {S V : Type 0} (r : Round) (rule : RuleSense S) (self : (s : S) → rule.same s s ≡ true) (tally : TallySense V) (W : ℕ) (w : 1 ≤ W) where
-  pub proper-part : (d a : ℕ) (Ls : Net) → a < length (get_or Ls (suc d) []) → length (get_or Ls (suc d) []) < W → oneGroup r rule tally d a (firsts r rule tally) Ls ≡ false → Proper r.n W Ls → Proper r.n W (part_at r rule tally d a (firsts r rule tally) Ls)
+  pub proper-part : (d a : ℕ) (Ls : Net) → a < length (get_or Ls (suc d) []) → length (get_or Ls (suc d) []) < W → one_group r rule tally d a (firsts r rule tally) Ls ≡ false → Proper r.n W Ls → Proper r.n W (part_at r rule tally d a (firsts r rule tally) Ls)
   proper-part d a Ls x y z p = let e = even-part r rule tally W w d a (firsts r rule tally) Ls x p.even in
-      record { deep = part_length r rule tally d a (firsts r rule tally) Ls ∙ p.deep; one-first = e.1 ∙ p.one-first; even = e.0; roomy = roomy-part r rule tally W w d a (firsts r rule tally) Ls y p.roomy; tied = part-tied r rule self tally d a (firsts r rule tally) Ls x z p.tied }
+      record { deep = part_length r rule tally d a (firsts r rule tally) Ls ∙ p.deep; one_first = e.1 ∙ p.one_first; even = e.0; roomy = roomy-part r rule tally W w d a (firsts r rule tally) Ls y p.roomy; tied = part-tied r rule self tally d a (firsts r rule tally) Ls x z p.tied }
 
   pub proper-after : (cs : List (Call V)) (Ls : Net) → Proper r.n W Ls → Proper r.n W (after r rule tally W cs Ls)
   proper-after cs Ls p = safe-after r rule tally W (Proper r.n W) (λ c. Unit {0}) (proper-sweep r rule tally W w) (proper-cut r rule tally W w) proper-part (proper-join r rule tally W w) cs Ls (any-cut r rule tally W cs) p

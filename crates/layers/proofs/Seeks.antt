@@ -3,33 +3,33 @@ use Rattle.std.proofs.Common.{◌≡◌, ℕ, zero, suc, ◌+◌, Bool, true, fa
 use Rattle.std.proofs.lemmas.Bool.{false≢true, eqb-true, eqb-false, eq-eqb, and_parts, or_cases, or_left, or_right}
 use Rattle.doors.proofs.Sets.{part_length}
 use Rattle.doors.specs.Orders.{In, Door, PartOrder}
-use Rattle.layers.specs.Flow.{Outs, Net, node, Path-from, hit, isNil, anyDoor, seeks}
+use Rattle.layers.specs.Flow.{Outs, Net, node, PathFrom, hit, is_nil, any_door, seeks}
 use Rattle.layers.specs.Claim.{Ahead}
 
-any-in : (f : ℕ → ℕ → Bool) (j : ℕ) (ts : Outs) (k m b : ℕ) → j + k ≡ m → get_or ts k 0 ≡ suc b → f m b ≡ true → anyDoor f j ts ≡ true
-unfolding anyDoor
+any-in : (f : ℕ → ℕ → Bool) (j : ℕ) (ts : Outs) (k m b : ℕ) → j + k ≡ m → get_or ts k 0 ≡ suc b → f m b ≡ true → any_door f j ts ≡ true
+unfolding any_door
 any-in f j [] k m b h e t = absurd (omega arith)
 any-in f j (zero ∷ ts) zero m b h e t = absurd (omega arith)
 any-in f j (zero ∷ ts) (suc k) m b h e t = any-in f (suc j) ts k m b (omega arith) e t
-any-in f j (suc c ∷ ts) zero m b h e t = let x : j ≡ m = omega arith in let y : c ≡ b = omega arith in or_left (f j c) (anyDoor f (suc j) ts) (let z : f j c ≡ f m b = cc in z ∙ t)
-any-in f j (suc c ∷ ts) (suc k) m b h e t = or_right (f j c) (anyDoor f (suc j) ts) (any-in f (suc j) ts k m b (omega arith) e t)
+any-in f j (suc c ∷ ts) zero m b h e t = let x : j ≡ m = omega arith in let y : c ≡ b = omega arith in or_left (f j c) (any_door f (suc j) ts) (let z : f j c ≡ f m b = cc in z ∙ t)
+any-in f j (suc c ∷ ts) (suc k) m b h e t = or_right (f j c) (any_door f (suc j) ts) (any-in f (suc j) ts k m b (omega arith) e t)
 
-any-from : (f : ℕ → ℕ → Bool) (j : ℕ) (ts : Outs) → anyDoor f j ts ≡ true → (k : ℕ) × (b : ℕ) × (get_or ts k 0 ≡ suc b) × (f (j + k) b ≡ true)
-unfolding anyDoor
+any-from : (f : ℕ → ℕ → Bool) (j : ℕ) (ts : Outs) → any_door f j ts ≡ true → (k : ℕ) × (b : ℕ) × (get_or ts k 0 ≡ suc b) × (f (j + k) b ≡ true)
+unfolding any_door
 any-from f j [] e = absurd (false≢true e)
 any-from f j (zero ∷ ts) e = let q = any-from f (suc j) ts e in (suc q.0, q.1, q.2, ap (λ (x : ℕ). f x q.1) (omega arith) ∙ q.3)
-any-from f j (suc c ∷ ts) e = go (or_cases (f j c) (anyDoor f (suc j) ts) e) (λ h. any-from f (suc j) ts h)
+any-from f j (suc c ∷ ts) e = go (or_cases (f j c) (any_door f (suc j) ts) e) (λ h. any-from f (suc j) ts h)
   where
-    go : (f j c ≡ true) ⊎ (anyDoor f (suc j) ts ≡ true) → (anyDoor f (suc j) ts ≡ true → (k : ℕ) × (b : ℕ) × (get_or ts k 0 ≡ suc b) × (f (suc j + k) b ≡ true))
+    go : (f j c ≡ true) ⊎ (any_door f (suc j) ts ≡ true) → (any_door f (suc j) ts ≡ true → (k : ℕ) × (b : ℕ) × (get_or ts k 0 ≡ suc b) × (f (suc j + k) b ≡ true))
         → (k : ℕ) × (b : ℕ) × (get_or (suc c ∷ ts) k 0 ≡ suc b) × (f (j + k) b ≡ true)
     go (inl h) g = (0, c, refl, ap (λ (x : ℕ). f x c) (omega arith) ∙ h)
     go (inr h) g = let q = g h in (suc q.0, q.1, q.2, ap (λ (x : ℕ). f x q.1) (omega arith) ∙ q.3)
 
-nil_is : (gs : List ℕ) → isNil gs ≡ true → gs ≡ []
+nil_is : (gs : List ℕ) → is_nil gs ≡ true → gs ≡ []
 nil_is [] e = refl
 nil_is (g ∷ gs) e = absurd (false≢true e)
 
-seeks-in : (Ls : Net) (a : ℕ) (gs w : List ℕ) → Path-from Ls a w → fold hit gs w ≡ [] → seeks Ls a gs ≡ true
+seeks-in : (Ls : Net) (a : ℕ) (gs w : List ℕ) → PathFrom Ls a w → fold hit gs w ≡ [] → seeks Ls a gs ≡ true
 unfolding seeks
 seeks-in [] a gs [] p e = rw (eq-eqb a 0 p, e) refl
 seeks-in [] a gs (j ∷ w) p e = absurd p
@@ -37,9 +37,9 @@ seeks-in (L ∷ Ls) a gs [] p e = absurd p
 seeks-in (L ∷ Ls) a gs (zero ∷ w) p e = absurd (omega (arith, p.1))
 seeks-in (L ∷ Ls) a gs (suc k ∷ w) p e = any-in (λ j b. seeks Ls b (hit gs j)) 1 (node L a) k (suc k) p.0 (omega arith) p.1 (seeks-in Ls p.0 (hit gs (suc k)) w p.2 e)
 
-seeks-from : (Ls : Net) (a : ℕ) (gs : List ℕ) → seeks Ls a gs ≡ true → (w : List ℕ) × Path-from Ls a w × (fold hit gs w ≡ [])
+seeks-from : (Ls : Net) (a : ℕ) (gs : List ℕ) → seeks Ls a gs ≡ true → (w : List ℕ) × PathFrom Ls a w × (fold hit gs w ≡ [])
 unfolding seeks
-seeks-from [] a gs e = let q = and_parts (eqb a 0) (isNil gs) e in ([], eqb-true a 0 q.0, nil_is gs q.1)
+seeks-from [] a gs e = let q = and_parts (eqb a 0) (is_nil gs) e in ([], eqb-true a 0 q.0, nil_is gs q.1)
 seeks-from (L ∷ Ls) a gs e =
     let q = any-from (λ j b. seeks Ls b (hit gs j)) 1 (node L a) e in
     let j = suc q.0 in
@@ -90,10 +90,10 @@ two-hits j i (k ∷ w) e = go (eqb j k) refl e (λ h. two-hits j i w h)
     go true f h g = inl (eqb-true j k f, one-hits i w h)
     go false f h g = inr (g h)
 
-pub seen : (Ls : Net) (j i : ℕ) (w : List ℕ) → Path-from Ls 0 w → Ahead j i w → seeks Ls 0 (j ∷ i ∷ []) ≡ true
+pub seen : (Ls : Net) (j i : ℕ) (w : List ℕ) → PathFrom Ls 0 w → Ahead j i w → seeks Ls 0 (j ∷ i ∷ []) ≡ true
 seen Ls j i w p h = seeks-in Ls 0 (j ∷ i ∷ []) w p (hits-two j i w h)
 
-pub sought : (Ls : Net) (j i : ℕ) → seeks Ls 0 (j ∷ i ∷ []) ≡ true → (w : List ℕ) × Path-from Ls 0 w × Ahead j i w
+pub sought : (Ls : Net) (j i : ℕ) → seeks Ls 0 (j ∷ i ∷ []) ≡ true → (w : List ℕ) × PathFrom Ls 0 w × Ahead j i w
 sought Ls j i e = let q = seeks-from Ls 0 (j ∷ i ∷ []) e in (q.0, q.1, two-hits j i q.0 q.2)
 
 -- ---- an order of all doors has each door

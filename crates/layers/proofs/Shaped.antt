@@ -7,12 +7,12 @@ use Rattle.round.specs.declared.table.Round.{Round}
 use Rattle.rules.specs.Rules.{RuleSense}
 use Rattle.tallies.specs.Tallies.{TallySense}
 use Rattle.layers.specs.declared.node.Node.{Node}
-use Rattle.layers.specs.Flow.{table, Outs, Layer, Net, node, target, width, redirect, countDoors, countLayer, tidied, Ranged, Tied, Roomy}
+use Rattle.layers.specs.Flow.{table, Outs, Layer, Net, node, target, width, redirect, count_doors, count_layer, tidied, Ranged, Tied, Roomy}
 use Rattle.layers.specs.declared.node.Up.{Up}
-use Rattle.layers.specs.Labels.{Lab, firsts, labelsNext, noUp, barred, dear}
-use Rattle.layers.specs.Records.{used, standing, layers, arcsIn, downsIn, upsIn, drawn, arcsAt, laidArcs, arcsRead, place}
+use Rattle.layers.specs.Labels.{Lab, firsts, labels_next, no_up, barred, dear}
+use Rattle.layers.specs.Records.{used, standing, layers, arcs_in, downs_in, ups_in, drawn, arcs_at, laid_arcs, arcs_read, place}
 use Rattle.layers.specs.Calls.{arcs, layer, thinned, trimmed, relaid}
-use Rattle.layers.specs.Shape.{targetsOf, Ended, Shaped}
+use Rattle.layers.specs.Shape.{targets_of, Ended, Shaped}
 use Rattle.layers.proofs.Flows.{Among}
 use Rattle.layers.proofs.Bridge.{ups-end, Full, top, stood, table-long}
 use Rattle.layers.proofs.Counts.{tidied-same}
@@ -59,7 +59,7 @@ module _ {S V : Type 0} (n W : ℕ) where
   drawn-deep (suc zero) xs = refl
   drawn-deep (suc (suc k)) xs = ap suc (drawn-deep (suc k) (drop W xs))
 
-  arcs-short : (us : List (Node S V)) → length (arcsIn n (standing (take W us))) ≤ W
+  arcs-short : (us : List (Node S V)) → length (arcs_in n (standing (take W us))) ≤ W
   arcs-short us = omega (arith, length-map (standing (take W us)) (λ (x : Node S V). take n x.arcs.to), standing-short (take W us), length-take W us)
 
   drawn-roomy : (k : ℕ) (xs : List (Node S V)) → Roomy W (drawn n (layers W k xs))
@@ -80,7 +80,7 @@ module _ {S V : Type 0} (n W : ℕ) where
       go true (inr h) f = inr (f h)
       go false h f = absurd h
 
-  arcs-even : (us : List (Node S V)) → n ≤ 16 → Long us → EvenLayer n (arcsIn n us)
+  arcs-even : (us : List (Node S V)) → n ≤ 16 → Long us → EvenLayer n (arcs_in n us)
   arcs-even [] h l nd i = absurd i
   arcs-even (u ∷ us) h l nd (inl e) = ap length e ∙ length-take-le n u.arcs.to (omega (arith, l u (inl refl)))
   arcs-even (u ∷ us) h l nd (inr i) = arcs-even us h (λ x j. l x (inr j)) nd i
@@ -96,17 +96,17 @@ module _ {S V : Type 0} (n W : ℕ) where
       )
 
 -- all of the laid arcs have sixteen targets
-laid-sixteen : (W : ℕ) (Ls : Net) (ts : List ℕ) → Among ts (targetsOf (laidArcs W Ls)) → length ts ≡ 16
+laid-sixteen : (W : ℕ) (Ls : Net) (ts : List ℕ) → Among ts (targets_of (laid_arcs W Ls)) → length ts ≡ 16
 laid-sixteen W [] ts (inl e) = ap length e ∙ table-long 16 (λ k. get_or {A = ℕ} [] k 0)
 laid-sixteen W [] ts (inr i) = absurd i
 laid-sixteen W (L ∷ Ls) ts i = go W (λ k. k) i (λ h. laid-sixteen W Ls ts h)
   where
-    go : (m : ℕ) (f : ℕ → ℕ) → Among ts (targetsOf (table m (λ k. arcsAt L (f k)) ++ laidArcs W Ls)) → (Among ts (targetsOf (laidArcs W Ls)) → length ts ≡ 16) → length ts ≡ 16
+    go : (m : ℕ) (f : ℕ → ℕ) → Among ts (targets_of (table m (λ k. arcs_at L (f k)) ++ laid_arcs W Ls)) → (Among ts (targets_of (laid_arcs W Ls)) → length ts ≡ 16) → length ts ≡ 16
     go zero f h g = g h
     go (suc m) f (inl e) g = ap length e ∙ table-long 16 (λ k. get_or (get_or L (f 0) []) k 0)
     go (suc m) f (inr h) g = go m (λ k. f (suc k)) h g
 
-targets-among : {S V : Type 0} (us : List (Node S V)) (x : Node S V) → Among x us → Among x.arcs.to (targetsOf (arcsRead us))
+targets-among : {S V : Type 0} (us : List (Node S V)) (x : Node S V) → Among x us → Among x.arcs.to (targets_of (arcs_read us))
 targets-among [] x i = i
 targets-among (u ∷ us) x (inl e) = inl (ap (λ (y : Node _ _). y.arcs.to) e)
 targets-among (u ∷ us) x (inr i) = inr (targets-among us x i)
@@ -116,41 +116,41 @@ module _ {S V : Type 0} (r : Round) (W : ℕ) (xs : List (Node S V)) where
   pub shaped-proper : Shaped r.n W xs → Proper r.n W (arcs r.n W xs)
   shaped-proper s = record {
     deep = drawn-deep r.n W r.n xs;
-    one-first = s.first;
+    one_first = s.first;
     even = drawn-even r.n W r.n xs r.most (λ x i. laid-sixteen W (arcs r.n W xs) x.arcs.to (rw (← s.written) (targets-among (take (r.n * W + 1) xs) x i)));
     roomy = drawn-roomy r.n W r.n xs;
     tied = rw (← s.tidy) (tidied-tied (arcs r.n W xs));
   }
 
 -- ---- an arc counts
-doors-count : (ts : Outs) (k b : ℕ) → get_or ts k 0 ≡ suc b → 1 ≤ countDoors ts
-unfolding countDoors
+doors-count : (ts : Outs) (k b : ℕ) → get_or ts k 0 ≡ suc b → 1 ≤ count_doors ts
+unfolding count_doors
 doors-count [] k b e = absurd (omega arith)
 doors-count (zero ∷ ts) zero b e = absurd (omega arith)
 doors-count (zero ∷ ts) (suc k) b e = doors-count ts k b e
 doors-count (suc t ∷ ts) k b e = omega arith
 
-arc-counts : (L : Layer) (a j b : ℕ) → target (node L a) j ≡ suc b → 1 ≤ countLayer L
-unfolding countLayer
+arc-counts : (L : Layer) (a j b : ℕ) → target (node L a) j ≡ suc b → 1 ≤ count_layer L
+unfolding count_layer
 arc-counts [] a zero b e = absurd (omega arith)
 arc-counts [] a (suc k) b e = absurd (omega arith)
 arc-counts (nd ∷ L) zero zero b e = absurd (omega arith)
 arc-counts (nd ∷ L) zero (suc k) b e = let h = doors-count nd k b e in omega arith
 arc-counts (nd ∷ L) (suc a) j b e = let h = arc-counts L a j b e in omega arith
 
-doors-arc : (ts : Outs) → 1 ≤ countDoors ts → (k : ℕ) × (b : ℕ) × (get_or ts k 0 ≡ suc b)
-unfolding countDoors
+doors-arc : (ts : Outs) → 1 ≤ count_doors ts → (k : ℕ) × (b : ℕ) × (get_or ts k 0 ≡ suc b)
+unfolding count_doors
 doors-arc [] h = absurd (omega arith)
 doors-arc (zero ∷ ts) h = let q = doors-arc ts h in (suc q.0, q.1, q.2)
 doors-arc (suc t ∷ ts) h = (0, t, refl)
 
-counted-arc : (L : Layer) → 1 ≤ countLayer L → (a : ℕ) × (j : ℕ) × (b : ℕ) × (target (node L a) j ≡ suc b)
-unfolding countLayer
+counted-arc : (L : Layer) → 1 ≤ count_layer L → (a : ℕ) × (j : ℕ) × (b : ℕ) × (target (node L a) j ≡ suc b)
+unfolding count_layer
 counted-arc [] h = absurd (omega arith)
 counted-arc (nd ∷ L) h = ⊎_elim
-    (λ (few : countDoors nd < 1). let q = counted-arc L (omega arith) in (suc q.0, q.1, q.2, q.3))
-    (λ (some : 1 ≤ countDoors nd). let q = doors-arc nd some in (0, suc q.0, q.1, q.2))
-    (cases_lt (countDoors nd) 1)
+    (λ (few : count_doors nd < 1). let q = counted-arc L (omega arith) in (suc q.0, q.1, q.2, q.3))
+    (λ (some : 1 ≤ count_doors nd). let q = doors-arc nd some in (0, suc q.0, q.1, q.2))
+    (cases_lt (count_doors nd) 1)
 
 -- ---- an arc to the end gives the end a label
 some-there : {A : Type 0} (xs : List A) (o : A → Option Up) (b : ℕ) (u : Up) → get_or (map o xs) b None ≡ Some u → 1 ≤ length xs
@@ -161,12 +161,12 @@ module _ {S V : Type 0} (r : Round) (rule : RuleSense S) (tally : TallySense V) 
   end-stands : (labs : List (Option (Lab r rule tally))) (L : Layer) (Ms : Net) → Tied (L ∷ Ms) → Full r rule tally W w labs (L ∷ Ms) → (a j b : ℕ) → target (node (get_or (L ∷ Ms) (length Ms) []) a) j ≡ suc b
       → length (get_or (stood r rule tally W w labs (L ∷ Ms)) (suc (length Ms)) []) ≡ 1
   end-stands labs L [] t f a j b e =
-      let E = top r rule tally W w (labelsNext r rule tally labs L 1) [] in
+      let E = top r rule tally W w (labels_next r rule tally labs L 1) [] in
       let z : b ≡ 0 = omega (arith, t a j b e) in
-      let lo = some-there E (λ x. Some x.label.up) b noUp (f.0.tops a j b e ∙ ups-end b z) in
-      let hi = standing-short (place r rule tally [] (labelsNext r rule tally labs L 1) [] 0 ∷ []) in
+      let lo = some-there E (λ x. Some x.label.up) b no_up (f.0.tops a j b e ∙ ups-end b z) in
+      let hi = standing-short (place r rule tally [] (labels_next r rule tally labs L 1) [] 0 ∷ []) in
       omega arith
-  end-stands labs L (M ∷ Ms) t f a j b e = end-stands (labelsNext r rule tally labs L (length M)) M Ms t.3 f.1 a j b e
+  end-stands labs L (M ∷ Ms) t f a j b e = end-stands (labels_next r rule tally labs L (length M)) M Ms t.3 f.1 a j b e
 
   end_of : (Ls : Net) (n : ℕ) → length Ls ≡ n → 1 ≤ n → Tied Ls → Full r rule tally W w (firsts r rule tally) Ls → (a j b : ℕ) → target (node (get_or Ls (n - 1) []) a) j ≡ suc b → length (get_or (stood r rule tally W w (firsts r rule tally) Ls) n []) ≡ 1
   end_of [] n d h t f a j b e = absurd (omega arith)
@@ -198,16 +198,16 @@ module _ {S V : Type 0} (r : Round) (rule : RuleSense S) (tally : TallySense V) 
   ended' =
       let L = get_or (arcs r.n W (relaid r rule tally W xs Ls)) (r.n - 1) [] in
       ⊎_elim
-      (λ (none : countLayer L < 1). omega arith)
-      (λ (some : 1 ≤ countLayer L). let q = counted-arc L some in let z = stands-at-end q.0 q.1 q.2 q.3 in omega arith)
-      (cases_lt (countLayer L) 1)
+      (λ (none : count_layer L < 1). omega arith)
+      (λ (some : 1 ≤ count_layer L). let q = counted-arc L some in let z = stands-at-end q.0 q.1 q.2 q.3 in omega arith)
+      (cases_lt (count_layer L) 1)
 
   pub relaid-shaped : Shaped r.n W (relaid r rule tally W xs Ls)
   unfolding relaid
   relaid-shaped = record {
-    written = ap targetsOf (written r rule tally W w (drop (r.n * W + 1) xs) Ls p);
-    tidy = ap tidied arcs-relaid ∙ tidied-same Ls p.one-first p.tied ∙ sym arcs-relaid;
-    first = ap width arcs-relaid ∙ p.one-first;
+    written = ap targets_of (written r rule tally W w (drop (r.n * W + 1) xs) Ls p);
+    tidy = ap tidied arcs-relaid ∙ tidied-same Ls p.one_first p.tied ∙ sym arcs-relaid;
+    first = ap width arcs-relaid ∙ p.one_first;
     ended = ended';
   }
 
@@ -259,15 +259,15 @@ module _ {S V : Type 0} (r : Round) (rule : RuleSense S) (tally : TallySense V) 
   thinned-less i [] = less_none r.n W
   thinned-less i (N ∷ []) = less_none r.n W
   thinned-less i (N ∷ M ∷ Ns) =
-      less-layer r.n W (λ a j b. barred r rule tally i (r.n - i) j (get_or (downsIn N) a None) (get_or (upsIn M) b None)) (arcsIn r.n N) (drawn r.n (M ∷ Ns)) (thinned r rule tally (suc i) (M ∷ Ns)) (thinned-less (suc i) (M ∷ Ns))
+      less-layer r.n W (λ a j b. barred r rule tally i (r.n - i) j (get_or (downs_in N) a None) (get_or (ups_in M) b None)) (arcs_in r.n N) (drawn r.n (M ∷ Ns)) (thinned r rule tally (suc i) (M ∷ Ns)) (thinned-less (suc i) (M ∷ Ns))
 
   pub trimmed-less : (c : V) (Ns : List (List (Node S V))) → Less r.n W (drawn r.n Ns) (trimmed r rule tally c Ns)
   unfolding trimmed
   trimmed-less c [] = less_none r.n W
   trimmed-less c (N ∷ []) = less_none r.n W
   trimmed-less c (N ∷ M ∷ Ns) =
-      less-layer r.n W (λ a j b. dear r rule tally c j (get_or (downsIn N) a None)) (arcsIn r.n N) (drawn r.n (M ∷ Ns)) (trimmed r rule tally c (M ∷ Ns)) (trimmed-less c (M ∷ Ns))
+      less-layer r.n W (λ a j b. dear r rule tally c j (get_or (downs_in N) a None)) (arcs_in r.n N) (drawn r.n (M ∷ Ns)) (trimmed r rule tally c (M ∷ Ns)) (trimmed-less c (M ∷ Ns))
 
   -- what is left of a proper net, tidied, is proper
   pub proper-less : 1 ≤ W → (Ls Ms : Net) → Less r.n W Ls Ms → Proper r.n W Ls → Proper r.n W (tidied Ms)
-  proper-less w Ls Ms l p = proper-tidied r rule tally W w Ms (l.deep ∙ p.deep) (l.wide ∙ p.one-first) (l.even p.even) (l.roomy p.roomy)
+  proper-less w Ls Ms l p = proper-tidied r rule tally W w Ms (l.deep ∙ p.deep) (l.wide ∙ p.one_first) (l.even p.even) (l.roomy p.roomy)

@@ -5,15 +5,15 @@ use Rattle.std.proofs.lemmas.List.{get_or_append_left, get_or_push, get_or-set_s
 use Rattle.round.specs.declared.table.Round.{Round}
 use Rattle.rules.specs.Rules.{RuleSense}
 use Rattle.tallies.specs.Tallies.{TallySense}
-use Rattle.layers.specs.Flow.{Outs, Layer, Net, node, target, width, Path-from, eachDoor, eachNode, redirect, Mark, marksNext, marksUp, flags, compress, renumber, tidy, tidied, pickT, bothOut, apart_t, clash, dropAt, moved, joinAt, ins}
-use Rattle.layers.specs.Labels.{Lab, arrive, labelsNext, leaves, headO, barred, dear, ups}
+use Rattle.layers.specs.Flow.{Outs, Layer, Net, node, target, width, PathFrom, each_door, each_node, redirect, Mark, marks_next, marks_up, flags, compress, renumber, tidy, tidied, either_target, both_out, apart_t, clash, without_at, moved, join_at, ins}
+use Rattle.layers.specs.Labels.{Lab, arrive, labels_next, leaves, first_arrival, barred, dear, ups}
 use Rattle.layers.proofs.Flows.{among-split, redirect-arc, has-arc}
 use Rattle.layers.proofs.Model.{part_at, sweeps, cuts}
 use Rattle.layers.proofs.Walk.{NeatLayer, Neat}
 
 -- ---- part
 module _ {S V : Type 0} (r : Round) (rule : RuleSense S) (tally : TallySense V) where
-  pub part-keeps : (d a : ℕ) (labs : List (Option (Lab r rule tally))) (Ls : Net) (x : ℕ) (w : List ℕ) → Path-from Ls x w → Path-from (part_at r rule tally d a labs Ls) x w
+  pub part-keeps : (d a : ℕ) (labs : List (Option (Lab r rule tally))) (Ls : Net) (x : ℕ) (w : List ℕ) → PathFrom Ls x w → PathFrom (part_at r rule tally d a labs Ls) x w
   unfolding part_at
   part-keeps zero a labs [] x w p = p
   part-keeps (suc d) a labs [] x w p = p
@@ -27,12 +27,12 @@ module _ {S V : Type 0} (r : Round) (rule : RuleSense S) (tally : TallySense V) 
       b = p.0
 
       h : Option (Lab r rule tally)
-      h = headO r rule tally (ins (arrive r rule tally) a labs L)
+      h = first_arrival r rule tally (ins (arrive r rule tally) a labs L)
 
       f : ℕ → ℕ → ℕ → ℕ
       f u j b = cond (eqb b a && leaves r rule tally h (get_or labs u None) j) (suc (length M)) (suc b)
 
-      go : (q : Bool) → (eqb b a && leaves r rule tally h (get_or labs x None) j) ≡ q → Path-from (redirect f L ∷ (M ++ (node M a ∷ [])) ∷ Ls) x (j ∷ k ∷ w)
+      go : (q : Bool) → (eqb b a && leaves r rule tally h (get_or labs x None) j) ≡ q → PathFrom (redirect f L ∷ (M ++ (node M a ∷ [])) ∷ Ls) x (j ∷ k ∷ w)
       go true e = (
         length M,
         redirect-arc f L x j b p.1 ∙ ap (λ (z : Bool). cond z (suc (length M)) (suc b)) e,
@@ -44,29 +44,29 @@ module _ {S V : Type 0} (r : Round) (rule : RuleSense S) (tally : TallySense V) 
         (p.2.0, rw (get_or_append_left M (node M a ∷ []) [] b (has-arc M b k p.2.0 p.2.1)) p.2.1, p.2.2),
       )
   part-keeps (suc d) a labs (L ∷ Ls) x [] p = absurd p
-  part-keeps (suc d) a labs (L ∷ Ls) x (j ∷ w) p = (p.0, p.1, part-keeps d a (labelsNext r rule tally labs L (width Ls)) Ls p.0 w p.2)
+  part-keeps (suc d) a labs (L ∷ Ls) x (j ∷ w) p = (p.0, p.1, part-keeps d a (labels_next r rule tally labs L (width Ls)) Ls p.0 w p.2)
 
 -- ---- join
-pub drop-below : (i b : ℕ) (M : Layer) → b < i → node (dropAt i M) b ≡ node M b
-unfolding dropAt
+pub drop-below : (i b : ℕ) (M : Layer) → b < i → node (without_at i M) b ≡ node M b
+unfolding without_at
 drop-below zero b M h = absurd (not-suc-le-zero h)
 drop-below (suc i) b [] h = refl
 drop-below (suc i) zero (x ∷ M) h = refl
 drop-below (suc i) (suc b) (x ∷ M) h = drop-below i b M (le_of_suc-le-suc h)
 
-pub drop-above : (i b : ℕ) (M : Layer) → i ≤ b → node (dropAt i M) b ≡ node M (suc b)
-unfolding dropAt
+pub drop-above : (i b : ℕ) (M : Layer) → i ≤ b → node (without_at i M) b ≡ node M (suc b)
+unfolding without_at
 drop-above zero b [] h = refl
 drop-above zero b (x ∷ M) h = refl
 drop-above (suc i) b [] h = refl
 drop-above (suc i) zero (x ∷ M) h = absurd (not-suc-le-zero h)
 drop-above (suc i) (suc b) (x ∷ M) h = drop-above i b M (le_of_suc-le-suc h)
 
-pick-left : (s t c : ℕ) → s ≡ suc c → pickT s t ≡ suc c
+pick-left : (s t c : ℕ) → s ≡ suc c → either_target s t ≡ suc c
 pick-left zero t c e = absurd (omega arith)
 pick-left (suc s) t c e = e
 
-pick-right : (s t c : ℕ) → apart_t s t ≡ false → t ≡ suc c → pickT s t ≡ suc c
+pick-right : (s t c : ℕ) → apart_t s t ≡ false → t ≡ suc c → either_target s t ≡ suc c
 pick-right zero t c n e = e
 pick-right (suc s) zero c n e = absurd (omega arith)
 pick-right (suc s) (suc t) c n e = go (eqb s t) refl n
@@ -75,48 +75,48 @@ pick-right (suc s) (suc t) c n e = go (eqb s t) refl n
     go true h m = let x = eqb-true s t h in omega arith
     go false h m = absurd (true≢false m)
 
-both_left : (x y : Outs) (k c : ℕ) → get_or x k 0 ≡ suc c → get_or (bothOut x y) k 0 ≡ suc c
-unfolding bothOut
+both_left : (x y : Outs) (k c : ℕ) → get_or x k 0 ≡ suc c → get_or (both_out x y) k 0 ≡ suc c
+unfolding both_out
 both_left [] y k c e = absurd (omega arith)
 both_left (s ∷ x) [] k c e = e
 both_left (s ∷ x) (t ∷ y) zero c e = pick-left s t c e
 both_left (s ∷ x) (t ∷ y) (suc k) c e = both_left x y k c e
 
-both_right : (x y : Outs) (k c : ℕ) → clash x y ≡ false → get_or y k 0 ≡ suc c → get_or (bothOut x y) k 0 ≡ suc c
-unfolding bothOut clash
+both_right : (x y : Outs) (k c : ℕ) → clash x y ≡ false → get_or y k 0 ≡ suc c → get_or (both_out x y) k 0 ≡ suc c
+unfolding both_out clash
 both_right [] y k c n e = e
 both_right (s ∷ x) [] k c n e = absurd (omega arith)
 both_right (s ∷ x) (t ∷ y) zero c n e = pick-right s t c (or_parts (apart_t s t) (clash x y) n).0 e
 both_right (s ∷ x) (t ∷ y) (suc k) c n e = both_right x y k c (or_parts (apart_t s t) (clash x y) n).1 e
 
-pub target_left : (x y : Outs) (k c : ℕ) → target x k ≡ suc c → target (bothOut x y) k ≡ suc c
+pub target_left : (x y : Outs) (k c : ℕ) → target x k ≡ suc c → target (both_out x y) k ≡ suc c
 target_left x y zero c e = e
 target_left x y (suc k) c e = both_left x y k c e
 
-pub target_right : (x y : Outs) (k c : ℕ) → clash x y ≡ false → target y k ≡ suc c → target (bothOut x y) k ≡ suc c
+pub target_right : (x y : Outs) (k c : ℕ) → clash x y ≡ false → target y k ≡ suc c → target (both_out x y) k ≡ suc c
 target_right x y zero c n e = e
 target_right x y (suc k) c n e = both_right x y k c n e
 
 pub join-node : (M : Layer) (lo hi b k c : ℕ) → lo < hi → hi < length M → clash (node M lo) (node M hi) ≡ false → target (node M b) k ≡ suc c
-    → target (node (dropAt hi (set M lo (bothOut (node M lo) (node M hi)))) (moved lo hi b)) k ≡ suc c
+    → target (node (without_at hi (set M lo (both_out (node M lo) (node M hi)))) (moved lo hi b)) k ≡ suc c
 unfolding moved
 join-node M lo hi b k c lt inn nc e = go (eqb b hi) refl (ltb hi b) refl
   where
     v : Outs
-    v = bothOut (node M lo) (node M hi)
+    v = both_out (node M lo) (node M hi)
 
     X : Layer
     X = set M lo v
 
-    to : (z : ℕ) → node (dropAt hi X) z ≡ v → target v k ≡ suc c → target (node (dropAt hi X) z) k ≡ suc c
+    to : (z : ℕ) → node (without_at hi X) z ≡ v → target v k ≡ suc c → target (node (without_at hi X) z) k ≡ suc c
     to z f g = rw f g
 
-    below : (q : Bool) → eqb b lo ≡ q → b < hi → target (node (dropAt hi X) b) k ≡ suc c
+    below : (q : Bool) → eqb b lo ≡ q → b < hi → target (node (without_at hi X) b) k ≡ suc c
     below true f h = let s = eqb-true b lo f in
         to b (drop-below hi b X h ∙ rw s (get_or-set_same M lo v [] (omega arith))) (target_left (node M lo) (node M hi) k c (rw (← s) e))
     below false f h = rw (drop-below hi b X h ∙ get_or-set_other M lo b v [] (eqb-false b lo f)) e
 
-    go : (q : Bool) → eqb b hi ≡ q → (q' : Bool) → ltb hi b ≡ q' → target (node (dropAt hi X) (cond q lo (cond q' (b - 1) b))) k ≡ suc c
+    go : (q : Bool) → eqb b hi ≡ q → (q' : Bool) → ltb hi b ≡ q' → target (node (without_at hi X) (cond q lo (cond q' (b - 1) b))) k ≡ suc c
     go true f q' g = let s = eqb-true b hi f in
         to lo (drop-below hi lo X lt ∙ get_or-set_same M lo v [] (omega arith)) (target_right (node M lo) (node M hi) k c nc (rw (← s) e))
     go false f true g = let h = ltb-true hi b g in let z : suc (b - 1) ≡ b = omega arith in
@@ -127,8 +127,8 @@ join-node M lo hi b k c lt inn nc e = go (eqb b hi) refl (ltb hi b) refl
         le x y n m = omega (arith, ltb-false y x m)
 
 pub join-keeps : (d lo hi : ℕ) (Ls : Net) (x : ℕ) (w : List ℕ) → lo < hi → hi < length (get_or Ls (suc d) []) → clash (node (get_or Ls (suc d) []) lo) (node (get_or Ls (suc d) []) hi) ≡ false
-    → Path-from Ls x w → Path-from (joinAt d lo hi Ls) x w
-unfolding joinAt
+    → PathFrom Ls x w → PathFrom (join_at d lo hi Ls) x w
+unfolding join_at
 join-keeps zero lo hi [] x w a b n p = p
 join-keeps (suc d) lo hi [] x w a b n p = p
 join-keeps zero lo hi (L ∷ []) x w a b n p = p
@@ -140,17 +140,17 @@ join-keeps (suc d) lo hi (L ∷ Ls) x [] a b n p = absurd p
 join-keeps (suc d) lo hi (L ∷ Ls) x (j ∷ w) a b n p = (p.0, p.1, join-keeps d lo hi Ls p.0 w a b n p.2)
 
 -- ---- neat
-pub eachDoor-length : (f : ℕ → ℕ → ℕ) (j : ℕ) (ts : Outs) → length (eachDoor f j ts) ≡ length ts
-unfolding eachDoor
-eachDoor-length f j [] = refl
-eachDoor-length f j (zero ∷ ts) = ap suc (eachDoor-length f (suc j) ts)
-eachDoor-length f j (suc b ∷ ts) = ap suc (eachDoor-length f (suc j) ts)
+pub each_door-length : (f : ℕ → ℕ → ℕ) (j : ℕ) (ts : Outs) → length (each_door f j ts) ≡ length ts
+unfolding each_door
+each_door-length f j [] = refl
+each_door-length f j (zero ∷ ts) = ap suc (each_door-length f (suc j) ts)
+each_door-length f j (suc b ∷ ts) = ap suc (each_door-length f (suc j) ts)
 
 module _ (n : ℕ) where
-  neat-each : (f : ℕ → ℕ → ℕ → ℕ) (c : ℕ) (L : Layer) → NeatLayer n L → NeatLayer n (eachNode f c L)
-  unfolding eachNode
+  neat-each : (f : ℕ → ℕ → ℕ → ℕ) (c : ℕ) (L : Layer) → NeatLayer n L → NeatLayer n (each_node f c L)
+  unfolding each_node
   neat-each f c [] h nd i = absurd i
-  neat-each f c (x ∷ L) h nd (inl e) = let z = h x (inl refl) in omega (arith, eachDoor-length (f c) 1 x, ap (λ (y : Outs). length y) e)
+  neat-each f c (x ∷ L) h nd (inl e) = let z = h x (inl refl) in omega (arith, each_door-length (f c) 1 x, ap (λ (y : Outs). length y) e)
   neat-each f c (x ∷ L) h nd (inr i) = neat-each f (suc c) L (λ y k. h y (inr k)) nd i
 
   neat-redirect : (f : ℕ → ℕ → ℕ → ℕ) (L : Layer) → NeatLayer n L → NeatLayer n (redirect f L)
@@ -177,19 +177,19 @@ module _ (n : ℕ) where
   neat-set (x ∷ L) (suc i) v g h nd (inl e) = h nd (inl e)
   neat-set (x ∷ L) (suc i) v g h nd (inr k) = neat-set L i v g (λ y m. h y (inr m)) nd k
 
-  neat-drop : (i : ℕ) (L : Layer) → NeatLayer n L → NeatLayer n (dropAt i L)
-  unfolding dropAt
+  neat-drop : (i : ℕ) (L : Layer) → NeatLayer n L → NeatLayer n (without_at i L)
+  unfolding without_at
   neat-drop zero [] h nd k = absurd k
   neat-drop (suc i) [] h nd k = absurd k
   neat-drop zero (x ∷ L) h nd k = h nd (inr k)
   neat-drop (suc i) (x ∷ L) h nd (inl e) = h nd (inl e)
   neat-drop (suc i) (x ∷ L) h nd (inr k) = neat-drop i L (λ y m. h y (inr m)) nd k
 
-  both-length : (x y : Outs) → length x ≤ n → length y ≤ n → length (bothOut x y) ≤ n
-  unfolding bothOut
+  both-length : (x y : Outs) → length x ≤ n → length y ≤ n → length (both_out x y) ≤ n
+  unfolding both_out
   both-length x y a b = le n x y a b
     where
-      le : (m : ℕ) (x y : Outs) → length x ≤ m → length y ≤ m → length (bothOut x y) ≤ m
+      le : (m : ℕ) (x y : Outs) → length x ≤ m → length y ≤ m → length (both_out x y) ≤ m
       le m [] y a b = b
       le m (s ∷ x) [] a b = a
       le zero (s ∷ x) (t ∷ y) a b = absurd (not-suc-le-zero a)
@@ -199,25 +199,25 @@ module _ (n : ℕ) where
   unfolding tidy
   neat-tidy fr [] h = tt
   neat-tidy fr (L ∷ Ls) h = (
-    neat-compress (flags fr (marksUp (L ∷ Ls))) (redirect (λ a j b. renumber (flags (marksNext fr L (width Ls)) (marksUp Ls)) b) L)
-        (neat-redirect (λ a j b. renumber (flags (marksNext fr L (width Ls)) (marksUp Ls)) b) L h.0),
-    neat-tidy (marksNext fr L (width Ls)) Ls h.1,
+    neat-compress (flags fr (marks_up (L ∷ Ls))) (redirect (λ a j b. renumber (flags (marks_next fr L (width Ls)) (marks_up Ls)) b) L)
+        (neat-redirect (λ a j b. renumber (flags (marks_next fr L (width Ls)) (marks_up Ls)) b) L h.0),
+    neat-tidy (marks_next fr L (width Ls)) Ls h.1,
   )
 
   pub neat-tidied : (Ls : Net) → Neat n Ls → Neat n (tidied Ls)
   unfolding tidied
   neat-tidied [] h = tt
-  neat-tidied (L ∷ Ls) h = (neat-redirect (λ a j b. renumber (flags (marksNext (Some tt ∷ []) L (width Ls)) (marksUp Ls)) b) L h.0, neat-tidy (marksNext (Some tt ∷ []) L (width Ls)) Ls h.1)
+  neat-tidied (L ∷ Ls) h = (neat-redirect (λ a j b. renumber (flags (marks_next (Some tt ∷ []) L (width Ls)) (marks_up Ls)) b) L h.0, neat-tidy (marks_next (Some tt ∷ []) L (width Ls)) Ls h.1)
 
-  pub neat-join : (d lo hi : ℕ) (Ls : Net) → Neat n Ls → Neat n (joinAt d lo hi Ls)
-  unfolding joinAt
+  pub neat-join : (d lo hi : ℕ) (Ls : Net) → Neat n Ls → Neat n (join_at d lo hi Ls)
+  unfolding join_at
   neat-join zero lo hi [] h = h
   neat-join (suc d) lo hi [] h = h
   neat-join zero lo hi (L ∷ []) h = h
   neat-join zero lo hi (L ∷ M ∷ Ls) h = (
     neat-redirect (λ a j b. suc (moved lo hi b)) L h.0,
     (
-      neat-drop hi (set M lo (bothOut (node M lo) (node M hi))) (neat-set M lo (bothOut (node M lo) (node M hi)) (both-length (node M lo) (node M hi) (neat-node M lo h.1.0) (neat-node M hi h.1.0)) h.1.0),
+      neat-drop hi (set M lo (both_out (node M lo) (node M hi))) (neat-set M lo (both_out (node M lo) (node M hi)) (both-length (node M lo) (node M hi) (neat-node M lo h.1.0) (neat-node M hi h.1.0)) h.1.0),
       h.1.1,
     ),
   )
@@ -230,22 +230,22 @@ module _ (n : ℕ) where
     neat-part (suc d) a labs [] h = h
     neat-part zero a labs (L ∷ []) h = h
     neat-part zero a labs (L ∷ M ∷ Ls) h = (
-      neat-redirect (λ u j b. cond (eqb b a && leaves r rule tally (headO r rule tally (ins (arrive r rule tally) a labs L)) (get_or labs u None) j) (suc (length M)) (suc b)) L h.0,
+      neat-redirect (λ u j b. cond (eqb b a && leaves r rule tally (first_arrival r rule tally (ins (arrive r rule tally) a labs L)) (get_or labs u None) j) (suc (length M)) (suc b)) L h.0,
       (
         λ nd i. elim (among-split nd M (node M a ∷ []) i) [ inl x ↦ h.1.0 nd x | inr x ↦ elim x [ inl e ↦ rw e (neat-node M a h.1.0) | inr y ↦ absurd y ] ],
         h.1.1,
       ),
     )
-    neat-part (suc d) a labs (L ∷ Ls) h = (h.0, neat-part d a (labelsNext r rule tally labs L (width Ls)) Ls h.1)
+    neat-part (suc d) a labs (L ∷ Ls) h = (h.0, neat-part d a (labels_next r rule tally labs L (width Ls)) Ls h.1)
 
     pub neat-sweeps : (i : ℕ) (labs : List (Option (Lab r rule tally))) (Ls : Net) → Neat n Ls → Neat n (sweeps r rule tally i labs Ls)
     unfolding sweeps
     neat-sweeps i labs [] h = tt
     neat-sweeps i labs (L ∷ Ls) h =
-        (neat-redirect (λ a j b. cond (barred r rule tally i (suc (length Ls)) j (get_or labs a None) (get_or (ups Ls) b None)) 0 (suc b)) L h.0, neat-sweeps (suc i) (labelsNext r rule tally labs L (width Ls)) Ls h.1)
+        (neat-redirect (λ a j b. cond (barred r rule tally i (suc (length Ls)) j (get_or labs a None) (get_or (ups Ls) b None)) 0 (suc b)) L h.0, neat-sweeps (suc i) (labels_next r rule tally labs L (width Ls)) Ls h.1)
 
     pub neat-cuts : (c : V) (labs : List (Option (Lab r rule tally))) (Ls : Net) → Neat n Ls → Neat n (cuts r rule tally c labs Ls)
     unfolding cuts
     neat-cuts c labs [] h = tt
     neat-cuts c labs (L ∷ Ls) h =
-        (neat-redirect (λ a j b. cond (dear r rule tally c j (get_or labs a None)) 0 (suc b)) L h.0, neat-cuts c (labelsNext r rule tally labs L (width Ls)) Ls h.1)
+        (neat-redirect (λ a j b. cond (dear r rule tally c j (get_or labs a None)) 0 (suc b)) L h.0, neat-cuts c (labels_next r rule tally labs L (width Ls)) Ls h.1)

@@ -5,11 +5,11 @@ use Rattle.round.specs.declared.table.Round.{Round}
 use Rattle.rules.specs.Rules.{RuleSense}
 use Rattle.tallies.specs.Tallies.{TallySense}
 use Rattle.layers.specs.declared.node.Node.{Node}
-use Rattle.layers.specs.Flow.{Net, node, countArcs, ins, tidied, clash, joinAt, seeks}
+use Rattle.layers.specs.Flow.{Net, node, count_arcs, ins, tidied, clash, join_at, seeks}
 use Rattle.layers.specs.Labels.{firsts, arrive, opened}
-use Rattle.layers.specs.Records.{arcsIn, downsIn, laid}
-use Rattle.layers.specs.Calls.{Call, Sweep, Part, Join, Cut, Refine, arrivals, partedAt, nodes, arcs, layer, relaid, openedOn, fewer, swept, sweepAnswer, cut_at, partAnswer, split, joinAnswer, joined, splits, splitsAll, sweptOut, refined, does, run, bound, must, settled, agreedAll, valueIn, oneGroup as oneGroupIn, isFull, parted as partedIn, badNode as badNodeIn}
-use Rattle.layers.proofs.Model.{sweep, cut, oneGroup, part_at, count, done, refused, badLayer, badNode, part, join, unless, swept as untilQuiet, parted as partedArcs, refines, refine, act, after, agrees, settles, bound as boundOf, must as mustOf, settled as settled_of}
+use Rattle.layers.specs.Records.{arcs_in, downs_in, laid}
+use Rattle.layers.specs.Calls.{Call, Sweep, Part, Join, Cut, Refine, arrivals, parted_at, nodes, arcs, layer, relaid, opened_on, fewer, swept, sweep_answer, cut_at, part_answer, split, join_answer, joined, splits, splits_all, swept_out, refined, does, run, bound, must, settled, agreed_all, value_in, one_group as oneGroupIn, is_full, parted as partedIn, bad_node as badNodeIn}
+use Rattle.layers.proofs.Model.{sweep, cut, one_group, part_at, count, done, refused, bad_layer, bad_node, part, join, unless, swept as untilQuiet, parted as partedArcs, refines, refine, act, after, agrees, settles, bound as boundOf, must as mustOf, settled as settled_of}
 use Rattle.layers.proofs.Counts.{sweep-fewer, settled-yes, settled-if}
 use Rattle.layers.proofs.Bridge.{Full, stood, labsAt, thinned-stood, trimmed-stood, quiet-stood, agrees-stood, stood-at, group_at, part-at, value-stood, later-stays}
 use Rattle.layers.proofs.Laid.{full as full-laid, nodes-laid, arcs-laid}
@@ -62,13 +62,13 @@ module _ {S V : Type 0} (r : Round) (rule : RuleSense S) (self : (s : S) → rul
   unfolding cut_at cut
   cut-X c Ls p = relaid-X Ls _ p ∙ rw (nodes-X Ls p) (ap (λ (z : Net). X (tidied z)) (trimmed-stood r rule tally W w c (firsts r rule tally) Ls (full Ls p)))
 
-  pub at-X : (d : ℕ) (Ls : Net) (p : Well Ls) → d < r.n → (downsIn (layer r.n W d (X Ls)) ≡ labsAt r rule tally W w d (firsts r rule tally) Ls) × (arcsIn r.n (layer r.n W d (X Ls)) ≡ get_or Ls d []) × (length (layer r.n W d (X Ls)) ≡ length (get_or Ls d []))
+  pub at-X : (d : ℕ) (Ls : Net) (p : Well Ls) → d < r.n → (downs_in (layer r.n W d (X Ls)) ≡ labsAt r rule tally W w d (firsts r rule tally) Ls) × (arcs_in r.n (layer r.n W d (X Ls)) ≡ get_or Ls d []) × (length (layer r.n W d (X Ls)) ≡ length (get_or Ls d []))
   at-X d Ls p h =
       let q = stood-at r rule tally W w d (firsts r rule tally) Ls (full Ls p) (omega (arith, p.deep)) in
       let e = ap (λ (N : List (List (Node S V))). get_or N d []) (nodes-X Ls p) in
-      (ap downsIn e ∙ q.0, ap (arcsIn r.n) e ∙ q.1, rw e q.2)
+      (ap downs_in e ∙ q.0, ap (arcs_in r.n) e ∙ q.1, rw e q.2)
 
-  group-X : (i a c : ℕ) (Ls : Net) → Well Ls → 1 ≤ i → i < r.n → a - 1 ≡ c → oneGroupIn r rule tally W i a (X Ls) ≡ oneGroup r rule tally (i - 1) c (firsts r rule tally) Ls
+  group-X : (i a c : ℕ) (Ls : Net) → Well Ls → 1 ≤ i → i < r.n → a - 1 ≡ c → oneGroupIn r rule tally W i a (X Ls) ≡ one_group r rule tally (i - 1) c (firsts r rule tally) Ls
   unfolding oneGroupIn arrivals
   group-X i a c Ls p lo hi e =
       let q = at-X (i - 1) Ls p (omega arith) in
@@ -78,7 +78,7 @@ module _ {S V : Type 0} (r : Round) (rule : RuleSense S) (self : (s : S) → rul
   unfolding split
   split-X i a c Ls p lo hi e =
       relaid-X Ls _ p ∙ ap X
-      (ap₂ (λ x y. partedAt r rule tally (i - 1) (a - 1) x y) (at-X (i - 1) Ls p (omega arith)).0 (arcs-X Ls p)
+      (ap₂ (λ x y. parted_at r rule tally (i - 1) (a - 1) x y) (at-X (i - 1) Ls p (omega arith)).0 (arcs-X Ls p)
       ∙ rw e (part-at r rule tally W w (i - 1) c (firsts r rule tally) Ls))
 
   -- ---- part and join: a refusal leaves the list
@@ -97,7 +97,7 @@ module _ {S V : Type 0} (r : Round) (rule : RuleSense S) (self : (s : S) → rul
   outcomes false false false true a b c d Ls Ms = refl
   outcomes false false false false a b c d Ls Ms = refl
 
-  placed : (i : ℕ) → badLayer r rule tally i ≡ false → (1 ≤ i) × (i < r.n)
+  placed : (i : ℕ) → bad_layer r rule tally i ≡ false → (1 ≤ i) × (i < r.n)
   placed i e = let q = or_parts (ltb i 1) (leb r.n i) e in (ltb-false i 1 q.0, leb-false r.n i q.1)
 
   four : (x : Bool) (y y' z z' t t' : Bool) (A A' B : List (Node S V)) → (x ≡ false → (y ≡ y') × (z ≡ z') × (t ≡ t') × (A ≡ A')) → cond x B (cond y B (cond z B (cond t B A))) ≡ cond x B (cond y' B (cond z' B (cond t' B A')))
@@ -106,27 +106,27 @@ module _ {S V : Type 0} (r : Round) (rule : RuleSense S) (self : (s : S) → rul
       ap₂ (λ (y z : Bool). cond y B (cond z B (cond t B A))) q.0 q.1 ∙ ap₂ (λ (t : Bool) (A : List (Node S V)). cond y' B (cond z' B (cond t B A))) q.2 q.3
 
   pub part-X : (i a : ℕ) (Ls : Net) → Well Ls → partedIn r rule tally W i a (X Ls) ≡ X (unless r rule tally W Ls (part r rule tally W i a Ls))
-  unfolding partedIn partAnswer part
+  unfolding partedIn part_answer part
   part-X i a Ls p =
-      refusals (badLayer r rule tally i) (badNodeIn r rule tally W i a (X Ls)) (oneGroupIn r rule tally W i a (X Ls)) (isFull r rule tally W i (X Ls)) 19 20 22 23 (split r rule tally W i a (X Ls)) (X Ls)
-      ∙ four (badLayer r rule tally i) (badNodeIn r rule tally W i a (X Ls)) (badNode r rule tally i a Ls) (oneGroupIn r rule tally W i a (X Ls)) (oneGroup r rule tally (i - 1) (a - 1) (firsts r rule tally) Ls) (isFull r rule tally W i (X Ls)) (leb W (count r rule tally i Ls)) (split r rule tally W i a (X Ls)) (X (part_at r rule tally (i - 1) (a - 1) (firsts r rule tally) Ls)) (X Ls)
+      refusals (bad_layer r rule tally i) (badNodeIn r rule tally W i a (X Ls)) (oneGroupIn r rule tally W i a (X Ls)) (is_full r rule tally W i (X Ls)) 19 20 22 23 (split r rule tally W i a (X Ls)) (X Ls)
+      ∙ four (bad_layer r rule tally i) (badNodeIn r rule tally W i a (X Ls)) (bad_node r rule tally i a Ls) (oneGroupIn r rule tally W i a (X Ls)) (one_group r rule tally (i - 1) (a - 1) (firsts r rule tally) Ls) (is_full r rule tally W i (X Ls)) (leb W (count r rule tally i Ls)) (split r rule tally W i a (X Ls)) (X (part_at r rule tally (i - 1) (a - 1) (firsts r rule tally) Ls)) (X Ls)
       (λ e. let b = placed i e in let n = (at-X i Ls p b.1).2 in
       (ap (λ (m : ℕ). ltb a 1 || ltb m a) n, group-X i a (a - 1) Ls p b.0 b.1 refl, ap (leb W) n, split-X i a (a - 1) Ls p b.0 b.1 refl))
-      ∙ sym (outcomes (badLayer r rule tally i) (badNode r rule tally i a Ls) (oneGroup r rule tally (i - 1) (a - 1) (firsts r rule tally) Ls) (leb W (count r rule tally i Ls)) 20 21 23 24 Ls (part_at r rule tally (i - 1) (a - 1) (firsts r rule tally) Ls))
+      ∙ sym (outcomes (bad_layer r rule tally i) (bad_node r rule tally i a Ls) (one_group r rule tally (i - 1) (a - 1) (firsts r rule tally) Ls) (leb W (count r rule tally i Ls)) 20 21 23 24 Ls (part_at r rule tally (i - 1) (a - 1) (firsts r rule tally) Ls))
 
   pub join-X : (i a b : ℕ) (Ls : Net) → Well Ls → joined r rule tally W i a b (X Ls) ≡ X (unless r rule tally W Ls (join r rule tally W i a b Ls))
-  unfolding joined joinAnswer join
+  unfolding joined join_answer join
   join-X i a b Ls p =
       let D : Net = arcs r.n W (X Ls) in
-      let J : Net → Net = joinAt (i - 1) (min a b - 1) (max a b - 1) in
+      let J : Net → Net = join_at (i - 1) (min a b - 1) (max a b - 1) in
       let C : Net → Bool = λ Ms. clash (node (get_or Ms i []) (min a b - 1)) (node (get_or Ms i []) (max a b - 1)) in
       let B : Bool = badNodeIn r rule tally W i a (X Ls) || badNodeIn r rule tally W i b (X Ls) in
-      let B' : Bool = badNode r rule tally i a Ls || badNode r rule tally i b Ls in
-      refusals (badLayer r rule tally i) B (eqb a b) (C D) 19 20 24 25 (relaid r rule tally W (X Ls) (J D)) (X Ls)
-      ∙ four (badLayer r rule tally i) B B' (eqb a b) (eqb a b) (C D) (C Ls) (relaid r rule tally W (X Ls) (J D)) (X (J Ls)) (X Ls)
+      let B' : Bool = bad_node r rule tally i a Ls || bad_node r rule tally i b Ls in
+      refusals (bad_layer r rule tally i) B (eqb a b) (C D) 19 20 24 25 (relaid r rule tally W (X Ls) (J D)) (X Ls)
+      ∙ four (bad_layer r rule tally i) B B' (eqb a b) (eqb a b) (C D) (C Ls) (relaid r rule tally W (X Ls) (J D)) (X (J Ls)) (X Ls)
       (λ e. let q = placed i e in
       (ap (λ (m : ℕ). (ltb a 1 || ltb m a) || (ltb b 1 || ltb m b)) (at-X i Ls p q.1).2, refl, ap C (arcs-X Ls p), relaid-X Ls (J D) p ∙ ap (λ (z : Net). X (J z)) (arcs-X Ls p)))
-      ∙ sym (outcomes (badLayer r rule tally i) B' (eqb a b) (C Ls) 20 21 25 26 Ls (J Ls))
+      ∙ sym (outcomes (bad_layer r rule tally i) B' (eqb a b) (C Ls) 20 21 25 26 Ls (J Ls))
 
   -- ---- refine
   abbrev pub lift : {A : Type 0} → A × Net → A × List (Node S V)
@@ -141,13 +141,13 @@ module _ {S V : Type 0} (r : Round) (rule : RuleSense S) (self : (s : S) → rul
       (rw n (past (count r rule tally i Ls) a)) (ap (leb W) n)
       ∙ ap (λ (y : Bool). cond (leb (count r rule tally i Ls) a) (false, X Ls) (cond y (splits r rule tally W k i (suc (suc a)) (X Ls)) (cond (leb W (count r rule tally i Ls)) (true, X Ls) (splits r rule tally W k i (suc (suc a)) (split r rule tally W i (suc a) (X Ls))))))
       (group-X i (suc a) a Ls p lo hi (omega arith))
-      ∙ go (leb (count r rule tally i Ls) a) refl (oneGroup r rule tally (i - 1) a (firsts r rule tally) Ls) refl (leb W (count r rule tally i Ls)) refl (splits-X k i (suc a) Ls p lo hi)
+      ∙ go (leb (count r rule tally i Ls) a) refl (one_group r rule tally (i - 1) a (firsts r rule tally) Ls) refl (leb W (count r rule tally i Ls)) refl (splits-X k i (suc a) Ls p lo hi)
       (λ q. splits-X k i (suc a) (part_at r rule tally (i - 1) a (firsts r rule tally) Ls) q lo hi)
     where
       P : Net
       P = part_at r rule tally (i - 1) a (firsts r rule tally) Ls
 
-      go : (x : Bool) → leb (count r rule tally i Ls) a ≡ x → (y : Bool) → oneGroup r rule tally (i - 1) a (firsts r rule tally) Ls ≡ y → (z : Bool) → leb W (count r rule tally i Ls) ≡ z
+      go : (x : Bool) → leb (count r rule tally i Ls) a ≡ x → (y : Bool) → one_group r rule tally (i - 1) a (firsts r rule tally) Ls ≡ y → (z : Bool) → leb W (count r rule tally i Ls) ≡ z
           → splits r rule tally W k i (suc (suc a)) (X Ls) ≡ lift (partedArcs r rule tally W k i (suc a) Ls)
           → (Well P → splits r rule tally W k i (suc (suc a)) (X P) ≡ lift (partedArcs r rule tally W k i (suc a) P))
           → cond x (false, X Ls) (cond y (splits r rule tally W k i (suc (suc a)) (X Ls)) (cond z (true, X Ls) (splits r rule tally W k i (suc (suc a)) (split r rule tally W i (suc a) (X Ls)))))
@@ -160,34 +160,34 @@ module _ {S V : Type 0} (r : Round) (rule : RuleSense S) (self : (s : S) → rul
           ap (splits r rule tally W k i (suc (suc a))) (split-X i (suc a) a Ls p lo hi (omega arith))
           ∙ t (proper-part r rule self tally W w (i - 1) a Ls (rw ei (leb-false (count r rule tally i Ls) a e)) (rw ei (leb-false W (count r rule tally i Ls) g)) f p)
 
-  splitsAll-X : (k i : ℕ) (Ls : Net) → Well Ls → 1 ≤ i → i + k ≤ r.n → splitsAll r rule tally W k i (X Ls) ≡ lift (refines r rule tally W k i Ls)
-  unfolding splitsAll refines
-  splitsAll-X zero i Ls p lo hi = refl
-  splitsAll-X (suc k) i Ls p lo hi =
+  splits_all-X : (k i : ℕ) (Ls : Net) → Well Ls → 1 ≤ i → i + k ≤ r.n → splits_all r rule tally W k i (X Ls) ≡ lift (refines r rule tally W k i Ls)
+  unfolding splits_all refines
+  splits_all-X zero i Ls p lo hi = refl
+  splits_all-X (suc k) i Ls p lo hi =
       let s = sweep r rule tally Ls in
       let ps = proper-sweep r rule tally W w Ls p in
       let q = partedArcs r rule tally W W i 0 s in
-      let G : Bool × List (Node S V) → ℕ × List (Node S V) = λ p. cond p.0 (i, p.1) (splitsAll r rule tally W k (suc i) p.1) in
+      let G : Bool × List (Node S V) → ℕ × List (Node S V) = λ p. cond p.0 (i, p.1) (splits_all r rule tally W k (suc i) p.1) in
       ap G (ap (splits r rule tally W W i 1) (swept-X Ls p) ∙ splits-X W i 0 s ps lo (omega arith))
-      ∙ go q.0 q.1 (splitsAll-X k (suc i) q.1 (proper-parted r rule self tally W w W i 0 s lo ps) (omega arith) (omega arith))
+      ∙ go q.0 q.1 (splits_all-X k (suc i) q.1 (proper-parted r rule self tally W w W i 0 s lo ps) (omega arith) (omega arith))
     where
-      go : (x : Bool) (Ms : Net) → splitsAll r rule tally W k (suc i) (X Ms) ≡ lift (refines r rule tally W k (suc i) Ms) → cond x (i, X Ms) (splitsAll r rule tally W k (suc i) (X Ms)) ≡ lift (elim x [ true ↦ (i, Ms) | false ↦ refines r rule tally W k (suc i) Ms ])
+      go : (x : Bool) (Ms : Net) → splits_all r rule tally W k (suc i) (X Ms) ≡ lift (refines r rule tally W k (suc i) Ms) → cond x (i, X Ms) (splits_all r rule tally W k (suc i) (X Ms)) ≡ lift (elim x [ true ↦ (i, Ms) | false ↦ refines r rule tally W k (suc i) Ms ])
       go true Ms h = refl
       go false Ms h = h
 
-  pub answer-X : (Ls : Net) → Well Ls → sweepAnswer r rule tally W (X Ls) ≡ countArcs Ls - countArcs (sweep r rule tally Ls)
+  pub answer-X : (Ls : Net) → Well Ls → sweep_answer r rule tally W (X Ls) ≡ count_arcs Ls - count_arcs (sweep r rule tally Ls)
   unfolding fewer
-  answer-X Ls p = ap₂ (λ (x y : Net). countArcs x - countArcs y) (arcs-X Ls p) (ap (arcs r.n W) (swept-X Ls p) ∙ arcs-X (sweep r rule tally Ls) (proper-sweep r rule tally W w Ls p))
+  answer-X Ls p = ap₂ (λ (x y : Net). count_arcs x - count_arcs y) (arcs-X Ls p) (ap (arcs r.n W) (swept-X Ls p) ∙ arcs-X (sweep r rule tally Ls) (proper-sweep r rule tally W w Ls p))
 
-  sweptOut-X : (k : ℕ) (Ls : Net) → Well Ls → sweptOut r rule tally W k (X Ls) ≡ X (untilQuiet r rule tally W k Ls)
-  unfolding sweptOut untilQuiet
-  sweptOut-X zero Ls p = refl
-  sweptOut-X (suc k) Ls p =
+  swept_out-X : (k : ℕ) (Ls : Net) → Well Ls → swept_out r rule tally W k (X Ls) ≡ X (untilQuiet r rule tally W k Ls)
+  unfolding swept_out untilQuiet
+  swept_out-X zero Ls p = refl
+  swept_out-X (suc k) Ls p =
       let s = sweep r rule tally Ls in
-      ap₂ (λ (x : Bool) (y : List (Node S V)). cond x y (sweptOut r rule tally W k y)) (rw (answer-X Ls p) (nothing-less (countArcs Ls) (countArcs s) (sweep-fewer r rule tally Ls))) (swept-X Ls p)
-      ∙ go (eqb (countArcs s) (countArcs Ls)) (sweptOut-X k s (proper-sweep r rule tally W w Ls p))
+      ap₂ (λ (x : Bool) (y : List (Node S V)). cond x y (swept_out r rule tally W k y)) (rw (answer-X Ls p) (nothing-less (count_arcs Ls) (count_arcs s) (sweep-fewer r rule tally Ls))) (swept-X Ls p)
+      ∙ go (eqb (count_arcs s) (count_arcs Ls)) (swept_out-X k s (proper-sweep r rule tally W w Ls p))
     where
-      go : (x : Bool) → sweptOut r rule tally W k (X (sweep r rule tally Ls)) ≡ X (untilQuiet r rule tally W k (sweep r rule tally Ls)) → cond x (X (sweep r rule tally Ls)) (sweptOut r rule tally W k (X (sweep r rule tally Ls))) ≡ X (elim x [ true ↦ sweep r rule tally Ls | false ↦ untilQuiet r rule tally W k (sweep r rule tally Ls) ])
+      go : (x : Bool) → swept_out r rule tally W k (X (sweep r rule tally Ls)) ≡ X (untilQuiet r rule tally W k (sweep r rule tally Ls)) → cond x (X (sweep r rule tally Ls)) (swept_out r rule tally W k (X (sweep r rule tally Ls))) ≡ X (elim x [ true ↦ sweep r rule tally Ls | false ↦ untilQuiet r rule tally W k (sweep r rule tally Ls) ])
       go true h = refl
       go false h = h
 
@@ -196,10 +196,10 @@ module _ {S V : Type 0} (r : Round) (rule : RuleSense S) (self : (s : S) → rul
   refined-X Ls p =
       let q = refines r rule tally W (r.n - 1) 1 Ls in
       let pq = proper-refines r rule self tally W w (r.n - 1) 1 Ls (omega arith) p in
-      let G : ℕ × List (Node S V) → ℕ × List (Node S V) = λ p. (p.0, sweptOut r rule tally W (suc (countArcs (arcs r.n W p.1))) p.1) in
-      ap G (splitsAll-X (r.n - 1) 1 Ls p (omega arith) (omega (arith, r.one)))
-      ∙ ap (λ (m : Net). (q.0, sweptOut r rule tally W (suc (countArcs m)) (X q.1))) (arcs-X q.1 pq)
-      ∙ ap (λ (m : List (Node S V)). (q.0, m)) (sweptOut-X (suc (countArcs q.1)) q.1 pq)
+      let G : ℕ × List (Node S V) → ℕ × List (Node S V) = λ p. (p.0, swept_out r rule tally W (suc (count_arcs (arcs r.n W p.1))) p.1) in
+      ap G (splits_all-X (r.n - 1) 1 Ls p (omega arith) (omega (arith, r.one)))
+      ∙ ap (λ (m : Net). (q.0, swept_out r rule tally W (suc (count_arcs m)) (X q.1))) (arcs-X q.1 pq)
+      ∙ ap (λ (m : List (Node S V)). (q.0, m)) (swept_out-X (suc (count_arcs q.1)) q.1 pq)
 
   -- ---- every call, every list of calls
   does-X : (c : Call V) (Ls : Net) → Well Ls → does r rule tally W c (X Ls) ≡ X (act r rule tally W c Ls)
@@ -218,7 +218,7 @@ module _ {S V : Type 0} (r : Round) (rule : RuleSense S) (self : (s : S) → rul
   pub bound-X : (Ls : Net) → Well Ls → bound r.n W (X Ls) ≡ boundOf r rule tally Ls
   unfolding bound boundOf
   bound-X Ls p =
-      ap₂ (λ (N : List (List (Node S V))) (k : ℕ). valueIn (get_or N k [])) (nodes-X Ls p) (sym p.deep) ∙ value-stood r rule tally W w (firsts r rule tally) Ls (full Ls p)
+      ap₂ (λ (N : List (List (Node S V))) (k : ℕ). value_in (get_or N k [])) (nodes-X Ls p) (sym p.deep) ∙ value-stood r rule tally W w (firsts r rule tally) Ls (full Ls p)
 
   pub must-X : (i j : ℕ) (Ls : Net) → Well Ls → must r.n W i j (X Ls) ≡ mustOf r rule tally i j Ls
   unfolding must mustOf
@@ -230,16 +230,16 @@ module _ {S V : Type 0} (r : Round) (rule : RuleSense S) (self : (s : S) → rul
       rw (nodes-X Ls p) (ap₂ ◌&&◌ (agrees-stood r rule tally W w (firsts r rule tally) Ls (full Ls p)) (quiet-stood r rule tally W w 0 (firsts r rule tally) Ls (omega (arith, p.deep)) (full Ls p)))
 
   -- settled is yes exactly when the in-arcs agree and a sweep would answer 0
-  pub settled-means-X : (Ls : Net) → Well Ls → settled r rule tally W (X Ls) ≡ (agreedAll r rule tally (nodes r.n W (X Ls)) && eqb (sweepAnswer r rule tally W (X Ls)) 0)
+  pub settled-means-X : (Ls : Net) → Well Ls → settled r rule tally W (X Ls) ≡ (agreed_all r rule tally (nodes r.n W (X Ls)) && eqb (sweep_answer r rule tally W (X Ls)) 0)
   settled-means-X Ls p =
-      let ea : agreedAll r rule tally (nodes r.n W (X Ls)) ≡ agrees r rule tally (firsts r rule tally) Ls = ap (agreedAll r rule tally) (nodes-X Ls p) ∙ agrees-stood r rule tally W w (firsts r rule tally) Ls (full Ls p) in
-      let en : eqb (sweepAnswer r rule tally W (X Ls)) 0 ≡ eqb (countArcs (sweep r rule tally Ls)) (countArcs Ls) = ap (λ (m : ℕ). eqb m 0) (answer-X Ls p) ∙ nothing-less (countArcs Ls) (countArcs (sweep r rule tally Ls)) (sweep-fewer r rule tally Ls) in
-      settled-X Ls p ∙ same_bool (settled_of r rule tally Ls) (agrees r rule tally (firsts r rule tally) Ls && eqb (countArcs (sweep r rule tally Ls)) (countArcs Ls))
-      (λ e. let q = settled-yes r rule tally Ls p.one-first p.tied e in ap₂ ◌&&◌ q.0 (eq-eqb (countArcs (sweep r rule tally Ls)) (countArcs Ls) (ap countArcs q.1)))
-      (λ e. let q = and_parts (agrees r rule tally (firsts r rule tally) Ls) (eqb (countArcs (sweep r rule tally Ls)) (countArcs Ls)) e in settled-if r rule tally Ls q.0 (eqb-true (countArcs (sweep r rule tally Ls)) (countArcs Ls) q.1))
+      let ea : agreed_all r rule tally (nodes r.n W (X Ls)) ≡ agrees r rule tally (firsts r rule tally) Ls = ap (agreed_all r rule tally) (nodes-X Ls p) ∙ agrees-stood r rule tally W w (firsts r rule tally) Ls (full Ls p) in
+      let en : eqb (sweep_answer r rule tally W (X Ls)) 0 ≡ eqb (count_arcs (sweep r rule tally Ls)) (count_arcs Ls) = ap (λ (m : ℕ). eqb m 0) (answer-X Ls p) ∙ nothing-less (count_arcs Ls) (count_arcs (sweep r rule tally Ls)) (sweep-fewer r rule tally Ls) in
+      settled-X Ls p ∙ same_bool (settled_of r rule tally Ls) (agrees r rule tally (firsts r rule tally) Ls && eqb (count_arcs (sweep r rule tally Ls)) (count_arcs Ls))
+      (λ e. let q = settled-yes r rule tally Ls p.one_first p.tied e in ap₂ ◌&&◌ q.0 (eq-eqb (count_arcs (sweep r rule tally Ls)) (count_arcs Ls) (ap count_arcs q.1)))
+      (λ e. let q = and_parts (agrees r rule tally (firsts r rule tally) Ls) (eqb (count_arcs (sweep r rule tally Ls)) (count_arcs Ls)) e in settled-if r rule tally Ls q.0 (eqb-true (count_arcs (sweep r rule tally Ls)) (count_arcs Ls) q.1))
       ∙ sym (ap₂ ◌&&◌ ea en)
 
 pub run-opened : {S V : Type 0} (r : Round) (rule : RuleSense S) (self : (s : S) → rule.same s s ≡ true) (tally : TallySense V) (W : ℕ) (w : 1 ≤ W) (lent : List (Node S V)) (cs : List (Call V))
-    → run r rule tally W cs (openedOn r rule tally W lent) ≡ laid r rule tally W (after r rule tally W cs (opened r rule tally)) ++ drop (r.n * W + 1) lent
-unfolding openedOn relaid
+    → run r rule tally W cs (opened_on r rule tally W lent) ≡ laid r rule tally W (after r rule tally W cs (opened r rule tally)) ++ drop (r.n * W + 1) lent
+unfolding opened_on relaid
 run-opened r rule self tally W w lent cs = run-X r rule self tally W w (drop (r.n * W + 1) lent) cs (opened r rule tally) (proper-opened r rule tally W w)

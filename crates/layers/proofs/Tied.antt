@@ -3,38 +3,38 @@ use Rattle.std.proofs.Common.{◌≡◌, ℕ, zero, suc, ◌+◌, ◌<◌, Bool,
 use lib.ListN.{length-map}
 use Rattle.std.proofs.lemmas.Bool.{false≢true, and_parts}
 use Rattle.std.proofs.lemmas.Option.{none-some}
-use Rattle.layers.specs.Flow.{Outs, Layer, Net, node, target, width, is_some, eachDoor, eachNode, redirect, ins, gather, outs, up, Mark, marksNext, marksUp, flags, rank, compress, renumber, tidy, tidied, Ranged, Led, Tied}
+use Rattle.layers.specs.Flow.{Outs, Layer, Net, node, target, width, is_some, each_door, each_node, redirect, ins, gather, outs, up, Mark, marks_next, marks_up, flags, rank, compress, renumber, tidy, tidied, Ranged, Led, Tied}
 use Rattle.layers.proofs.Flows.{gather-any, outs-from, map-some, redirect-arc, has-arc, ins-from, next-some, up_at, mark-next, flags-at, compress-at, renumber-at}
 
 -- ---- redirecting, backwards
-eachDoor-back : (f : ℕ → ℕ → ℕ) (j : ℕ) (ts : Outs) (k m c : ℕ) → j + k ≡ m → get_or (eachDoor f j ts) k 0 ≡ suc c → (b : ℕ) × (get_or ts k 0 ≡ suc b) × (f m b ≡ suc c)
-unfolding eachDoor
-eachDoor-back f j [] k m c h e = absurd (omega arith)
-eachDoor-back f j (zero ∷ ts) zero m c h e = absurd (omega arith)
-eachDoor-back f j (zero ∷ ts) (suc k) m c h e = eachDoor-back f (suc j) ts k m c (omega arith) e
-eachDoor-back f j (suc b ∷ ts) zero m c h e = (b, refl, ap (λ (x : ℕ). f x b) (omega arith) ∙ e)
-eachDoor-back f j (suc b ∷ ts) (suc k) m c h e = eachDoor-back f (suc j) ts k m c (omega arith) e
+each_door-back : (f : ℕ → ℕ → ℕ) (j : ℕ) (ts : Outs) (k m c : ℕ) → j + k ≡ m → get_or (each_door f j ts) k 0 ≡ suc c → (b : ℕ) × (get_or ts k 0 ≡ suc b) × (f m b ≡ suc c)
+unfolding each_door
+each_door-back f j [] k m c h e = absurd (omega arith)
+each_door-back f j (zero ∷ ts) zero m c h e = absurd (omega arith)
+each_door-back f j (zero ∷ ts) (suc k) m c h e = each_door-back f (suc j) ts k m c (omega arith) e
+each_door-back f j (suc b ∷ ts) zero m c h e = (b, refl, ap (λ (x : ℕ). f x b) (omega arith) ∙ e)
+each_door-back f j (suc b ∷ ts) (suc k) m c h e = each_door-back f (suc j) ts k m c (omega arith) e
 
-eachNode-back : (f : ℕ → ℕ → ℕ → ℕ) (i : ℕ) (L : Layer) (a m j c : ℕ) → i + a ≡ m → target (node (eachNode f i L) a) j ≡ suc c → (b : ℕ) × (target (node L a) j ≡ suc b) × (f m j b ≡ suc c)
-unfolding eachNode
-eachNode-back f i [] a m zero c h e = absurd (omega arith)
-eachNode-back f i [] a m (suc k) c h e = absurd (omega arith)
-eachNode-back f i (nd ∷ L) zero m zero c h e = absurd (omega arith)
-eachNode-back f i (nd ∷ L) zero m (suc k) c h e = let q = eachDoor-back (f i) 1 nd k (suc k) c (omega arith) e in (q.0, q.1, ap (λ (x : ℕ). f x (suc k) q.0) (omega arith) ∙ q.2)
-eachNode-back f i (nd ∷ L) (suc a) m j c h e = eachNode-back f (suc i) L a m j c (omega arith) e
+each_node-back : (f : ℕ → ℕ → ℕ → ℕ) (i : ℕ) (L : Layer) (a m j c : ℕ) → i + a ≡ m → target (node (each_node f i L) a) j ≡ suc c → (b : ℕ) × (target (node L a) j ≡ suc b) × (f m j b ≡ suc c)
+unfolding each_node
+each_node-back f i [] a m zero c h e = absurd (omega arith)
+each_node-back f i [] a m (suc k) c h e = absurd (omega arith)
+each_node-back f i (nd ∷ L) zero m zero c h e = absurd (omega arith)
+each_node-back f i (nd ∷ L) zero m (suc k) c h e = let q = each_door-back (f i) 1 nd k (suc k) c (omega arith) e in (q.0, q.1, ap (λ (x : ℕ). f x (suc k) q.0) (omega arith) ∙ q.2)
+each_node-back f i (nd ∷ L) (suc a) m j c h e = each_node-back f (suc i) L a m j c (omega arith) e
 
 pub redirect-back : (f : ℕ → ℕ → ℕ → ℕ) (L : Layer) (a j c : ℕ) → target (node (redirect f L) a) j ≡ suc c → (b : ℕ) × (target (node L a) j ≡ suc b) × (f a j b ≡ suc c)
 unfolding redirect
-redirect-back f L a j c e = eachNode-back f 0 L a a j c (omega arith) e
+redirect-back f L a j c e = each_node-back f 0 L a a j c (omega arith) e
 
-eachNode-length : (f : ℕ → ℕ → ℕ → ℕ) (i : ℕ) (L : Layer) → length (eachNode f i L) ≡ length L
-unfolding eachNode
-eachNode-length f i [] = refl
-eachNode-length f i (nd ∷ L) = ap suc (eachNode-length f (suc i) L)
+each_node-length : (f : ℕ → ℕ → ℕ → ℕ) (i : ℕ) (L : Layer) → length (each_node f i L) ≡ length L
+unfolding each_node
+each_node-length f i [] = refl
+each_node-length f i (nd ∷ L) = ap suc (each_node-length f (suc i) L)
 
 pub redirect-length : (f : ℕ → ℕ → ℕ → ℕ) (L : Layer) → length (redirect f L) ≡ length L
 unfolding redirect
-redirect-length f L = eachNode-length f 0 L
+redirect-length f L = each_node-length f 0 L
 
 -- ---- flags
 pub some_of : (o : Option Mark) → is_some o ≡ true → o ≡ Some tt
@@ -53,10 +53,10 @@ within [] a e = absurd (none-some tt e)
 within (u ∷ us) zero e = omega arith
 within (u ∷ us) (suc a) e = let h = within us a e in omega arith
 
-ups-length : (Ls : Net) → length (marksUp Ls) ≡ width Ls
-unfolding marksUp up
+ups-length : (Ls : Net) → length (marks_up Ls) ≡ width Ls
+unfolding marks_up up
 ups-length [] = refl
-ups-length (L ∷ Ls) = length-map L (λ nd. gather {A = Mark} (λ x y. tt) (outs {A = Mark} (λ m k. tt) (marksUp Ls) 1 nd))
+ups-length (L ∷ Ls) = length-map L (λ nd. gather {A = Mark} (λ x y. tt) (outs {A = Mark} (λ m k. tt) (marks_up Ls) 1 nd))
 
 rank_lt : (fs : List Bool) (X : Layer) (b : ℕ) → get_or fs b false ≡ true → b < length X → rank fs b < length (compress fs X)
 unfolding rank compress
@@ -84,38 +84,38 @@ renumber-back fs b c e = go (get_or fs b false) refl e
     go false f g = absurd (omega arith)
 
 -- ---- what marks say
-pub marked_from : (fr : List (Option Mark)) (L : Layer) (count b : ℕ) → get_or (marksNext fr L count) b None ≡ Some tt → (a : ℕ) × (j : ℕ) × (target (node L a) j ≡ suc b) × (get_or fr a None ≡ Some tt)
-unfolding marksNext
+pub marked_from : (fr : List (Option Mark)) (L : Layer) (count b : ℕ) → get_or (marks_next fr L count) b None ≡ Some tt → (a : ℕ) × (j : ℕ) × (target (node L a) j ≡ suc b) × (get_or fr a None ≡ Some tt)
+unfolding marks_next
 marked_from fr L count b e =
     let x = gather-any {A = Mark} (λ x y. tt) (ins {A = Mark} (λ m j. tt) b fr L) tt (next-some {A = Mark} (λ m j. tt) (λ x y. tt) fr L count b tt e) in
     let f = ins-from {A = Mark} (λ m j. tt) b fr L x.0 x.1 in
     (f.source, f.door, f.arc, f.labelled)
 
-pub climbs-from : (L : Layer) (Ls : Net) (a : ℕ) → get_or (marksUp (L ∷ Ls)) a None ≡ Some tt → (j : ℕ) × (b : ℕ) × (target (node L a) j ≡ suc b) × (get_or (marksUp Ls) b None ≡ Some tt)
-unfolding marksUp up
+pub climbs-from : (L : Layer) (Ls : Net) (a : ℕ) → get_or (marks_up (L ∷ Ls)) a None ≡ Some tt → (j : ℕ) × (b : ℕ) × (target (node L a) j ≡ suc b) × (get_or (marks_up Ls) b None ≡ Some tt)
+unfolding marks_up up
 climbs-from L Ls a e =
-    let us = marksUp Ls in
+    let us = marks_up Ls in
     let x = gather-any {A = Mark} (λ x y. tt) (outs {A = Mark} (λ m k. tt) us 1 (node L a)) tt (map-some (λ nd. gather {A = Mark} (λ x y. tt) (outs {A = Mark} (λ m k. tt) us 1 nd)) L a tt e) in
     let c = outs-from {A = Mark} (λ m k. tt) us x.0 1 (node L a) x.1 in
     (suc c.skip, c.to, c.arc, c.labelled)
 
-pub climbs : (L : Layer) (Ls : Net) (a j b : ℕ) → target (node L a) j ≡ suc b → get_or (marksUp Ls) b None ≡ Some tt → get_or (marksUp (L ∷ Ls)) a None ≡ Some tt
-unfolding marksUp
+pub climbs : (L : Layer) (Ls : Net) (a j b : ℕ) → target (node L a) j ≡ suc b → get_or (marks_up Ls) b None ≡ Some tt → get_or (marks_up (L ∷ Ls)) a None ≡ Some tt
+unfolding marks_up
 climbs L Ls a j b e g = (up_at {A = Mark} (λ x y. tt) (λ x y. Unit {0}) (λ x. tt) (λ x y z p q. tt) (λ x y. tt) (λ x y. tt) (λ m k. tt) tt L Ls a j b tt e g).1
 
 -- ---- a layer and the next
 module _ (fr : List (Option Mark)) (L : Layer) (Ls : Net) where
   abbrev fr' : List (Option Mark)
-  fr' = marksNext fr L (width Ls)
+  fr' = marks_next fr L (width Ls)
 
   abbrev fs : List Bool
-  fs = flags fr' (marksUp Ls)
+  fs = flags fr' (marks_up Ls)
 
   abbrev RL : Layer
   RL = redirect (λ a j b. renumber fs b) L
 
   flag-within : (b : ℕ) → get_or fs b false ≡ true → b < width Ls
-  flag-within b e = let h = within (marksUp Ls) b (flags-back fr' (marksUp Ls) b e).1 in omega (arith, ups-length Ls)
+  flag-within b e = let h = within (marks_up Ls) b (flags-back fr' (marks_up Ls) b e).1 in omega (arith, ups-length Ls)
 
   -- every arc that is left leads to a node that is left
   arcs-lead : (X : Layer) → length X ≡ width Ls → Ranged RL (length (compress fs X))
@@ -126,25 +126,25 @@ module _ (fr : List (Option Mark)) (L : Layer) (Ls : Net) where
       rw (← h.1) (rank_lt fs X q.0 h.0 (omega arith))
 
   -- every node that is left is led to, from a node that is left
-  fed_by : (X : Layer) (c : ℕ) → c < length (compress fs X) → (a : ℕ) × (j : ℕ) × (target (node RL a) j ≡ suc c) × (get_or fr a None ≡ Some tt) × (get_or (marksUp (L ∷ Ls)) a None ≡ Some tt)
+  fed_by : (X : Layer) (c : ℕ) → c < length (compress fs X) → (a : ℕ) × (j : ℕ) × (target (node RL a) j ≡ suc c) × (get_or fr a None ≡ Some tt) × (get_or (marks_up (L ∷ Ls)) a None ≡ Some tt)
   fed_by X c h =
       let q = compress-back fs X c h in
       let b = q.0 in
-      let m = flags-back fr' (marksUp Ls) b q.1 in
+      let m = flags-back fr' (marks_up Ls) b q.1 in
       let s = marked_from fr L (width Ls) b m.0 in
       (s.0, s.1, redirect-arc (λ a j b. renumber fs b) L s.0 s.1 b s.2 ∙ renumber-at fs b q.1 ∙ ap suc q.2, s.3, climbs L Ls s.0 s.1 b s.2 m.1)
 
   -- every node that is left leads on
-  leads-on : Led (compress (flags fr (marksUp (L ∷ Ls))) RL)
+  leads-on : Led (compress (flags fr (marks_up (L ∷ Ls))) RL)
   leads-on c h =
-      let gs = flags fr (marksUp (L ∷ Ls)) in
+      let gs = flags fr (marks_up (L ∷ Ls)) in
       let q = compress-back gs RL c h in
       let a = q.0 in
-      let m = flags-back fr (marksUp (L ∷ Ls)) a q.1 in
+      let m = flags-back fr (marks_up (L ∷ Ls)) a q.1 in
       let s = climbs-from L Ls a m.1 in
       let j = s.0 in let b = s.1 in
-      let w : b < width Ls = omega (arith, within (marksUp Ls) b s.3, ups-length Ls) in
-      let f = flags-at fr' (marksUp Ls) b (mark-next fr L (width Ls) a j b s.2 m.0 w) s.3 in (
+      let w : b < width Ls = omega (arith, within (marks_up Ls) b s.3, ups-length Ls) in
+      let f = flags-at fr' (marks_up Ls) b (mark-next fr L (width Ls) a j b s.2 m.0 w) s.3 in (
         j,
         rank fs b,
         ap (λ (z : ℕ). target (node (compress gs RL) z) j) (sym q.2) ∙ ap (λ (nd : Outs). target nd j) (compress-at gs RL a q.1)
@@ -173,15 +173,15 @@ ranged-end fr L a j c e =
 tidy-tied : (fr : List (Option Mark)) (Ls : Net) → Tied (tidy fr Ls)
 unfolding tidy
 tidy-tied fr [] = tt
-tidy-tied fr (L ∷ []) = ranged-compress (flags fr (marksUp (L ∷ []))) (RL fr L []) 1 (ranged-end fr L)
+tidy-tied fr (L ∷ []) = ranged-compress (flags fr (marks_up (L ∷ []))) (RL fr L []) 1 (ranged-end fr L)
 tidy-tied fr (L ∷ M ∷ Ls) =
-    let gs = flags fr (marksUp (L ∷ M ∷ Ls)) in
-    let fr2 = marksNext fr L (length M) in
+    let gs = flags fr (marks_up (L ∷ M ∷ Ls)) in
+    let fr2 = marks_next fr L (length M) in
     let X = RL fr2 M Ls in
     let n = redirect-length (λ a j b. renumber (fs fr2 M Ls) b) M in (
       ranged-compress gs (RL fr L (M ∷ Ls)) (length (compress (fs fr L (M ∷ Ls)) X)) (arcs-lead fr L (M ∷ Ls) X n),
       (λ c h. let q = fed_by fr L (M ∷ Ls) X c h in
-          (rank gs q.0, q.1, rw (compress-at gs (RL fr L (M ∷ Ls)) q.0 (flags-at fr (marksUp (L ∷ M ∷ Ls)) q.0 q.3 q.4)) q.2)),
+          (rank gs q.0, q.1, rw (compress-at gs (RL fr L (M ∷ Ls)) q.0 (flags-at fr (marks_up (L ∷ M ∷ Ls)) q.0 q.3 q.4)) q.2)),
       leads-on fr2 M Ls,
       tidy-tied fr2 (M ∷ Ls),
     )
@@ -192,7 +192,7 @@ tidied-tied [] = tt
 tidied-tied (L ∷ []) = ranged-end (Some tt ∷ []) L
 tidied-tied (L ∷ M ∷ Ls) =
     let fr = Some tt ∷ [] in
-    let fr2 = marksNext fr L (length M) in
+    let fr2 = marks_next fr L (length M) in
     let X = RL fr2 M Ls in
     let n = redirect-length (λ a j b. renumber (fs fr2 M Ls) b) M in
     (arcs-lead fr L (M ∷ Ls) X n, (λ c h. let q = fed_by fr L (M ∷ Ls) X c h in (q.0, q.1, q.2)), leads-on fr2 M Ls, tidy-tied fr2 (M ∷ Ls))

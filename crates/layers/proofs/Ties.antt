@@ -5,12 +5,12 @@ use Rattle.std.proofs.lemmas.List.{get_or_append_left, get_or_push, get_or-set_s
 use Rattle.round.specs.declared.table.Round.{Round}
 use Rattle.rules.specs.Rules.{RuleSense}
 use Rattle.tallies.specs.Tallies.{TallySense}
-use Rattle.layers.specs.Flow.{table, Outs, Layer, Net, node, target, redirect, ins, clash, pickT, bothOut, dropAt, moved, joinAt, Ranged, Fed, Led, Tied}
-use Rattle.layers.specs.Labels.{Lab, arrive, labelsNext, agree, agreeAll, agreeing, leaves, headO, opened, allDoors}
-use Rattle.layers.specs.Calls.{partedAt}
+use Rattle.layers.specs.Flow.{table, Outs, Layer, Net, node, target, redirect, ins, clash, either_target, both_out, without_at, moved, join_at, Ranged, Fed, Led, Tied}
+use Rattle.layers.specs.Labels.{Lab, arrive, labels_next, agree, agree_all, agreeing, leaves, first_arrival, opened, all_doors}
+use Rattle.layers.specs.Calls.{parted_at}
 use Rattle.layers.proofs.Flows.{Among, redirect-arc, has-arc, table_at, From, ins-from}
 use Rattle.layers.proofs.Ways.{length-snoc}
-use Rattle.layers.proofs.Model.{part_at, oneGroup}
+use Rattle.layers.proofs.Model.{part_at, one_group}
 use Rattle.layers.proofs.Shapes.{drop-below, drop-above, join-node}
 use Rattle.layers.proofs.Tied.{redirect-back, redirect-length}
 
@@ -21,19 +21,19 @@ module _ {S V : Type 0} (r : Round) (rule : RuleSense S) (tally : TallySense V) 
   ones-at (suc n) zero b e = omega arith
   ones-at (suc n) (suc k) b e = ones-at n k b e
 
-  open-ranged : Ranged (allDoors r rule tally ∷ []) 1
+  open-ranged : Ranged (all_doors r rule tally ∷ []) 1
   open-ranged zero zero b e = absurd (omega arith)
   open-ranged zero (suc k) b e = let z = ones-at r.n k b e in omega arith
   open-ranged (suc a) zero b e = absurd (omega arith)
   open-ranged (suc a) (suc k) b e = absurd (omega arith)
 
-  first-door : target (allDoors r rule tally) 1 ≡ 1
+  first-door : target (all_doors r rule tally) 1 ≡ 1
   first-door = table_at r.n 0 (λ m. 1) 0 r.one
 
-  open-fed : Fed (allDoors r rule tally ∷ []) 1
+  open-fed : Fed (all_doors r rule tally ∷ []) 1
   open-fed b h = let z : b ≡ 0 = omega arith in (0, 1, first-door ∙ ap suc (sym z))
 
-  open-led : Led (allDoors r rule tally ∷ [])
+  open-led : Led (all_doors r rule tally ∷ [])
   open-led zero h = (1, 0, first-door)
   open-led (suc a) h = absurd (not-suc-le-zero (le_of_suc-le-suc h))
 
@@ -41,7 +41,7 @@ module _ {S V : Type 0} (r : Round) (rule : RuleSense S) (tally : TallySense V) 
   unfolding opened
   opened-tied = go r.n
     where
-      go : (k : ℕ) → Tied (table k (λ i. allDoors r rule tally ∷ []))
+      go : (k : ℕ) → Tied (table k (λ i. all_doors r rule tally ∷ []))
       go zero = tt
       go (suc zero) = open-ranged
       go (suc (suc k)) = (open-ranged, open-fed, open-led, go (suc k))
@@ -83,11 +83,11 @@ module _ {S V : Type 0} (r : Round) (rule : RuleSense S) (self : (s : S) → rul
   unfolding agree
   agree-self x = rw (eq-eqb x.all x.all refl, eq-eqb x.some x.some refl, eq-eqb x.finish x.finish refl, eq-eqb x.lasts x.lasts refl) (self x.state)
 
-  odd-one : (x : Lab r rule tally) (l : List (Lab r rule tally)) → agreeAll r rule tally x l ≡ false → (y : Lab r rule tally) × Among y l × (agree r rule tally x y ≡ false)
-  unfolding agreeAll
+  odd-one : (x : Lab r rule tally) (l : List (Lab r rule tally)) → agree_all r rule tally x l ≡ false → (y : Lab r rule tally) × Among y l × (agree r rule tally x y ≡ false)
+  unfolding agree_all
   odd-one x [] e = absurd (true≢false e)
   odd-one x (y ∷ l) e =
-      elim (and_cases (agree r rule tally x y) (agreeAll r rule tally x l) e) [
+      elim (and_cases (agree r rule tally x y) (agree_all r rule tally x l) e) [
         | inl h ↦ (y, inl refl, h)
         | inr h ↦ (let q = odd-one x l h in (q.0, inr q.1, q.2))
       ]
@@ -95,7 +95,7 @@ module _ {S V : Type 0} (r : Round) (rule : RuleSense S) (self : (s : S) → rul
   -- two groups: a first arrival, and one that disagrees with it
   record Groups (l : List (Lab r rule tally)) : Type 0 where
     one : Lab r rule tally
-    is_first : headO r rule tally l ≡ Some one
+    is_first : first_arrival r rule tally l ≡ Some one
     one_in : Among one l
     other : Lab r rule tally
     other_in : Among other l
@@ -108,7 +108,7 @@ module _ {S V : Type 0} (r : Round) (rule : RuleSense S) (self : (s : S) → rul
 
   module _ (a : ℕ) (labs : List (Option (Lab r rule tally))) (L M : Layer) (inn : a < length M) (two : agreeing r rule tally (ins (arrive r rule tally) a labs L) ≡ false) where
     abbrev h : Option (Lab r rule tally)
-    h = headO r rule tally (ins (arrive r rule tally) a labs L)
+    h = first_arrival r rule tally (ins (arrive r rule tally) a labs L)
 
     abbrev f : ℕ → ℕ → ℕ → ℕ
     f u j b = cond (eqb b a && leaves r rule tally h (get_or labs u None) j) (suc (length M)) (suc b)
@@ -157,8 +157,8 @@ module _ {S V : Type 0} (r : Round) (rule : RuleSense S) (self : (s : S) → rul
         go j b e true t = (j, length M, moves-to u j b true e t)
         go j b e false t = (j, b, moves-to u j b false e t)
 
-  pub part-tied : (d a : ℕ) (labs : List (Option (Lab r rule tally))) (Ls : Net) → a < length (get_or Ls (suc d) []) → oneGroup r rule tally d a labs Ls ≡ false → Tied Ls → Tied (part_at r rule tally d a labs Ls)
-  unfolding part_at oneGroup
+  pub part-tied : (d a : ℕ) (labs : List (Option (Lab r rule tally))) (Ls : Net) → a < length (get_or Ls (suc d) []) → one_group r rule tally d a labs Ls ≡ false → Tied Ls → Tied (part_at r rule tally d a labs Ls)
+  unfolding part_at one_group
   part-tied zero a labs [] k e t = tt
   part-tied (suc d) a labs [] k e t = tt
   part-tied zero a labs (L ∷ []) k e t = t
@@ -170,16 +170,16 @@ module _ {S V : Type 0} (r : Round) (rule : RuleSense S) (self : (s : S) → rul
       none-there d a k = k
   part-tied (suc zero) a labs (L ∷ M ∷ []) k e t = t
   part-tied (suc zero) a labs (L ∷ M ∷ N ∷ Ls) k e t =
-      let labs' = labelsNext r rule tally labs L (length M) in
+      let labs' = labels_next r rule tally labs L (length M) in
       let rest = part-tied zero a labs' (M ∷ N ∷ Ls) k e t.3 in
       let n = redirect-length (f a labs' M N k e) M in
       (rw n t.0, rw n t.1, part-led a labs' M N k e t.2, rest)
   part-tied (suc (suc d)) a labs (L ∷ M ∷ Ls) k e t =
-      (t.0, t.1, t.2, part-tied (suc d) a (labelsNext r rule tally labs L (length M)) (M ∷ Ls) k e t.3)
+      (t.0, t.1, t.2, part-tied (suc d) a (labels_next r rule tally labs L (length M)) (M ∷ Ls) k e t.3)
 
   -- the same with any labels of the layer before, as they may stand in records
-  pub parted-tied : (d a : ℕ) (labs : List (Option (Lab r rule tally))) (Ls : Net) → a < length (get_or Ls (suc d) []) → agreeing r rule tally (ins (arrive r rule tally) a labs (get_or Ls d [])) ≡ false → Tied Ls → Tied (partedAt r rule tally d a labs Ls)
-  unfolding partedAt
+  pub parted-tied : (d a : ℕ) (labs : List (Option (Lab r rule tally))) (Ls : Net) → a < length (get_or Ls (suc d) []) → agreeing r rule tally (ins (arrive r rule tally) a labs (get_or Ls d [])) ≡ false → Tied Ls → Tied (parted_at r rule tally d a labs Ls)
+  unfolding parted_at
   parted-tied zero a labs [] k e t = tt
   parted-tied (suc d) a labs [] k e t = tt
   parted-tied zero a labs (L ∷ []) k e t = t
@@ -197,25 +197,25 @@ module _ {S V : Type 0} (r : Round) (rule : RuleSense S) (self : (s : S) → rul
   parted-tied (suc (suc d)) a labs (L ∷ M ∷ Ls) k e t = (t.0, t.1, t.2, parted-tied (suc d) a labs (M ∷ Ls) k e t.3)
 
 -- ---- join
-pub drop-length : (i : ℕ) (M : Layer) → i < length M → suc (length (dropAt i M)) ≡ length M
-unfolding dropAt
+pub drop-length : (i : ℕ) (M : Layer) → i < length M → suc (length (without_at i M)) ≡ length M
+unfolding without_at
 drop-length zero [] h = absurd (not-suc-le-zero h)
 drop-length (suc i) [] h = absurd (not-suc-le-zero h)
 drop-length zero (x ∷ M) h = refl
 drop-length (suc i) (x ∷ M) h = ap suc (drop-length i M (le_of_suc-le-suc h))
 
-pick-back : (s t b : ℕ) → pickT s t ≡ suc b → (s ≡ suc b) ⊎ (t ≡ suc b)
+pick-back : (s t b : ℕ) → either_target s t ≡ suc b → (s ≡ suc b) ⊎ (t ≡ suc b)
 pick-back zero t b e = inr e
 pick-back (suc s) t b e = inl e
 
-both-back : (x y : Outs) (k b : ℕ) → get_or (bothOut x y) k 0 ≡ suc b → (get_or x k 0 ≡ suc b) ⊎ (get_or y k 0 ≡ suc b)
-unfolding bothOut
+both-back : (x y : Outs) (k b : ℕ) → get_or (both_out x y) k 0 ≡ suc b → (get_or x k 0 ≡ suc b) ⊎ (get_or y k 0 ≡ suc b)
+unfolding both_out
 both-back [] y k b e = inr e
 both-back (s ∷ x) [] k b e = inl e
 both-back (s ∷ x) (t ∷ y) zero b e = pick-back s t b e
 both-back (s ∷ x) (t ∷ y) (suc k) b e = both-back x y k b e
 
-target-back : (x y : Outs) (j b : ℕ) → target (bothOut x y) j ≡ suc b → (target x j ≡ suc b) ⊎ (target y j ≡ suc b)
+target-back : (x y : Outs) (j b : ℕ) → target (both_out x y) j ≡ suc b → (target x j ≡ suc b) ⊎ (target y j ≡ suc b)
 target-back x y zero b e = inl e
 target-back x y (suc k) b e = both-back x y k b e
 
@@ -237,25 +237,25 @@ moved_at lo hi = ap (λ (q : Bool). cond q lo (cond (ltb hi hi) (hi - 1) hi)) (e
 
 module _ (M : Layer) (lo hi : ℕ) (lt : lo < hi) (inn : hi < length M) (nc : clash (node M lo) (node M hi) ≡ false) where
   abbrev X : Layer
-  X = set M lo (bothOut (node M lo) (node M hi))
+  X = set M lo (both_out (node M lo) (node M hi))
 
   abbrev M' : Layer
-  M' = dropAt hi X
+  M' = without_at hi X
 
   long : suc (length M') ≡ length M
-  long = drop-length hi X (omega (arith, length-set M lo (bothOut (node M lo) (node M hi)))) ∙ length-set M lo (bothOut (node M lo) (node M hi))
+  long = drop-length hi X (omega (arith, length-set M lo (both_out (node M lo) (node M hi)))) ∙ length-set M lo (both_out (node M lo) (node M hi))
 
   back : (c j b : ℕ) → target (node M' c) j ≡ suc b → (a : ℕ) × (target (node M a) j ≡ suc b)
   back c j b e = go (cases_lt c hi) (cases_eq c lo)
     where
       go : (c < hi) ⊎ (hi ≤ c) → (c ≡ lo) ⊎ (¬ (c ≡ lo)) → (a : ℕ) × (target (node M a) j ≡ suc b)
       go (inl k) (inl s) =
-          elim (target-back (node M lo) (node M hi) j b (ap (λ (nd : Outs). target nd j) (sym (drop-below hi c X k ∙ ap (λ (z : ℕ). node X z) s ∙ get_or-set_same M lo (bothOut (node M lo) (node M hi)) [] (omega arith))) ∙ e)) [
+          elim (target-back (node M lo) (node M hi) j b (ap (λ (nd : Outs). target nd j) (sym (drop-below hi c X k ∙ ap (λ (z : ℕ). node X z) s ∙ get_or-set_same M lo (both_out (node M lo) (node M hi)) [] (omega arith))) ∙ e)) [
             | inl q ↦ (lo, q)
             | inr q ↦ (hi, q)
           ]
-      go (inl k) (inr s) = (c, rw (← (drop-below hi c X k ∙ get_or-set_other M lo c (bothOut (node M lo) (node M hi)) [] s)) e)
-      go (inr k) s = (suc c, rw (← (drop-above hi c X k ∙ get_or-set_other M lo (suc c) (bothOut (node M lo) (node M hi)) [] (omega arith))) e)
+      go (inl k) (inr s) = (c, rw (← (drop-below hi c X k ∙ get_or-set_other M lo c (both_out (node M lo) (node M hi)) [] s)) e)
+      go (inr k) s = (suc c, rw (← (drop-above hi c X k ∙ get_or-set_other M lo (suc c) (both_out (node M lo) (node M hi)) [] (omega arith))) e)
 
   join-ranged : (m : ℕ) → Ranged M m → Ranged M' m
   join-ranged m h c j b e = let q = back c j b e in h q.0 j b q.1
@@ -297,8 +297,8 @@ in-led : (lo hi : ℕ) (L : Layer) → Led L → Led (redirect (λ a j b. suc (m
 in-led lo hi L h a k = let s = h a (omega (arith, redirect-length (λ a j b. suc (moved lo hi b)) L)) in
     (s.0, moved lo hi s.1, redirect-arc (λ a j b. suc (moved lo hi b)) L a s.0 s.1 s.2)
 
-pub join_tied : (d lo hi : ℕ) (Ls : Net) → lo < hi → hi < length (get_or Ls (suc d) []) → clash (node (get_or Ls (suc d) []) lo) (node (get_or Ls (suc d) []) hi) ≡ false → Tied Ls → Tied (joinAt d lo hi Ls)
-unfolding joinAt
+pub join_tied : (d lo hi : ℕ) (Ls : Net) → lo < hi → hi < length (get_or Ls (suc d) []) → clash (node (get_or Ls (suc d) []) lo) (node (get_or Ls (suc d) []) hi) ≡ false → Tied Ls → Tied (join_at d lo hi Ls)
+unfolding join_at
 join_tied zero lo hi [] a b n t = tt
 join_tied (suc d) lo hi [] a b n t = tt
 join_tied zero lo hi (L ∷ []) a b n t = t

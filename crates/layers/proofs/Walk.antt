@@ -13,11 +13,11 @@ use Rattle.rules.specs.Rules.{RuleLaws, RuleSense}
 use Rattle.tallies.specs.Tallies.{TallyLaws, TallySense}
 use Rattle.orders.proofs.Times.{trip-van}
 use Rattle.orders.specs.Allowed.{Allowed}
-use Rattle.orders.specs.Costs.{Trip, cost, rides, tripAfter}
-use Rattle.orders.specs.Times.{vanAfter}
+use Rattle.orders.specs.Costs.{Trip, cost, rides, trip_after}
+use Rattle.orders.specs.Times.{van_after}
 use Rattle.layers.specs.declared.node.Up.{Up}
-use Rattle.layers.specs.Flow.{Outs, Layer, Net, node, target, width, Path-from, ins, up}
-use Rattle.layers.specs.Labels.{one, leg, climb, mergeUp, noUp, ups, Lab, first, arrive, merge, firsts, labelsNext, barred}
+use Rattle.layers.specs.Flow.{Outs, Layer, Net, node, target, width, PathFrom, ins, up}
+use Rattle.layers.specs.Labels.{one, leg, climb, merge_up, no_up, ups, Lab, first, arrive, merge, firsts, labels_next, barred}
 use Rattle.layers.proofs.Flows.{Among, redirect-arc, inside, has-arc, next-at, up_at, tidy-keeps, From, ins-from, next-some, gather-all}
 use Rattle.layers.proofs.Sets.{or_left, or_right, or_split, and_left, and_right, one-self, one_only, none_has, ones_in}
 use Rattle.layers.proofs.Ways.{in_split, in-snd, part-tail, trip-snoc, van-snoc, length-snoc, snoc-assoc, TimelyFrom, timely-from, leg-le, leg-bound}
@@ -55,7 +55,7 @@ module _ {S V : Type 0} {Keeps : List ℕ → Type 0} {Stands : S → List ℕ �
   pub record Going (p w : List ℕ) : Type 0 where
     pub part : PartOrder r.n (p ++ w)
     pub keeps : Keeps (p ++ w)
-    pub timely : TimelyFrom r (vanAfter r p) w
+    pub timely : TimelyFrom r (van_after r p) w
     pub total : length p + length w ≡ r.n
 
   pub going_next : (p w : List ℕ) (j : ℕ) → Going p (j ∷ w) → Going (p ++ (j ∷ [])) w
@@ -69,40 +69,40 @@ module _ {S V : Type 0} {Keeps : List ℕ → Type 0} {Stands : S → List ℕ �
   -- what is so of the true clock and cost after p
   pub record Told (p : List ℕ) : Type 0 where
     pub part : PartOrder r.n p
-    pub soon : (tripAfter r tally p).van.finish ≤ latest (length p)
+    pub soon : (trip_after r tally p).van.finish ≤ latest (length p)
     pub fine : Allows (length p) (cost r tally p)
-    pub here : (tripAfter r tally p).van.last ≤ r.n
-    pub last : (j : ℕ) → ¬ In j p → 1 ≤ j → ¬ ((tripAfter r tally p).van.last ≡ j)
+    pub here : (trip_after r tally p).van.last ≤ r.n
+    pub last : (j : ℕ) → ¬ In j p → 1 ≤ j → ¬ ((trip_after r tally p).van.last ≡ j)
 
   pub told_none : Told []
-  told_none = record { part = tt; soon = omega arith; fine = tallied.start-allowed; here = omega arith; last = λ j f h. omega arith }
+  told_none = record { part = tt; soon = omega arith; fine = tallied.start_allowed; here = omega arith; last = λ j f h. omega arith }
 
   -- ---- labels that fit
   pub record Fits (l : Lab r rule tally) (p : List ℕ) : Type 0 where
     pub part : PartOrder r.n p
     pub all : (j : ℕ) → has l.all j ≡ true → In j p
     pub some : (j : ℕ) → In j p → has l.some j ≡ true
-    pub finish : l.finish ≤ (tripAfter r tally p).van.finish
-    pub lasts : has l.lasts (tripAfter r tally p).van.last ≡ true
+    pub finish : l.finish ≤ (trip_after r tally p).van.finish
+    pub lasts : has l.lasts (trip_after r tally p).van.last ≡ true
     pub state : Stands l.state p
-    pub value : tally.notAbove l.value (cost r tally p) ≡ true
+    pub value : tally.not_above l.value (cost r tally p) ≡ true
 
   fits-first : Fits (first r rule tally) []
-  fits-first = record { part = tt; all = λ j h. absurd (none_has j h); some = λ j i. absurd i; finish = omega arith; lasts = refl; state = ruled.start-stands; value = tallied.order-self tally.start }
+  fits-first = record { part = tt; all = λ j h. absurd (none_has j h); some = λ j i. absurd i; finish = omega arith; lasts = refl; state = ruled.start_stands; value = tallied.order_self tally.start }
 
-  lesser-left : (a b : V) → tally.notAbove (tally.lesser a b) a ≡ true
-  lesser-left a b = rw (tallied.lesser-is a b) (go (tally.notAbove a b) refl)
+  lesser-left : (a b : V) → tally.not_above (tally.lesser a b) a ≡ true
+  lesser-left a b = rw (tallied.lesser_is a b) (go (tally.not_above a b) refl)
     where
-      go : (q : Bool) → tally.notAbove a b ≡ q → tally.notAbove (cond q a b) a ≡ true
-      go true e = tallied.order-self a
-      go false e = tallied.order-total a b e
+      go : (q : Bool) → tally.not_above a b ≡ q → tally.not_above (cond q a b) a ≡ true
+      go true e = tallied.order_self a
+      go false e = tallied.order_total a b e
 
-  lesser-right : (a b : V) → tally.notAbove (tally.lesser a b) b ≡ true
-  lesser-right a b = rw (tallied.lesser-is a b) (go (tally.notAbove a b) refl)
+  lesser-right : (a b : V) → tally.not_above (tally.lesser a b) b ≡ true
+  lesser-right a b = rw (tallied.lesser_is a b) (go (tally.not_above a b) refl)
     where
-      go : (q : Bool) → tally.notAbove a b ≡ q → tally.notAbove (cond q a b) b ≡ true
+      go : (q : Bool) → tally.not_above a b ≡ q → tally.not_above (cond q a b) b ≡ true
       go true e = e
-      go false e = tallied.order-self b
+      go false e = tallied.order_self b
 
   unfoldable pub Less : Lab r rule tally → Lab r rule tally → Type 0
   Less x y = (p : List ℕ) → Fits x p → Fits y p
@@ -114,9 +114,9 @@ module _ {S V : Type 0} {Keeps : List ℕ → Type 0} {Stands : S → List ℕ �
     all = λ j h. f.all j (and_left x.all y.all j h);
     some = λ j i. or_left x.some y.some j (f.some j i);
     finish = omega (arith, f.finish);
-    lasts = or_left x.lasts y.lasts (tripAfter r tally p).van.last f.lasts;
-    state = ruled.cover-left x.state y.state p f.part f.state;
-    value = tallied.order-chain _ x.value _ (lesser-left x.value y.value) f.value;
+    lasts = or_left x.lasts y.lasts (trip_after r tally p).van.last f.lasts;
+    state = ruled.cover_left x.state y.state p f.part f.state;
+    value = tallied.order_chain _ x.value _ (lesser-left x.value y.value) f.value;
   }
 
   less-right : (x y : Lab r rule tally) → Less y (merge r rule tally x y)
@@ -126,22 +126,22 @@ module _ {S V : Type 0} {Keeps : List ℕ → Type 0} {Stands : S → List ℕ �
     all = λ j h. f.all j (and_right x.all y.all j h);
     some = λ j i. or_right x.some y.some j (f.some j i);
     finish = omega (arith, f.finish);
-    lasts = or_right x.lasts y.lasts (tripAfter r tally p).van.last f.lasts;
-    state = ruled.cover-right x.state y.state p f.part f.state;
-    value = tallied.order-chain _ y.value _ (lesser-right x.value y.value) f.value;
+    lasts = or_right x.lasts y.lasts (trip_after r tally p).van.last f.lasts;
+    state = ruled.cover_right x.state y.state p f.part f.state;
+    value = tallied.order_chain _ y.value _ (lesser-right x.value y.value) f.value;
   }
 
   pub told-next : (p : List ℕ) (j : ℕ) → Told p → Door r.n j → length p < 16 → ¬ In j p → Told (p ++ (j ∷ []))
   told-next p j t d k f =
       let e = trip-snoc r tally p j in
-      let le = r.legs (tripAfter r tally p).van.last j in
-      let s = (clock-laws r).bound (length p) (tripAfter r tally p).van.finish (drive r (tripAfter r tally p).van.last j) j t.soon le in
+      let le = r.legs (trip_after r tally p).van.last j in
+      let s = (clock-laws r).bound (length p) (trip_after r tally p).van.finish (drive r (trip_after r tally p).van.last j) j t.soon le in
       record {
         part = next-part r.n p j t.part d f;
         soon = rw (e, (length-snoc p j)) s;
         fine = subst (λ (z : Trip V). Allows (length (p ++ (j ∷ []))) z.cost) (sym e)
-            (subst (λ (z : ℕ). Allows z (rides r tally (tripAfter r tally p) j).cost) (sym (length-snoc p j))
-            (tallied.step-allowed (length p) (cost r tally p) j (drive r (tripAfter r tally p).van.last j) (rides r tally (tripAfter r tally p) j).van.finish k d le (within (length p) _ k s) t.fine));
+            (subst (λ (z : ℕ). Allows z (rides r tally (trip_after r tally p) j).cost) (sym (length-snoc p j))
+            (tallied.step_allowed (length p) (cost r tally p) j (drive r (trip_after r tally p).van.last j) (rides r tally (trip_after r tally p) j).van.finish k d le (within (length p) _ k s) t.fine));
         here = rw e d.high;
         last = λ i g h x. g (in-snd i p (j ∷ []) (inl (sym x ∙ ap (λ (z : Trip V). z.van.last) e)));
       }
@@ -150,11 +150,11 @@ module _ {S V : Type 0} {Keeps : List ℕ → Type 0} {Stands : S → List ℕ �
   unfolding arrive
   arrive-fits l p j f t fine d k n =
       let e = trip-snoc r tally p j in
-      let g : leg r l.lasts j ≤ drive r (tripAfter r tally p).van.last j =
-      leg-le r l.lasts j (tripAfter r tally p).van.last t.here f.lasts (ne_eqb (tripAfter r tally p).van.last j (t.last j n d.low)) in
-      let dl = r.legs (tripAfter r tally p).van.last j in
-      let early = (clock-laws r).later l.finish (tripAfter r tally p).van.finish (leg r l.lasts j) (drive r (tripAfter r tally p).van.last j) j f.finish g in
-      let s = (clock-laws r).bound (length p) (tripAfter r tally p).van.finish (drive r (tripAfter r tally p).van.last j) j t.soon dl in
+      let g : leg r l.lasts j ≤ drive r (trip_after r tally p).van.last j =
+      leg-le r l.lasts j (trip_after r tally p).van.last t.here f.lasts (ne_eqb (trip_after r tally p).van.last j (t.last j n d.low)) in
+      let dl = r.legs (trip_after r tally p).van.last j in
+      let early = (clock-laws r).later l.finish (trip_after r tally p).van.finish (leg r l.lasts j) (drive r (trip_after r tally p).van.last j) j f.finish g in
+      let s = (clock-laws r).bound (length p) (trip_after r tally p).van.finish (drive r (trip_after r tally p).van.last j) j t.soon dl in
       record {
         part = (told-next p j t d k n).part;
         all = λ i h. elim (or_split l.all (one j) i h) [ inl x ↦ in_left p (j ∷ []) i (f.all i x) | inr x ↦ in-snd i p (j ∷ []) (inl (one_only j i x)) ];
@@ -164,9 +164,9 @@ module _ {S V : Type 0} {Keeps : List ℕ → Type 0} {Stands : S → List ℕ �
         ];
         finish = rw e early;
         lasts = rw e (one-self j);
-        state = ruled.step-stands l.state p j (record { part = t.part; door = d; new = n }) f.state;
-        value = subst (λ (z : Trip V). tally.notAbove (tally.step l.value j (leg r l.lasts j) (finish r l.finish (leg r l.lasts j) j)) z.cost ≡ true) (sym e)
-            (tallied.step-rises (length p) l.value (cost r tally p) j (leg r l.lasts j) (drive r (tripAfter r tally p).van.last j) (finish r l.finish (leg r l.lasts j) j) (rides r tally (tripAfter r tally p) j).van.finish
+        state = ruled.step_stands l.state p j (record { part = t.part; door = d; new = n }) f.state;
+        value = subst (λ (z : Trip V). tally.not_above (tally.step l.value j (leg r l.lasts j) (finish r l.finish (leg r l.lasts j) j)) z.cost ≡ true) (sym e)
+            (tallied.step_rises (length p) l.value (cost r tally p) j (leg r l.lasts j) (drive r (trip_after r tally p).van.last j) (finish r l.finish (leg r l.lasts j) j) (rides r tally (trip_after r tally p) j).van.finish
             k d g dl early (within (length p) _ k s) fine t.fine f.value);
       }
 
@@ -176,18 +176,18 @@ module _ {S V : Type 0} {Keeps : List ℕ → Type 0} {Stands : S → List ℕ �
 
   pub good-first : Good 0 (firsts r rule tally)
   unfolding Good
-  good-first zero l e = let x : first r rule tally ≡ l = cc in rw (← x) (tallied.start-allowed, omega arith)
+  good-first zero l e = let x : first r rule tally ≡ l = cc in rw (← x) (tallied.start_allowed, omega arith)
   good-first (suc a) l e = absurd cc
 
   lesser-fine : (k : ℕ) (a b : V) → Allows k a → Allows k b → Allows k (tally.lesser a b)
-  lesser-fine k a b x y = rw (tallied.lesser-is a b) (go (tally.notAbove a b))
+  lesser-fine k a b x y = rw (tallied.lesser_is a b) (go (tally.not_above a b))
     where
       go : (q : Bool) → Allows k (cond q a b)
       go true = x
       go false = y
 
-  pub good-next : (k : ℕ) (labs : List (Option (Lab r rule tally))) (L : Layer) (count : ℕ) → k < 16 → Good k labs → NeatLayer r.n L → Good (suc k) (labelsNext r rule tally labs L count)
-  unfolding Good labelsNext arrive merge
+  pub good-next : (k : ℕ) (labs : List (Option (Lab r rule tally))) (L : Layer) (count : ℕ) → k < 16 → Good k labs → NeatLayer r.n L → Good (suc k) (labels_next r rule tally labs L count)
+  unfolding Good labels_next arrive merge
   good-next k labs L count h good neat b m e =
       gather-all (merge r rule tally) (λ x. (Allows (suc k) x.value) × (x.finish ≤ latest (suc k)))
       (λ x y p q. (lesser-fine (suc k) x.value y.value p.0 q.0, omega arith))
@@ -202,7 +202,7 @@ module _ {S V : Type 0} {Keeps : List ℕ → Type 0} {Stands : S → List ℕ �
           let lb = leg-bound r f.label.lasts f.door in
           let fin = finish r f.label.finish (leg r f.label.lasts f.door) f.door in
           let early : fin ≤ latest (suc k) = (clock-laws r).bound k f.label.finish (leg r f.label.lasts f.door) f.door g.1 lb in
-          rw f.is (tallied.step-allowed k f.label.value f.door (leg r f.label.lasts f.door) fin h d lb (within k fin h early) g.0, early)
+          rw f.is (tallied.step_allowed k f.label.value f.door (leg r f.label.lasts f.door) fin h d lb (within k fin h early) g.0, early)
 
   -- ---- the label at a place fits the beginning p
   unfoldable pub At : List (Option (Lab r rule tally)) → ℕ → List ℕ → Type 0
@@ -213,8 +213,8 @@ module _ {S V : Type 0} {Keeps : List ℕ → Type 0} {Stands : S → List ℕ �
   at_first = (first r rule tally, refl, fits-first)
 
   pub at_next : (labs : List (Option (Lab r rule tally))) (L : Layer) (count a j b : ℕ) (p : List ℕ) → target (node L a) j ≡ suc b → b < count
-      → At labs a p → Told p → Good (length p) labs → Door r.n j → length p < 16 → ¬ In j p → At (labelsNext r rule tally labs L count) b (p ++ (j ∷ []))
-  unfolding At Good labelsNext Less
+      → At labs a p → Told p → Good (length p) labs → Door r.n j → length p < 16 → ¬ In j p → At (labels_next r rule tally labs L count) b (p ++ (j ∷ []))
+  unfolding At Good labels_next Less
   at_next labs L count a j b p e h x t good d k n =
       let q = next-at {A = Lab r rule tally} (merge r rule tally) Less (λ x p f. f) (λ x y z f g p h. g p (f p h)) less-left less-right (arrive r rule tally) labs L count a j b x.0 e x.1 h in
       (q.0, q.1, q.2 (p ++ (j ∷ [])) (arrive-fits x.0 p j x.2 t (good a x.0 x.1).0 d k n))
@@ -230,23 +230,23 @@ climb-fits u j w f = record {
   some = λ i h. elim h [ inl e ↦ or_right u.someup (one j) i (rw e (one-self j)) | inr x ↦ or_left u.someup (one j) i (f.some i x) ];
 }
 
-up_left : (x y : Up) (w : List ℕ) → FitsUp x w → FitsUp (mergeUp x y) w
+up_left : (x y : Up) (w : List ℕ) → FitsUp x w → FitsUp (merge_up x y) w
 up_left x y w f = record { all = λ i h. f.all i (and_left x.allup y.allup i h); some = λ i h. or_left x.someup y.someup i (f.some i h) }
 
-up_right : (x y : Up) (w : List ℕ) → FitsUp y w → FitsUp (mergeUp x y) w
+up_right : (x y : Up) (w : List ℕ) → FitsUp y w → FitsUp (merge_up x y) w
 up_right x y w f = record { all = λ i h. f.all i (and_right x.allup y.allup i h); some = λ i h. or_right x.someup y.someup i (f.some i h) }
 
-pub path-up : (Ls : Net) (a : ℕ) (w : List ℕ) → Path-from Ls a w → (u : Up) × (get_or (ups Ls) a None ≡ Some u) × FitsUp u w
+pub path-up : (Ls : Net) (a : ℕ) (w : List ℕ) → PathFrom Ls a w → (u : Up) × (get_or (ups Ls) a None ≡ Some u) × FitsUp u w
 unfolding ups
-path-up [] a [] p = unfold up in (noUp, ap (λ (x : ℕ). get_or {A = Option Up} (Some noUp ∷ []) x None) p, record { all = λ j h. absurd (none_has j h); some = λ j i. absurd i })
+path-up [] a [] p = unfold up in (no_up, ap (λ (x : ℕ). get_or {A = Option Up} (Some no_up ∷ []) x None) p, record { all = λ j h. absurd (none_has j h); some = λ j i. absurd i })
 path-up [] a (j ∷ w) p = absurd p
 path-up (L ∷ Ls) a [] p = absurd p
 path-up (L ∷ Ls) a (j ∷ w) p =
     let x = path-up Ls p.0 w p.2 in
-    let q = up_at {A = Up} mergeUp (λ x y. (w : List ℕ) → FitsUp x w → FitsUp y w) (λ x w f. f) (λ x y z f g w h. g w (f w h)) up_left up_right climb noUp L Ls a j p.0 x.0 p.1 x.1 in
+    let q = up_at {A = Up} merge_up (λ x y. (w : List ℕ) → FitsUp x w → FitsUp y w) (λ x w f. f) (λ x y z f g w h. g w (f w h)) up_left up_right climb no_up L Ls a j p.0 x.0 p.1 x.1 in
     (q.0, q.1, q.2 (j ∷ w) (climb-fits x.0 j w x.2))
 
-pub path-length : (Ls : Net) (a : ℕ) (w : List ℕ) → Path-from Ls a w → length w ≡ length Ls
+pub path-length : (Ls : Net) (a : ℕ) (w : List ℕ) → PathFrom Ls a w → length w ≡ length Ls
 path-length [] a [] p = refl
 path-length [] a (j ∷ w) p = absurd p
 path-length (L ∷ Ls) a [] p = absurd p
@@ -272,17 +272,17 @@ module _ {S V : Type 0} {Keeps : List ℕ → Type 0} {Stands : S → List ℕ �
       (le-ltb (ones (bit_or l.some (one j))) (suc (length p))
       (rw (← (length-snoc p j)) (ones_in r.n (bit_or l.some (one j)) (p ++ (j ∷ [])) a.part a.some)))
       (le-ltb (door r j).closes (finish r l.finish (leg r l.lasts j) j) (le_trans a.finish closing))
-      (false_from_ne_true (rule.bars l.state j) (λ h. ruled.bars-breaks l.state p j (part-next r.n p j w g.part) f.state h
-      (ruled.keeps-front (p ++ (j ∷ [])) w (rw (snoc-assoc p w j) g.part) (rw (snoc-assoc p w j) g.keeps))))
+      (false_from_ne_true (rule.bars l.state j) (λ h. ruled.bars_breaks l.state p j (part-next r.n p j w g.part) f.state h
+      (ruled.keeps_front (p ++ (j ∷ [])) w (rw (snoc-assoc p w j) g.part) (rw (snoc-assoc p w j) g.keeps))))
       (false_from_ne_true (has u.allup j) (λ h. (part-tail r.n p (j ∷ w) g.part).1 (fu.all j h)))
       (le-ltb (ones (bit_or u.someup (one j))) (suc (length w))
       (ones_in r.n (bit_or u.someup (one j)) (j ∷ w) (part-tail r.n p (j ∷ w) g.part) (climb-fits u j w fu).some))
     where
-      closing : (tripAfter r tally (p ++ (j ∷ []))).van.finish ≤ (door r j).closes
+      closing : (trip_after r tally (p ++ (j ∷ []))).van.finish ≤ (door r j).closes
       closing = rw (← (sym (van-snoc r p j) ∙ sym (trip-van r tally (p ++ (j ∷ []))))) g.timely.0
 
   pub sweeps-keep : (p w : List ℕ) (labs : List (Option (Lab r rule tally))) (Ls : Net) (a : ℕ) → Going r rule ruled tally tallied p w → Told r rule ruled tally tallied p → At r rule ruled tally tallied labs a p
-      → Good r rule ruled tally tallied (length p) labs → Neat r.n Ls → Path-from Ls a w → Path-from (sweeps r rule tally (length p) labs Ls) a w
+      → Good r rule ruled tally tallied (length p) labs → Neat r.n Ls → PathFrom Ls a w → PathFrom (sweeps r rule tally (length p) labs Ls) a w
   unfolding sweeps At
   sweeps-keep p [] labs [] a g t at good neat q = q
   sweeps-keep p (j ∷ w) labs [] a g t at good neat q = absurd q
@@ -297,7 +297,7 @@ module _ {S V : Type 0} {Keeps : List ℕ → Type 0} {Stands : S → List ℕ �
       rw (at.1, x.1, ← path-length Ls b w q.2) nb in
       let next' = at_next r rule ruled tally tallied labs L (width Ls) a j b p q.1 (inside Ls b w q.2) at t good facts.0 facts.2 facts.1 in
       let good' = good-next r rule ruled tally tallied (length p) labs L (width Ls) facts.2 good neat.0 in
-      let rest = sweeps-keep (p ++ (j ∷ [])) w (labelsNext r rule tally labs L (width Ls)) Ls b (going_next r rule ruled tally tallied p w j g)
+      let rest = sweeps-keep (p ++ (j ∷ [])) w (labels_next r rule tally labs L (width Ls)) Ls b (going_next r rule ruled tally tallied p w j g)
       (told-next r rule ruled tally tallied p j t facts.0 facts.2 facts.1) next'
       (rw (length-snoc p j) good') neat.1 q.2 in (
         b,
@@ -309,7 +309,7 @@ module _ {S V : Type 0} {Keeps : List ℕ → Type 0} {Stands : S → List ℕ �
   pub setting-out : (w : List ℕ) → Allowed r Keeps w → Going r rule ruled tally tallied [] w
   setting-out w o = record { part = o.part; keeps = o.keeps; timely = timely-from r [] w o.timely; total = omega (arith, o.whole) }
 
-  pub sweep-keeps : (w : List ℕ) (Ls : Net) → Allowed r Keeps w → Neat r.n Ls → Path-from Ls 0 w → Path-from (sweep r rule tally Ls) 0 w
+  pub sweep-keeps : (w : List ℕ) (Ls : Net) → Allowed r Keeps w → Neat r.n Ls → PathFrom Ls 0 w → PathFrom (sweep r rule tally Ls) 0 w
   unfolding sweep
   sweep-keeps w Ls o neat q = tidy-keeps (sweeps r rule tally 0 (firsts r rule tally) Ls) w
       (sweeps-keep [] w (firsts r rule tally) Ls 0 (setting-out w o) (told_none r rule ruled tally tallied) (at_first r rule ruled tally tallied) (good-first r rule ruled tally tallied) neat q)

@@ -9,10 +9,10 @@ use Rattle.round.specs.Clock.{door, drive}
 use Rattle.round.specs.declared.table.Round.{Round}
 use Rattle.rules.specs.Rules.{RuleSense, state_of}
 use Rattle.tallies.specs.Tallies.{TallySense}
-use Rattle.orders.specs.Costs.{rides, tripAfter}
-use Rattle.orders.specs.Times.{yard, goes, vanAfter, Timely}
+use Rattle.orders.specs.Costs.{rides, trip_after}
+use Rattle.orders.specs.Times.{yard, goes, van_after, Timely}
 use Rattle.orders.specs.declared.van.Van.{Van}
-use Rattle.layers.specs.Labels.{one, nearest, nearestIf, legStep, or_zero, leg}
+use Rattle.layers.specs.Labels.{one, nearest, nearest_if, leg_step, or_zero, leg}
 use Rattle.layers.proofs.Sets.{one-self, one_only}
 
 -- ---- lists of doors
@@ -40,10 +40,10 @@ pub snoc-assoc : (p w : List ℕ) (j : ℕ) → (p ++ (j ∷ [])) ++ w ≡ p ++ 
 snoc-assoc p w j = append_assoc p (j ∷ []) w
 
 -- ---- one door more
-pub trip-snoc : {V : Type 0} (r : Round) (tally : TallySense V) (p : List ℕ) (j : ℕ) → tripAfter r tally (p ++ (j ∷ [])) ≡ rides r tally (tripAfter r tally p) j
+pub trip-snoc : {V : Type 0} (r : Round) (tally : TallySense V) (p : List ℕ) (j : ℕ) → trip_after r tally (p ++ (j ∷ [])) ≡ rides r tally (trip_after r tally p) j
 trip-snoc r tally p j = fold_push (rides r tally) (record { van = yard; cost = tally.start }) p j
 
-pub van-snoc : (r : Round) (p : List ℕ) (j : ℕ) → vanAfter r (p ++ (j ∷ [])) ≡ goes r (vanAfter r p) j
+pub van-snoc : (r : Round) (p : List ℕ) (j : ℕ) → van_after r (p ++ (j ∷ [])) ≡ goes r (van_after r p) j
 van-snoc r p j = fold_push (goes r) yard p j
 
 pub state-snoc : {S : Type 0} (rule : RuleSense S) (p : List ℕ) (j : ℕ) → state_of rule (p ++ (j ∷ [])) ≡ rule.step (state_of rule p) j
@@ -54,7 +54,7 @@ abbrev pub TimelyFrom : Round → Van → List ℕ → Type 0
 TimelyFrom r a [] = Unit {0}
 TimelyFrom r a (j ∷ w) = ((goes r a j).finish ≤ (door r j).closes) × TimelyFrom r (goes r a j) w
 
-pub timely-from : (r : Round) (p w : List ℕ) → Timely r (p ++ w) → TimelyFrom r (vanAfter r p) w
+pub timely-from : (r : Round) (p w : List ℕ) → Timely r (p ++ w) → TimelyFrom r (van_after r p) w
 timely-from r p [] h = tt
 timely-from r p (j ∷ w) h = (
   subst (λ (a : Van). a.finish ≤ (door r j).closes) (van-snoc r p j) (h p j w refl),
@@ -64,9 +64,9 @@ timely-from r p (j ∷ w) h = (
 -- ---- legs
 -- the places i, i + 1, .. , k of them, after what is known from those below
 abbrev legs : Round → ℕ → ℕ → ℕ → ℕ → Option ℕ → Option ℕ
-legs r m j k i o = fold (legStep r m j) o (range_with_len i k)
+legs r m j k i o = fold (leg_step r m j) o (range_with_len i k)
 
-near-some : (q : Bool) (d x d₀ : ℕ) → d ≤ d₀ → (e : ℕ) × (nearestIf q (Some d) x ≡ Some e) × (e ≤ d₀)
+near-some : (q : Bool) (d x d₀ : ℕ) → d ≤ d₀ → (e : ℕ) × (nearest_if q (Some d) x ≡ Some e) × (e ≤ d₀)
 near-some true d x d₀ h = (min d x, refl, omega arith)
 near-some false d x d₀ h = (d, refl, h)
 
@@ -76,19 +76,19 @@ near (Some e) d = (min e d, refl, omega arith)
 
 module _ (r : Round) (m j : ℕ) where
   legs-below : (k i d d₀ : ℕ) → d ≤ d₀ → or_zero (legs r m j k i (Some d)) ≤ d₀
-  unfolding legStep
+  unfolding leg_step
   legs-below zero i d d₀ h = h
   legs-below (suc k) i d d₀ h =
       let q = near-some (has m i && not (eqb i j)) d (drive r i j) d₀ h in
       subst (λ (o : Option ℕ). or_zero (legs r m j k (i + 1) o) ≤ d₀) (sym q.1) (legs-below k (i + 1) q.0 d₀ q.2)
 
   legs-le : (k i t : ℕ) (o : Option ℕ) → i ≤ t → t < i + k → has m t ≡ true → eqb t j ≡ false → or_zero (legs r m j k i o) ≤ drive r t j
-  unfolding legStep
+  unfolding leg_step
   legs-le zero i t o a b h g = absurd (omega arith)
-  legs-le (suc k) i t o a b h g = go (eqb i t) refl (λ c. legs-le k (i + 1) t (nearestIf (has m i && not (eqb i j)) o (drive r i j)) c (omega arith) h g)
+  legs-le (suc k) i t o a b h g = go (eqb i t) refl (λ c. legs-le k (i + 1) t (nearest_if (has m i && not (eqb i j)) o (drive r i j)) c (omega arith) h g)
     where
-      go : (q : Bool) → eqb i t ≡ q → (i + 1 ≤ t → or_zero (legs r m j k (i + 1) (nearestIf (has m i && not (eqb i j)) o (drive r i j))) ≤ drive r t j)
-          → or_zero (legs r m j k (i + 1) (nearestIf (has m i && not (eqb i j)) o (drive r i j))) ≤ drive r t j
+      go : (q : Bool) → eqb i t ≡ q → (i + 1 ≤ t → or_zero (legs r m j k (i + 1) (nearest_if (has m i && not (eqb i j)) o (drive r i j))) ≤ drive r t j)
+          → or_zero (legs r m j k (i + 1) (nearest_if (has m i && not (eqb i j)) o (drive r i j))) ≤ drive r t j
       go true e f =
           let s : i ≡ t = eqb-true i t e in
           let x : (has m i && not (eqb i j)) ≡ true = rw (s, h, g) refl in
@@ -103,15 +103,15 @@ module _ (r : Round) (m j : ℕ) where
   unfolding leg
   leg-le t h a b = legs-le (r.n + 1) 0 t None (omega arith) (omega arith) a b
 
-  near-bound : (q : Bool) (o : Option ℕ) (d : ℕ) → or_zero o ≤ 999 → d ≤ 999 → or_zero (nearestIf q o d) ≤ 999
+  near-bound : (q : Bool) (o : Option ℕ) (d : ℕ) → or_zero o ≤ 999 → d ≤ 999 → or_zero (nearest_if q o d) ≤ 999
   near-bound true None d a b = b
   near-bound true (Some e) d a b = omega arith
   near-bound false o d a b = a
 
   legs-bound : (k i : ℕ) (o : Option ℕ) → or_zero o ≤ 999 → or_zero (legs r m j k i o) ≤ 999
-  unfolding legStep
+  unfolding leg_step
   legs-bound zero i o h = h
-  legs-bound (suc k) i o h = legs-bound k (i + 1) (nearestIf (has m i && not (eqb i j)) o (drive r i j)) (near-bound (has m i && not (eqb i j)) o (drive r i j) h (r.legs i j))
+  legs-bound (suc k) i o h = legs-bound k (i + 1) (nearest_if (has m i && not (eqb i j)) o (drive r i j)) (near-bound (has m i && not (eqb i j)) o (drive r i j) h (r.legs i j))
 
   pub leg-bound : leg r m j ≤ 999
   unfolding leg
@@ -119,27 +119,27 @@ module _ (r : Round) (m j : ℕ) where
 
 -- from a single last place
 module _ (r : Round) (t j : ℕ) where
-  near-stay : (q : Bool) (i : ℕ) → (q ≡ true → i ≡ t) → nearestIf q (Some (drive r t j)) (drive r i j) ≡ Some (drive r t j)
+  near-stay : (q : Bool) (i : ℕ) → (q ≡ true → i ≡ t) → nearest_if q (Some (drive r t j)) (drive r i j) ≡ Some (drive r t j)
   near-stay true i f = let e = f refl in ap (λ (x : ℕ). Some x) (let y : drive r i j ≡ drive r t j = ap (λ (z : ℕ). drive r z j) e in omega arith)
   near-stay false i f = refl
 
   legs-stay : (k i : ℕ) → legs r (one t) j k i (Some (drive r t j)) ≡ Some (drive r t j)
-  unfolding legStep
+  unfolding leg_step
   legs-stay zero i = refl
   legs-stay (suc k) i =
       ap (legs r (one t) j k (i + 1)) (near-stay (has (one t) i && not (eqb i j)) i (λ e. one_only t i (and_parts (has (one t) i) (not (eqb i j)) e).0)) ∙ legs-stay k (i + 1)
 
   legs_one : (k i : ℕ) → i ≤ t → t < i + k → eqb t j ≡ false → legs r (one t) j k i None ≡ Some (drive r t j)
-  unfolding legStep
+  unfolding leg_step
   legs_one zero i a b g = absurd (omega arith)
   legs_one (suc k) i a b g = go (eqb i t) refl (λ c. legs_one k (i + 1) c (omega arith) g)
     where
       go : (q : Bool) → eqb i t ≡ q → (i + 1 ≤ t → legs r (one t) j k (i + 1) None ≡ Some (drive r t j))
-          → legs r (one t) j k (i + 1) (nearestIf (has (one t) i && not (eqb i j)) None (drive r i j)) ≡ Some (drive r t j)
+          → legs r (one t) j k (i + 1) (nearest_if (has (one t) i && not (eqb i j)) None (drive r i j)) ≡ Some (drive r t j)
       go true e f =
           let s : i ≡ t = eqb-true i t e in
           let x : (has (one t) i && not (eqb i j)) ≡ true = rw (s, one-self t, g) refl in
-          ap (λ (b : Bool). legs r (one t) j k (i + 1) (nearestIf b None (drive r i j))) x ∙ ap (λ (y : ℕ). legs r (one t) j k (i + 1) (Some (drive r y j))) s ∙ legs-stay k (i + 1)
+          ap (λ (b : Bool). legs r (one t) j k (i + 1) (nearest_if b None (drive r i j))) x ∙ ap (λ (y : ℕ). legs r (one t) j k (i + 1) (Some (drive r y j))) s ∙ legs-stay k (i + 1)
       go false e f =
           let x : (has (one t) i && not (eqb i j)) ≡ false = off (has (one t) i) refl in
           rw x (f (omega (arith, eqb-false i t e)))

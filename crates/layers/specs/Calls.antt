@@ -4,9 +4,9 @@ use Rattle.std.specs.Prelude.{ℕ, zero, suc, ◌+◌, ◌-◌, ◌*◌, min, ma
 use Rattle.std.specs.Int.Count.{ones}
 use Rattle.layers.specs.declared.node.Node.{Node}
 use Rattle.layers.specs.declared.node.Down.{Down}
-use Rattle.layers.specs.Flow.{Net, node, redirect, countArcs, everyArc, ins, tidied, clash, joinAt, seeks}
-use Rattle.layers.specs.Labels.{leg, arrive, opened, barred, dear, agree, agreeing, headO, leaves}
-use Rattle.layers.specs.Records.{layers, arcsIn, downsIn, upsIn, drawn, laid}
+use Rattle.layers.specs.Flow.{Net, node, redirect, count_arcs, every_arc, ins, tidied, clash, join_at, seeks}
+use Rattle.layers.specs.Labels.{leg, arrive, opened, barred, dear, agree, agreeing, first_arrival, leaves}
+use Rattle.layers.specs.Records.{layers, arcs_in, downs_in, ups_in, drawn, laid}
 use Rattle.round.specs.declared.table.Round.{Round}
 use Rattle.round.specs.Clock.{finish}
 use Rattle.rules.specs.Rules.{RuleSense}
@@ -30,18 +30,18 @@ EachCut Q (Cut c ∷ cs) = Q c × EachCut Q cs
 EachCut Q (Refine ∷ cs) = EachCut Q cs
 
 -- the value of the first of these nodes
-abbrev pub valueIn : {S V : Type 0} → List (Node S V) → Option V
-valueIn [] = None
-valueIn (x ∷ xs) = Some x.label.down.value
+abbrev pub value_in : {S V : Type 0} → List (Node S V) → Option V
+value_in [] = None
+value_in (x ∷ xs) = Some x.label.down.value
 
 -- ---- refusals that the records do not decide: 0, or the number of the refusal
 -- opening a diagram of n doors and width W on so many records: 10 for a width other than 1 to 128, 11 for too few records
-abbrev pub openAnswer : ℕ → ℕ → ℕ → ℕ
-openAnswer n W long = cond (nat_lt W 1 || nat_lt 128 W) 10 (cond (nat_lt long (n * W + 1)) 11 0)
+abbrev pub open_answer : ℕ → ℕ → ℕ → ℕ
+open_answer n W long = cond (nat_lt W 1 || nat_lt 128 W) 10 (cond (nat_lt long (n * W + 1)) 11 0)
 
 -- must, of i and j in a round of n doors: 22 if either is no door, 27 if they are one
-abbrev pub mustAnswer : ℕ → ℕ → ℕ → ℕ
-mustAnswer n i j = cond (nat_lt i 1 || (nat_lt n i || (nat_lt j 1 || nat_lt n j))) 22 (cond (i == j) 27 0)
+abbrev pub must_answer : ℕ → ℕ → ℕ → ℕ
+must_answer n i j = cond (nat_lt i 1 || (nat_lt n i || (nat_lt j 1 || nat_lt n j))) 22 (cond (i == j) 27 0)
 
 -- ---- what needs neither rule nor tally: a diagram of n doors and width W in the records xs
 module _ {S V : Type 0} (n W : ℕ) where
@@ -59,12 +59,12 @@ module _ {S V : Type 0} (n W : ℕ) where
 
   -- how many arcs fewer there are in ys than in xs
   unfoldable pub fewer : List (Node S V) → List (Node S V) → ℕ
-  unfolding countArcs
-  fewer xs ys = countArcs (arcs xs) - countArcs (arcs ys)
+  unfolding count_arcs
+  fewer xs ys = count_arcs (arcs xs) - count_arcs (arcs ys)
 
   -- bound: the end's value, or none if no path leads to the end
   unfoldable pub bound : List (Node S V) → Option V
-  bound xs = valueIn (layer n xs)
+  bound xs = value_in (layer n xs)
 
   -- must i j: yes if no path has j at an earlier place than i
   unfoldable pub must : ℕ → ℕ → List (Node S V) → Bool
@@ -83,7 +83,7 @@ module _ {S V : Type 0} (r : Round) (rule : RuleSense S) (tally : TallySense V) 
   thinned i [] = []
   thinned i (N ∷ []) = []
   thinned i (N ∷ M ∷ Ns) =
-      redirect (λ a j b. cond (barred r rule tally i (r.n - i) j (slice_index_or (downsIn N) a None) (slice_index_or (upsIn M) b None)) 0 (suc b)) (arcsIn r.n N)
+      redirect (λ a j b. cond (barred r rule tally i (r.n - i) j (slice_index_or (downs_in N) a None) (slice_index_or (ups_in M) b None)) 0 (suc b)) (arcs_in r.n N)
       ∷ thinned (suc i) (M ∷ Ns)
 
   -- the arcs that a cut leaves, before tidying
@@ -91,44 +91,44 @@ module _ {S V : Type 0} (r : Round) (rule : RuleSense S) (tally : TallySense V) 
   unfolding redirect arrive
   trimmed c [] = []
   trimmed c (N ∷ []) = []
-  trimmed c (N ∷ M ∷ Ns) = redirect (λ a j b. cond (dear r rule tally c j (slice_index_or (downsIn N) a None)) 0 (suc b)) (arcsIn r.n N) ∷ trimmed c (M ∷ Ns)
+  trimmed c (N ∷ M ∷ Ns) = redirect (λ a j b. cond (dear r rule tally c j (slice_index_or (downs_in N) a None)) 0 (suc b)) (arcs_in r.n N) ∷ trimmed c (M ∷ Ns)
 
   -- what arrives at the node at place a of the layer after N
   unfoldable pub arrivals : Recs → ℕ → List (Down S V)
   unfolding ins arrive
-  arrivals N a = ins (arrive r rule tally) a (downsIn N) (arcsIn r.n N)
+  arrivals N a = ins (arrive r rule tally) a (downs_in N) (arcs_in r.n N)
 
   -- the arcs of the layers d, d + 1, .. after parting the node at place a of layer d + 1, where labs are the labels of layer d:
   -- the in-arcs that differ from the first go to a new last node of that layer, with the same out-arcs
-  unfoldable pub partedAt : ℕ → ℕ → List (Option (Down S V)) → Net → Net
+  unfoldable pub parted_at : ℕ → ℕ → List (Option (Down S V)) → Net → Net
   unfolding redirect agree arrive ins
-  partedAt d a labs [] = []
-  partedAt zero a labs (L ∷ []) = L ∷ []
-  partedAt zero a labs (L ∷ M ∷ Ls) =
-      let x = headO r rule tally (ins (arrive r rule tally) a labs L) in
+  parted_at d a labs [] = []
+  parted_at zero a labs (L ∷ []) = L ∷ []
+  parted_at zero a labs (L ∷ M ∷ Ls) =
+      let x = first_arrival r rule tally (ins (arrive r rule tally) a labs L) in
       redirect (λ u j b. cond (b == a && leaves r rule tally x (slice_index_or labs u None) j) (suc (length M)) (suc b)) L ∷ (M ++ (node M a ∷ [])) ∷ Ls
-  partedAt (suc d) a labs (L ∷ Ls) = L ∷ partedAt d a labs Ls
+  parted_at (suc d) a labs (L ∷ Ls) = L ∷ parted_at d a labs Ls
 
   -- the in-arcs of the nodes at places below b of the layer after N agree
-  unfoldable pub agreedBelow : Recs → ℕ → Bool
+  unfoldable pub agreed_below : Recs → ℕ → Bool
   unfolding agreeing arrivals
-  agreedBelow N zero = true
-  agreedBelow N (suc b) = agreeing r rule tally (arrivals N b) && agreedBelow N b
+  agreed_below N zero = true
+  agreed_below N (suc b) = agreeing r rule tally (arrivals N b) && agreed_below N b
 
   -- the in-arcs of each node agree, the end apart
-  unfoldable pub agreedAll : List Recs → Bool
-  unfolding agreedBelow
-  agreedAll [] = true
-  agreedAll (N ∷ []) = true
-  agreedAll (N ∷ M ∷ []) = true
-  agreedAll (N ∷ M ∷ K ∷ Ns) = agreedBelow N (length M) && agreedAll (M ∷ K ∷ Ns)
+  unfoldable pub agreed_all : List Recs → Bool
+  unfolding agreed_below
+  agreed_all [] = true
+  agreed_all (N ∷ []) = true
+  agreed_all (N ∷ M ∷ []) = true
+  agreed_all (N ∷ M ∷ K ∷ Ns) = agreed_below N (length M) && agreed_all (M ∷ K ∷ Ns)
 
   -- no arc, from layer i on, is one that a sweep takes out
-  unfoldable pub quietFrom : ℕ → List Recs → Bool
-  unfolding everyArc ones leg finish
-  quietFrom i [] = true
-  quietFrom i (N ∷ []) = true
-  quietFrom i (N ∷ M ∷ Ns) = everyArc (λ a j b. not (barred r rule tally i (r.n - i) j (slice_index_or (downsIn N) a None) (slice_index_or (upsIn M) b None))) 0 (arcsIn r.n N) && quietFrom (suc i) (M ∷ Ns)
+  unfoldable pub quiet_from : ℕ → List Recs → Bool
+  unfolding every_arc ones leg finish
+  quiet_from i [] = true
+  quiet_from i (N ∷ []) = true
+  quiet_from i (N ∷ M ∷ Ns) = every_arc (λ a j b. not (barred r rule tally i (r.n - i) j (slice_index_or (downs_in N) a None) (slice_index_or (ups_in M) b None))) 0 (arcs_in r.n N) && quiet_from (suc i) (M ∷ Ns)
 
   -- ---- on the lent list
   module _ (W : ℕ) where
@@ -138,9 +138,9 @@ module _ {S V : Type 0} (r : Round) (rule : RuleSense S) (tally : TallySense V) 
     relaid xs Ls = laid r rule tally W Ls ++ drop (r.n * W + 1) xs
 
     -- open
-    unfoldable pub openedOn : Recs → Recs
+    unfoldable pub opened_on : Recs → Recs
     unfolding relaid opened
-    openedOn xs = relaid xs (opened r rule tally)
+    opened_on xs = relaid xs (opened r rule tally)
 
     -- sweep
     unfoldable pub swept : Recs → Recs
@@ -148,8 +148,8 @@ module _ {S V : Type 0} (r : Round) (rule : RuleSense S) (tally : TallySense V) 
     swept xs = relaid xs (tidied (thinned 0 (nodes r.n W xs)))
 
     -- how many arcs it took out
-    abbrev pub sweepAnswer : Recs → ℕ
-    sweepAnswer xs = fewer r.n W xs (swept xs)
+    abbrev pub sweep_answer : Recs → ℕ
+    sweep_answer xs = fewer r.n W xs (swept xs)
 
     -- cut at the ceiling c
     unfoldable pub cut_at : V → Recs → Recs
@@ -157,78 +157,78 @@ module _ {S V : Type 0} (r : Round) (rule : RuleSense S) (tally : TallySense V) 
     cut_at c xs = relaid xs (tidied (trimmed c (nodes r.n W xs)))
 
     -- how many arcs it took out
-    abbrev pub cutAnswer : V → Recs → ℕ
-    cutAnswer c xs = fewer r.n W xs (cut_at c xs)
+    abbrev pub cut_answer : V → Recs → ℕ
+    cut_answer c xs = fewer r.n W xs (cut_at c xs)
 
     -- i is no layer between the first node and the end
-    abbrev pub badLayer : ℕ → Bool
-    badLayer i = nat_lt i 1 || nat_le r.n i
+    abbrev pub bad_layer : ℕ → Bool
+    bad_layer i = nat_lt i 1 || nat_le r.n i
 
     -- layer i has no node a
-    abbrev pub badNode : ℕ → ℕ → Recs → Bool
-    badNode i a xs = nat_lt a 1 || nat_lt (length (layer r.n W i xs)) a
+    abbrev pub bad_node : ℕ → ℕ → Recs → Bool
+    bad_node i a xs = nat_lt a 1 || nat_lt (length (layer r.n W i xs)) a
 
     -- the in-arcs of node a of layer i agree: parting it would leave one group empty
-    unfoldable pub oneGroup : ℕ → ℕ → Recs → Bool
+    unfoldable pub one_group : ℕ → ℕ → Recs → Bool
     unfolding agreeing arrivals
-    oneGroup i a xs = agreeing r rule tally (arrivals (layer r.n W (i - 1) xs) (a - 1))
+    one_group i a xs = agreeing r rule tally (arrivals (layer r.n W (i - 1) xs) (a - 1))
 
     -- layer i has no place left
-    abbrev pub isFull : ℕ → Recs → Bool
-    isFull i xs = nat_le W (length (layer r.n W i xs))
+    abbrev pub is_full : ℕ → Recs → Bool
+    is_full i xs = nat_le W (length (layer r.n W i xs))
 
     -- part node a of layer i: 0, or the number of the refusal, which leaves the records as they are
     -- 20 for the layer, 21 for the node, 23 for one group, 24 for a full layer
-    unfoldable pub partAnswer : ℕ → ℕ → Recs → ℕ
-    unfolding oneGroup
-    partAnswer i a xs = cond (badLayer i) 20 (cond (badNode i a xs) 21 (cond (oneGroup i a xs) 23 (cond (isFull i xs) 24 0)))
+    unfoldable pub part_answer : ℕ → ℕ → Recs → ℕ
+    unfolding one_group
+    part_answer i a xs = cond (bad_layer i) 20 (cond (bad_node i a xs) 21 (cond (one_group i a xs) 23 (cond (is_full i xs) 24 0)))
 
     -- what it does if it is not refused
     unfoldable pub split : ℕ → ℕ → Recs → Recs
-    unfolding relaid partedAt
-    split i a xs = relaid xs (partedAt (i - 1) (a - 1) (downsIn (layer r.n W (i - 1) xs)) (arcs r.n W xs))
+    unfolding relaid parted_at
+    split i a xs = relaid xs (parted_at (i - 1) (a - 1) (downs_in (layer r.n W (i - 1) xs)) (arcs r.n W xs))
 
     -- part
     unfoldable pub parted : ℕ → ℕ → Recs → Recs
-    unfolding partAnswer split
-    parted i a xs = cond (partAnswer i a xs == 0) (split i a xs) xs
+    unfolding part_answer split
+    parted i a xs = cond (part_answer i a xs == 0) (split i a xs) xs
 
     -- join nodes a and b of layer i: likewise, with 25 if they are one node, and 26 if by some door they have arcs to two nodes
-    unfoldable pub joinAnswer : ℕ → ℕ → ℕ → Recs → ℕ
+    unfoldable pub join_answer : ℕ → ℕ → ℕ → Recs → ℕ
     unfolding clash
-    joinAnswer i a b xs =
+    join_answer i a b xs =
         let L = get_or (arcs r.n W xs) i [] in
-        cond (badLayer i) 20 (cond (badNode i a xs || badNode i b xs) 21 (cond (a == b) 25 (cond (clash (node L (min a b - 1)) (node L (max a b - 1))) 26 0)))
+        cond (bad_layer i) 20 (cond (bad_node i a xs || bad_node i b xs) 21 (cond (a == b) 25 (cond (clash (node L (min a b - 1)) (node L (max a b - 1))) 26 0)))
 
     -- join: the out-arcs of both, at the lower of the two places
     unfoldable pub joined : ℕ → ℕ → ℕ → Recs → Recs
-    unfolding joinAnswer relaid joinAt
-    joined i a b xs = cond (joinAnswer i a b xs == 0) (relaid xs (joinAt (i - 1) (min a b - 1) (max a b - 1) (arcs r.n W xs))) xs
+    unfolding join_answer relaid join_at
+    joined i a b xs = cond (join_answer i a b xs == 0) (relaid xs (join_at (i - 1) (min a b - 1) (max a b - 1) (arcs r.n W xs))) xs
 
     -- refine, in one layer: parts nodes a, a + 1, .. of layer i, k at most, each that is not of one group; yes if one is left since the layer is full
     unfoldable pub splits : ℕ → ℕ → ℕ → Recs → Bool × Recs
-    unfolding oneGroup split
+    unfolding one_group split
     splits zero i a xs = (false, xs)
     splits (suc k) i a xs =
         cond (nat_lt (length (layer r.n W i xs)) a) (false, xs)
-        (cond (oneGroup i a xs) (splits k i (suc a) xs) (cond (isFull i xs) (true, xs) (splits k i (suc a) (split i a xs))))
+        (cond (one_group i a xs) (splits k i (suc a) xs) (cond (is_full i xs) (true, xs) (splits k i (suc a) (split i a xs))))
 
     -- refine, in k layers from i on: a sweep, then the parts of the layer; up to a layer that is full, or 0 if none is
-    unfoldable pub splitsAll : ℕ → ℕ → Recs → ℕ × Recs
+    unfoldable pub splits_all : ℕ → ℕ → Recs → ℕ × Recs
     unfolding swept splits
-    splitsAll zero i xs = (0, xs)
-    splitsAll (suc k) i xs = let p = splits W i 1 (swept xs) in cond p.0 (i, p.1) (splitsAll k (suc i) p.1)
+    splits_all zero i xs = (0, xs)
+    splits_all (suc k) i xs = let p = splits W i 1 (swept xs) in cond p.0 (i, p.1) (splits_all k (suc i) p.1)
 
     -- sweeps until one answers 0, k at most
-    unfoldable pub sweptOut : ℕ → Recs → Recs
+    unfoldable pub swept_out : ℕ → Recs → Recs
     unfolding swept fewer
-    sweptOut zero xs = xs
-    sweptOut (suc k) xs = cond (sweepAnswer xs == 0) (swept xs) (sweptOut k (swept xs))
+    swept_out zero xs = xs
+    swept_out (suc k) xs = cond (sweep_answer xs == 0) (swept xs) (swept_out k (swept xs))
 
     -- refine, and its answer: 0 for whole, or the layer that was full. Each of the sweeps at its end but the last takes out an arc, so there are enough of them
     unfoldable pub refined : Recs → ℕ × Recs
-    unfolding splitsAll sweptOut countArcs
-    refined xs = let p = splitsAll (r.n - 1) 1 xs in (p.0, sweptOut (suc (countArcs (arcs r.n W p.1))) p.1)
+    unfolding splits_all swept_out count_arcs
+    refined xs = let p = splits_all (r.n - 1) 1 xs in (p.0, swept_out (suc (count_arcs (arcs r.n W p.1))) p.1)
 
     -- ---- a list of calls
     -- what a call leaves of the records
@@ -247,5 +247,5 @@ module _ {S V : Type 0} (r : Round) (rule : RuleSense S) (tally : TallySense V) 
 
     -- settled: the in-arcs of each node agree, and no arc is one that a sweep takes out
     unfoldable pub settled : Recs → Bool
-    unfolding agreedAll quietFrom
-    settled xs = agreedAll (nodes r.n W xs) && quietFrom 0 (nodes r.n W xs)
+    unfolding agreed_all quiet_from
+    settled xs = agreed_all (nodes r.n W xs) && quiet_from 0 (nodes r.n W xs)

@@ -7,8 +7,8 @@ use Rattle.tallies.specs.Tallies.{TallySense}
 use Rattle.orders.specs.Allowed.{Allowed}
 use Rattle.orders.specs.Costs.{cost}
 use Rattle.layers.specs.declared.node.Node.{Node}
-use Rattle.layers.specs.Flow.{Path-from}
-use Rattle.layers.specs.Calls.{Call, EachCut, nodes, arcs, relaid, agreedAll, sweepAnswer, openedOn, refined, run, bound, must, settled}
+use Rattle.layers.specs.Flow.{PathFrom}
+use Rattle.layers.specs.Calls.{Call, EachCut, nodes, arcs, relaid, agreed_all, sweep_answer, opened_on, refined, run, bound, must, settled}
 
 -- i stands ahead of j in w
 abbrev pub Ahead : ℕ → ℕ → List ℕ → Type 0
@@ -17,10 +17,10 @@ Ahead i j (k ∷ w) = ((i ≡ k) × In j w) ⊎ Ahead i j w
 
 -- w is read along a path from the first node to the end, in the diagram of n doors and width W in these records
 abbrev pub IsPath : {S V : Type 0} → ℕ → ℕ → List (Node S V) → List ℕ → Type 0
-IsPath n W xs w = Path-from (arcs n W xs) 0 w
+IsPath n W xs w = PathFrom (arcs n W xs) 0 w
 
 -- what the answer b to must(i, j) says of the paths: j stands at an earlier place than i on none, or on this one
-pub record Must-means {S V : Type 0} (n W i j : ℕ) (xs : List (Node S V)) (b : Bool) : Type 0 where
+pub record MustMeans {S V : Type 0} (n W i j : ℕ) (xs : List (Node S V)) (b : Bool) : Type 0 where
   pub yes : b ≡ true → (w : List ℕ) → IsPath n W xs w → Ahead j i w → ⊥
   pub no' : b ≡ false → (w : List ℕ) × IsPath n W xs w × Ahead j i w
 
@@ -28,60 +28,60 @@ pub record Must-means {S V : Type 0} (n W i j : ℕ) (xs : List (Node S V)) (b :
 module _ {S V : Type 0} (r : Round) (rule : RuleSense S) (Keeps : List ℕ → Type 0) (tally : TallySense V) (W : ℕ) (cs : List (Call V)) where
   -- an allowed order whose cost is above none of the ceilings
   abbrev pub Wanted : List ℕ → Type 0
-  Wanted w = Allowed r Keeps w × EachCut (λ c. tally.notAbove (cost r tally w) c ≡ true) cs
+  Wanted w = Allowed r Keeps w × EachCut (λ c. tally.not_above (cost r tally w) c ≡ true) cs
 
   -- what holds at any time
-  pub record Nothing-lost (xs : List (Node S V)) : Type 0 where
+  pub record NothingLost (xs : List (Node S V)) : Type 0 where
     -- every wanted order is a path
     pub still : (w : List ℕ) → Wanted w → IsPath r.n W xs w
     -- the bound is not above the cost of any
-    pub low : (w : List ℕ) (v : V) → Wanted w → bound r.n W xs ≡ Some v → tally.notAbove v (cost r tally w) ≡ true
+    pub low : (w : List ℕ) (v : V) → Wanted w → bound r.n W xs ≡ Some v → tally.not_above v (cost r tally w) ≡ true
     -- if there is none, no order is wanted
-    pub low-none : bound r.n W xs ≡ None → (w : List ℕ) → Wanted w → ⊥
+    pub low_none : bound r.n W xs ≡ None → (w : List ℕ) → Wanted w → ⊥
     -- if i must be ahead of j, it is so in every wanted order
-    pub must-yes : (i j : ℕ) → Door r.n i → Door r.n j → (i ≢ j) → must r.n W i j xs ≡ true → (w : List ℕ) → Wanted w → Ahead i j w
+    pub must_yes : (i j : ℕ) → Door r.n i → Door r.n j → (i ≢ j) → must r.n W i j xs ≡ true → (w : List ℕ) → Wanted w → Ahead i j w
 
   -- what holds of a settled diagram
-  pub record Nothing-false (xs : List (Node S V)) : Type 0 where
+  pub record NothingFalse (xs : List (Node S V)) : Type 0 where
     -- every path is an allowed order
     pub allowed : (w : List ℕ) → IsPath r.n W xs w → Allowed r Keeps w
     -- the bound is the cost of a path, and not above that of any
     pub least : (v : V) → bound r.n W xs ≡ Some v → (w : List ℕ) × IsPath r.n W xs w × (cost r tally w ≡ v)
-    pub least-of : (v : V) → bound r.n W xs ≡ Some v → (w : List ℕ) → IsPath r.n W xs w → tally.notAbove v (cost r tally w) ≡ true
+    pub least_of : (v : V) → bound r.n W xs ≡ Some v → (w : List ℕ) → IsPath r.n W xs w → tally.not_above v (cost r tally w) ≡ true
     -- there is none only if there is no path
-    pub least-none : bound r.n W xs ≡ None → (w : List ℕ) → IsPath r.n W xs w → ⊥
+    pub least_none : bound r.n W xs ≡ None → (w : List ℕ) → IsPath r.n W xs w → ⊥
     -- if i need not be ahead of j, some path has j ahead of i
-    pub must-no : (i j : ℕ) → must r.n W i j xs ≡ false → (w : List ℕ) × IsPath r.n W xs w × Ahead j i w
+    pub must_no : (i j : ℕ) → must r.n W i j xs ≡ false → (w : List ℕ) × IsPath r.n W xs w × Ahead j i w
 
   -- nothing is lost at any time, and nothing is false once the diagram is settled
   pub record Sure (xs : List (Node S V)) : Type 0 where
-    pub nothing-lost : Nothing-lost xs
-    pub nothing_false : settled r rule tally W xs ≡ true → Nothing-false xs
+    pub nothing_lost : NothingLost xs
+    pub nothing_false : settled r rule tally W xs ≡ true → NothingFalse xs
 
 -- for one rule and one tally: every round that both serve, every width from 1 to 128, every lent list, every list of calls after opening
 abbrev pub Kept : {S V : Type 0} → (ℕ → Type 0) → RuleSense S → (List ℕ → Type 0) → (ℕ → Type 0) → TallySense V → Type 0
-Kept {S} {V} Rule-serves rule Keeps Tally-serves tally =
-    (r : Round) → Rule-serves r.n → Tally-serves r.n → (W : ℕ) → 1 ≤ W → W ≤ 128 → (lent : List (Node S V)) (cs : List (Call V))
-    → Sure r rule Keeps tally W cs (run r rule tally W cs (openedOn r rule tally W lent))
+Kept {S} {V} RuleServes rule Keeps TallyServes tally =
+    (r : Round) → RuleServes r.n → TallyServes r.n → (W : ℕ) → 1 ≤ W → W ≤ 128 → (lent : List (Node S V)) (cs : List (Call V))
+    → Sure r rule Keeps tally W cs (run r rule tally W cs (opened_on r rule tally W lent))
 
 -- the labels that stand: after every list of calls the records are the arcs read off them, labelled anew, and later places are those lent
-abbrev pub Worked-out : {S V : Type 0} → (ℕ → Type 0) → RuleSense S → TallySense V → Type 0
-Worked-out {S} {V} Rule-serves rule tally =
-    (r : Round) → Rule-serves r.n → (W : ℕ) → 1 ≤ W → W ≤ 128 → (lent : List (Node S V)) (cs : List (Call V))
-    → run r rule tally W cs (openedOn r rule tally W lent) ≡ relaid r rule tally W lent (arcs r.n W (run r rule tally W cs (openedOn r rule tally W lent)))
+abbrev pub WorkedOut : {S V : Type 0} → (ℕ → Type 0) → RuleSense S → TallySense V → Type 0
+WorkedOut {S} {V} RuleServes rule tally =
+    (r : Round) → RuleServes r.n → (W : ℕ) → 1 ≤ W → W ≤ 128 → (lent : List (Node S V)) (cs : List (Call V))
+    → run r rule tally W cs (opened_on r rule tally W lent) ≡ relaid r rule tally W lent (arcs r.n W (run r rule tally W cs (opened_on r rule tally W lent)))
 
 -- settled is yes exactly when the in-arcs of each node agree and a sweep would take out nothing
-abbrev pub Settled-means : {S V : Type 0} → (ℕ → Type 0) → RuleSense S → TallySense V → Type 0
-Settled-means {S} {V} Rule-serves rule tally =
-    (r : Round) → Rule-serves r.n → (W : ℕ) → 1 ≤ W → W ≤ 128 → (lent : List (Node S V)) (cs : List (Call V))
-    → let xs = run r rule tally W cs (openedOn r rule tally W lent) in settled r rule tally W xs ≡ (agreedAll r rule tally (nodes r.n W xs) && sweepAnswer r rule tally W xs == 0)
+abbrev pub SettledMeans : {S V : Type 0} → (ℕ → Type 0) → RuleSense S → TallySense V → Type 0
+SettledMeans {S} {V} RuleServes rule tally =
+    (r : Round) → RuleServes r.n → (W : ℕ) → 1 ≤ W → W ≤ 128 → (lent : List (Node S V)) (cs : List (Call V))
+    → let xs = run r rule tally W cs (opened_on r rule tally W lent) in settled r rule tally W xs ≡ (agreed_all r rule tally (nodes r.n W xs) && sweep_answer r rule tally W xs == 0)
 
 -- refine of these records that answers 0, for whole, leaves the diagram settled
 abbrev pub WholeSettles : {S V : Type 0} → Round → RuleSense S → TallySense V → ℕ → List (Node S V) → Type 0
 WholeSettles r rule tally W xs = (refined r rule tally W xs).0 ≡ 0 → settled r rule tally W (refined r rule tally W xs).1 ≡ true
 
 -- so after every list of calls
-abbrev pub Whole-settles : {S V : Type 0} → (ℕ → Type 0) → RuleSense S → TallySense V → Type 0
-Whole-settles {S} {V} Rule-serves rule tally =
-    (r : Round) → Rule-serves r.n → (W : ℕ) → 1 ≤ W → W ≤ 128 → (lent : List (Node S V)) (cs : List (Call V))
-    → WholeSettles r rule tally W (run r rule tally W cs (openedOn r rule tally W lent))
+abbrev pub WholeSettlesAlways : {S V : Type 0} → (ℕ → Type 0) → RuleSense S → TallySense V → Type 0
+WholeSettlesAlways {S} {V} RuleServes rule tally =
+    (r : Round) → RuleServes r.n → (W : ℕ) → 1 ≤ W → W ≤ 128 → (lent : List (Node S V)) (cs : List (Call V))
+    → WholeSettles r rule tally W (run r rule tally W cs (opened_on r rule tally W lent))

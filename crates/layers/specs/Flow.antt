@@ -30,57 +30,57 @@ width [] = 1
 width (L ∷ Ls) = length L
 
 -- w is read along a path from the node at place a to the end
-abbrev pub Path-from : Net → ℕ → List ℕ → Type 0
-Path-from [] a [] = a ≡ 0
-Path-from [] a (j ∷ w) = ⊥
-Path-from (L ∷ Ls) a [] = ⊥
-Path-from (L ∷ Ls) a (j ∷ w) = (b : ℕ) × (target (node L a) j ≡ suc b) × Path-from Ls b w
+abbrev pub PathFrom : Net → ℕ → List ℕ → Type 0
+PathFrom [] a [] = a ≡ 0
+PathFrom [] a (j ∷ w) = ⊥
+PathFrom (L ∷ Ls) a [] = ⊥
+PathFrom (L ∷ Ls) a (j ∷ w) = (b : ℕ) × (target (node L a) j ≡ suc b) × PathFrom Ls b w
 
 abbrev pub is_some : {A : Type 0} → Option A → Bool
 is_some None = false
 is_some (Some x) = true
 
 -- each arc by door j from the node at place a to place b becomes f a j b
-unfoldable pub eachDoor : (ℕ → ℕ → ℕ) → ℕ → Outs → Outs
-eachDoor f j [] = []
-eachDoor f j (zero ∷ ts) = zero ∷ eachDoor f (suc j) ts
-eachDoor f j (suc b ∷ ts) = f j b ∷ eachDoor f (suc j) ts
+unfoldable pub each_door : (ℕ → ℕ → ℕ) → ℕ → Outs → Outs
+each_door f j [] = []
+each_door f j (zero ∷ ts) = zero ∷ each_door f (suc j) ts
+each_door f j (suc b ∷ ts) = f j b ∷ each_door f (suc j) ts
 
-unfoldable pub eachNode : (ℕ → ℕ → ℕ → ℕ) → ℕ → Layer → Layer
-unfolding eachDoor
-eachNode f a [] = []
-eachNode f a (nd ∷ L) = eachDoor (f a) 1 nd ∷ eachNode f (suc a) L
+unfoldable pub each_node : (ℕ → ℕ → ℕ → ℕ) → ℕ → Layer → Layer
+unfolding each_door
+each_node f a [] = []
+each_node f a (nd ∷ L) = each_door (f a) 1 nd ∷ each_node f (suc a) L
 
 unfoldable pub redirect : (ℕ → ℕ → ℕ → ℕ) → Layer → Layer
-unfolding eachNode
-redirect f L = eachNode f 0 L
+unfolding each_node
+redirect f L = each_node f 0 L
 
 -- sums over arcs
-unfoldable pub countDoors : Outs → ℕ
-countDoors [] = 0
-countDoors (zero ∷ ts) = countDoors ts
-countDoors (suc b ∷ ts) = suc (countDoors ts)
+unfoldable pub count_doors : Outs → ℕ
+count_doors [] = 0
+count_doors (zero ∷ ts) = count_doors ts
+count_doors (suc b ∷ ts) = suc (count_doors ts)
 
-unfoldable pub countLayer : Layer → ℕ
-unfolding countDoors
-countLayer [] = 0
-countLayer (nd ∷ L) = countDoors nd + countLayer L
+unfoldable pub count_layer : Layer → ℕ
+unfolding count_doors
+count_layer [] = 0
+count_layer (nd ∷ L) = count_doors nd + count_layer L
 
-unfoldable pub countArcs : Net → ℕ
-unfolding countLayer
-countArcs [] = 0
-countArcs (L ∷ Ls) = countLayer L + countArcs Ls
+unfoldable pub count_arcs : Net → ℕ
+unfolding count_layer
+count_arcs [] = 0
+count_arcs (L ∷ Ls) = count_layer L + count_arcs Ls
 
 -- every arc of a layer passes a test of source, door and target
-unfoldable pub everyDoor : (ℕ → ℕ → Bool) → ℕ → Outs → Bool
-everyDoor f j [] = true
-everyDoor f j (zero ∷ ts) = everyDoor f (suc j) ts
-everyDoor f j (suc b ∷ ts) = f j b && everyDoor f (suc j) ts
+unfoldable pub every_door : (ℕ → ℕ → Bool) → ℕ → Outs → Bool
+every_door f j [] = true
+every_door f j (zero ∷ ts) = every_door f (suc j) ts
+every_door f j (suc b ∷ ts) = f j b && every_door f (suc j) ts
 
-unfoldable pub everyArc : (ℕ → ℕ → ℕ → Bool) → ℕ → Layer → Bool
-unfolding everyDoor
-everyArc f a [] = true
-everyArc f a (nd ∷ L) = everyDoor (f a) 1 nd && everyArc f (suc a) L
+unfoldable pub every_arc : (ℕ → ℕ → ℕ → Bool) → ℕ → Layer → Bool
+unfolding every_door
+every_arc f a [] = true
+every_arc f a (nd ∷ L) = every_door (f a) 1 nd && every_arc f (suc a) L
 
 module _ {A : Type 0} where
   -- downward: what arrives at the node at place b, by source, then by door
@@ -88,16 +88,16 @@ module _ {A : Type 0} where
   put true x r = x ∷ r
   put false x r = r
 
-  unfoldable pub insDoor : (A → ℕ → A) → ℕ → A → ℕ → Outs → List A
-  insDoor arrive b l j [] = []
-  insDoor arrive b l j (t ∷ ts) = put (t == suc b) (arrive l j) (insDoor arrive b l (suc j) ts)
+  unfoldable pub ins_door : (A → ℕ → A) → ℕ → A → ℕ → Outs → List A
+  ins_door arrive b l j [] = []
+  ins_door arrive b l j (t ∷ ts) = put (t == suc b) (arrive l j) (ins_door arrive b l (suc j) ts)
 
   unfoldable pub ins : (A → ℕ → A) → ℕ → List (Option A) → Layer → List A
-  unfolding insDoor
+  unfolding ins_door
   ins arrive b [] L = []
   ins arrive b (o ∷ labs) [] = []
   ins arrive b (None ∷ labs) (nd ∷ L) = ins arrive b labs L
-  ins arrive b (Some l ∷ labs) (nd ∷ L) = insDoor arrive b l 1 nd ++ ins arrive b labs L
+  ins arrive b (Some l ∷ labs) (nd ∷ L) = ins_door arrive b l 1 nd ++ ins arrive b labs L
 
   unfoldable pub gather : (A → A → A) → List A → Option A
   gather merge [] = None
@@ -112,13 +112,13 @@ module _ {A : Type 0} where
   read us zero = None
   read us (suc b) = slice_index_or us b None
 
-  abbrev pub consO : (A → ℕ → A) → ℕ → Option A → List A → List A
-  consO climb j None r = r
-  consO climb j (Some l) r = climb l j ∷ r
+  abbrev pub cons_if_some : (A → ℕ → A) → ℕ → Option A → List A → List A
+  cons_if_some climb j None r = r
+  cons_if_some climb j (Some l) r = climb l j ∷ r
 
   unfoldable pub outs : (A → ℕ → A) → List (Option A) → ℕ → Outs → List A
   outs climb us j [] = []
-  outs climb us j (t ∷ ts) = consO climb j (read us t) (outs climb us (suc j) ts)
+  outs climb us j (t ∷ ts) = cons_if_some climb j (read us t) (outs climb us (suc j) ts)
 
   unfoldable pub up : (A → ℕ → A) → (A → A → A) → A → Net → List (Option A)
   unfolding outs gather
@@ -135,13 +135,13 @@ module _ {A : Type 0} where
 abbrev pub Mark : Type 0
 Mark = Unit {0}
 
-unfoldable pub marksNext : List (Option Mark) → Layer → ℕ → List (Option Mark)
+unfoldable pub marks_next : List (Option Mark) → Layer → ℕ → List (Option Mark)
 unfolding next
-marksNext = next {A = Mark} (λ m j. tt) (λ x y. tt)
+marks_next = next {A = Mark} (λ m j. tt) (λ x y. tt)
 
-unfoldable pub marksUp : Net → List (Option Mark)
+unfoldable pub marks_up : Net → List (Option Mark)
 unfolding up
-marksUp = up {A = Mark} (λ m j. tt) (λ x y. tt) tt
+marks_up = up {A = Mark} (λ m j. tt) (λ x y. tt) tt
 
 unfoldable pub flags : List (Option Mark) → List (Option Mark) → List Bool
 flags [] us = []
@@ -165,31 +165,31 @@ unfolding rank
 renumber fs b = cond (slice_index_or fs b false) (suc (rank fs b)) 0
 
 unfoldable pub tidy : List (Option Mark) → Net → Net
-unfolding redirect marksNext marksUp flags compress renumber
+unfolding redirect marks_next marks_up flags compress renumber
 tidy fr [] = []
 tidy fr (L ∷ Ls) =
-    let fr' = marksNext fr L (width Ls) in
-    let fs = flags fr' (marksUp Ls) in
-    compress (flags fr (marksUp (L ∷ Ls))) (redirect (λ a j b. renumber fs b) L) ∷ tidy fr' Ls
+    let fr' = marks_next fr L (width Ls) in
+    let fs = flags fr' (marks_up Ls) in
+    compress (flags fr (marks_up (L ∷ Ls))) (redirect (λ a j b. renumber fs b) L) ∷ tidy fr' Ls
 
 -- the whole diagram: the first node stays, also in an empty diagram
 unfoldable pub tidied : Net → Net
-unfolding redirect marksNext marksUp flags renumber tidy
+unfolding redirect marks_next marks_up flags renumber tidy
 tidied [] = []
 tidied (L ∷ Ls) =
-    let fr = marksNext (Some tt ∷ []) L (width Ls) in
-    let fs = flags fr (marksUp Ls) in
+    let fr = marks_next (Some tt ∷ []) L (width Ls) in
+    let fs = flags fr (marks_up Ls) in
     redirect (λ a j b. renumber fs b) L ∷ tidy fr Ls
 
 -- ---- join
-abbrev pub pickT : ℕ → ℕ → ℕ
-pickT zero t = t
-pickT (suc s) t = suc s
+abbrev pub either_target : ℕ → ℕ → ℕ
+either_target zero t = t
+either_target (suc s) t = suc s
 
-unfoldable pub bothOut : Outs → Outs → Outs
-bothOut [] ts = ts
-bothOut (s ∷ ss) [] = s ∷ ss
-bothOut (s ∷ ss) (t ∷ ts) = pickT s t ∷ bothOut ss ts
+unfoldable pub both_out : Outs → Outs → Outs
+both_out [] ts = ts
+both_out (s ∷ ss) [] = s ∷ ss
+both_out (s ∷ ss) (t ∷ ts) = either_target s t ∷ both_out ss ts
 
 abbrev pub apart_t : ℕ → ℕ → Bool
 apart_t zero t = false
@@ -201,39 +201,39 @@ clash [] ts = false
 clash (s ∷ ss) [] = false
 clash (s ∷ ss) (t ∷ ts) = apart_t s t || clash ss ts
 
-unfoldable pub dropAt : {A : Type 0} → ℕ → List A → List A
-dropAt i [] = []
-dropAt zero (x ∷ xs) = xs
-dropAt (suc i) (x ∷ xs) = x ∷ dropAt i xs
+unfoldable pub without_at : {A : Type 0} → ℕ → List A → List A
+without_at i [] = []
+without_at zero (x ∷ xs) = xs
+without_at (suc i) (x ∷ xs) = x ∷ without_at i xs
 
 unfoldable pub moved : ℕ → ℕ → ℕ → ℕ
 moved lo hi b = cond (b == hi) lo (cond (nat_lt hi b) (b - 1) b)
 
-unfoldable pub joinAt : ℕ → ℕ → ℕ → Net → Net
-unfolding redirect moved bothOut dropAt
-joinAt d lo hi [] = []
-joinAt zero lo hi (L ∷ []) = L ∷ []
-joinAt zero lo hi (L ∷ M ∷ Ls) = redirect (λ a j b. suc (moved lo hi b)) L ∷ dropAt hi (slice_set M lo (bothOut (node M lo) (node M hi))) ∷ Ls
-joinAt (suc d) lo hi (L ∷ Ls) = L ∷ joinAt d lo hi Ls
+unfoldable pub join_at : ℕ → ℕ → ℕ → Net → Net
+unfolding redirect moved both_out without_at
+join_at d lo hi [] = []
+join_at zero lo hi (L ∷ []) = L ∷ []
+join_at zero lo hi (L ∷ M ∷ Ls) = redirect (λ a j b. suc (moved lo hi b)) L ∷ without_at hi (slice_set M lo (both_out (node M lo) (node M hi))) ∷ Ls
+join_at (suc d) lo hi (L ∷ Ls) = L ∷ join_at d lo hi Ls
 
 -- ---- must: some path has the doors of gs, in this order, among its doors
 abbrev pub hit : List ℕ → ℕ → List ℕ
 hit [] j = []
 hit (g ∷ gs) j = cond (g == j) gs (g ∷ gs)
 
-abbrev pub isNil : List ℕ → Bool
-isNil [] = true
-isNil (g ∷ gs) = false
+abbrev pub is_nil : List ℕ → Bool
+is_nil [] = true
+is_nil (g ∷ gs) = false
 
-unfoldable pub anyDoor : (ℕ → ℕ → Bool) → ℕ → Outs → Bool
-anyDoor f j [] = false
-anyDoor f j (zero ∷ ts) = anyDoor f (suc j) ts
-anyDoor f j (suc b ∷ ts) = f j b || anyDoor f (suc j) ts
+unfoldable pub any_door : (ℕ → ℕ → Bool) → ℕ → Outs → Bool
+any_door f j [] = false
+any_door f j (zero ∷ ts) = any_door f (suc j) ts
+any_door f j (suc b ∷ ts) = f j b || any_door f (suc j) ts
 
 unfoldable pub seeks : Net → ℕ → List ℕ → Bool
-unfolding anyDoor
-seeks [] a gs = a == 0 && isNil gs
-seeks (L ∷ Ls) a gs = anyDoor (λ j b. seeks Ls b (hit gs j)) 1 (node L a)
+unfolding any_door
+seeks [] a gs = a == 0 && is_nil gs
+seeks (L ∷ Ls) a gs = any_door (λ j b. seeks Ls b (hit gs j)) 1 (node L a)
 
 -- ---- every node lies on a path: it has an in-arc and an out-arc, and no arc leads out of the next layer
 abbrev pub Ranged : Layer → ℕ → Type 0
@@ -263,7 +263,7 @@ Even n (L ∷ Ls) = ((a : ℕ) → a < length L → length (node L a) ≡ n) × 
 -- the arcs that a diagram of n doors and width W may have: n layers, one first node, at most W nodes to a layer, each on a path
 pub record Lawful (n W : ℕ) (Ls : Net) : Type 0 where
   pub deep : length Ls ≡ n
-  pub one-first : width Ls ≡ 1
+  pub one_first : width Ls ≡ 1
   pub even : Even n Ls
   pub roomy : Roomy W Ls
   pub tied : Tied Ls

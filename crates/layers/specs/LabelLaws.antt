@@ -7,30 +7,30 @@ use Rattle.round.specs.declared.table.Round.{Round}
 use Rattle.rules.specs.Rules.{RuleSense}
 use Rattle.tallies.specs.Tallies.{TallySense}
 use Rattle.layers.specs.declared.node.Node.{Node}
-use Rattle.layers.specs.Flow.{Net, node, target, Path-from}
-use Rattle.layers.specs.Calls.{Call, arcs, layer, openedOn, run}
+use Rattle.layers.specs.Flow.{Net, node, target, PathFrom}
+use Rattle.layers.specs.Calls.{Call, arcs, layer, opened_on, run}
 
 -- w is read along arcs from the node at place a of the first of these layers to place b of the layer that w reaches
-abbrev pub Path-to : Net → ℕ → List ℕ → ℕ → Type 0
-Path-to Ls a [] b = a ≡ b
-Path-to [] a (j ∷ w) b = ⊥
-Path-to (L ∷ Ls) a (j ∷ w) b = (c : ℕ) × (target (node L a) j ≡ suc c) × Path-to Ls c w b
+abbrev pub PathTo : Net → ℕ → List ℕ → ℕ → Type 0
+PathTo Ls a [] b = a ≡ b
+PathTo [] a (j ∷ w) b = ⊥
+PathTo (L ∷ Ls) a (j ∷ w) b = (c : ℕ) × (target (node L a) j ≡ suc c) × PathTo Ls c w b
 
 -- w is read along a path to the node at place a of layer i: from the first node, over i arcs
-abbrev pub Leads-to : Net → ℕ → ℕ → List ℕ → Type 0
-Leads-to D i a w = Path-to D 0 w a × (length w ≡ i)
+abbrev pub LeadsTo : Net → ℕ → ℕ → List ℕ → Type 0
+LeadsTo D i a w = PathTo D 0 w a × (length w ≡ i)
 
 -- w is read along a path from the node at place a of layer i to the end
-abbrev pub Leads-on : Net → ℕ → ℕ → List ℕ → Type 0
-Leads-on D i a w = Path-from (drop i D) a w
+abbrev pub LeadsOn : Net → ℕ → ℕ → List ℕ → Type 0
+LeadsOn D i a w = PathFrom (drop i D) a w
 
 -- there are such paths, and door j is on every one
-abbrev pub On-every : (List ℕ → Type 0) → ℕ → Type 0
-On-every Path j = ((w : List ℕ) × Path w) × ((w : List ℕ) → Path w → In j w)
+abbrev pub OnEvery : (List ℕ → Type 0) → ℕ → Type 0
+OnEvery Path j = ((w : List ℕ) × Path w) × ((w : List ℕ) → Path w → In j w)
 
 -- door j is on at least one such path
-abbrev pub On-one : (List ℕ → Type 0) → ℕ → Type 0
-On-one Path j = (w : List ℕ) × Path w × In j w
+abbrev pub OnOne : (List ℕ → Type 0) → ℕ → Type 0
+OnOne Path j = (w : List ℕ) × Path w × In j w
 
 -- door j is in the set m exactly if P is so of j
 abbrev pub Exactly : ℕ → (ℕ → Type 0) → Type 0
@@ -39,22 +39,22 @@ Exactly m P = (j : ℕ) → (Has m j → P j) × (P j → Has m j)
 -- the record x of the node at place a of layer i, in a diagram with the arcs D; Allows k says which values are allowed after k doors
 pub record Labelled {S V : Type 0} (Allows : ℕ → V → Type 0) (D : Net) (i a : ℕ) (x : Node S V) : Type 0 where
   -- a path leads to the node, and one on from it to the end, unless it is the first node: in an empty diagram only that stands
-  pub reached : (w : List ℕ) × Leads-to D i a w
-  pub leads : 1 ≤ i → (w : List ℕ) × Leads-on D i a w
+  pub reached : (w : List ℕ) × LeadsTo D i a w
+  pub leads : 1 ≤ i → (w : List ℕ) × LeadsOn D i a w
   -- the doors on every path to the node, and on at least one
-  pub all : Exactly x.label.down.all (On-every (Leads-to D i a))
-  pub some : Exactly x.label.down.some (On-one (Leads-to D i a))
+  pub all : Exactly x.label.down.all (OnEvery (LeadsTo D i a))
+  pub some : Exactly x.label.down.some (OnOne (LeadsTo D i a))
   -- the doors on every path from it to the end, and on at least one
-  pub allup : Exactly x.label.up.allup (On-every (Leads-on D i a))
-  pub someup : Exactly x.label.up.someup (On-one (Leads-on D i a))
+  pub allup : Exactly x.label.up.allup (OnEvery (LeadsOn D i a))
+  pub someup : Exactly x.label.up.someup (OnOne (LeadsOn D i a))
   -- the finish is at most 9999 + i * 1998, and the value is allowed after i doors
   pub finish : x.label.down.finish ≤ latest i
   pub value : Allows i x.label.down.value
 
 -- for one rule and one tally: every round that both serve, every width from 1 to 128, every lent list, every list of calls after opening,
 -- every node that then stands, whose record is at its place of its layer; the end is the only node of layer n
-abbrev pub Labels-mean : {S V : Type 0} → (ℕ → Type 0) → RuleSense S → (ℕ → Type 0) → TallySense V → (ℕ → V → Type 0) → Type 0
-Labels-mean {S} {V} Rule-serves rule Tally-serves tally Allows =
-    (r : Round) → Rule-serves r.n → Tally-serves r.n → (W : ℕ) → 1 ≤ W → W ≤ 128 → (lent : List (Node S V)) (cs : List (Call V))
-    → let xs = run r rule tally W cs (openedOn r rule tally W lent) in
+abbrev pub LabelsMean : {S V : Type 0} → (ℕ → Type 0) → RuleSense S → (ℕ → Type 0) → TallySense V → (ℕ → V → Type 0) → Type 0
+LabelsMean {S} {V} RuleServes rule TallyServes tally Allows =
+    (r : Round) → RuleServes r.n → TallyServes r.n → (W : ℕ) → 1 ≤ W → W ≤ 128 → (lent : List (Node S V)) (cs : List (Call V))
+    → let xs = run r rule tally W cs (opened_on r rule tally W lent) in
     (i a : ℕ) (other : Node S V) → i ≤ r.n → a < length (layer r.n W i xs) → Labelled Allows (arcs r.n W xs) i a (slice_index_or (layer r.n W i xs) a other)

@@ -19,38 +19,38 @@ abbrev pub climb : Up → ℕ → Up
 climb u j = record { allup = bit_or u.allup (one j); someup = bit_or u.someup (one j) }
 
 -- what two arcs have together
-abbrev pub mergeUp : Up → Up → Up
-mergeUp u v = record { allup = bit_and u.allup v.allup; someup = bit_or u.someup v.someup }
+abbrev pub merge_up : Up → Up → Up
+merge_up u v = record { allup = bit_and u.allup v.allup; someup = bit_or u.someup v.someup }
 
 -- on the end
-abbrev pub noUp : Up
-noUp = record { allup = 0; someup = 0 }
+abbrev pub no_up : Up
+no_up = record { allup = 0; someup = 0 }
 
 -- the upward sets of the nodes of the first of these layers; None for a node from which no path leads to the end
 unfoldable pub ups : Net → List (Option Up)
 unfolding up
-ups = up climb mergeUp noUp
+ups = up climb merge_up no_up
 
 -- ---- legs: the least drive to j from a member of the set m other than j, or 0 if there is none
 abbrev pub nearest : Option ℕ → ℕ → Option ℕ
 nearest None d = Some d
 nearest (Some e) d = Some (min e d)
 
-abbrev pub nearestIf : Bool → Option ℕ → ℕ → Option ℕ
-nearestIf true o d = nearest o d
-nearestIf false o d = o
+abbrev pub nearest_if : Bool → Option ℕ → ℕ → Option ℕ
+nearest_if true o d = nearest o d
+nearest_if false o d = o
 
 -- one more place i that the van may come from
-unfoldable pub legStep : Round → ℕ → ℕ → Option ℕ → ℕ → Option ℕ
-legStep r m j o i = nearestIf (has m i && not (i == j)) o (drive r i j)
+unfoldable pub leg_step : Round → ℕ → ℕ → Option ℕ → ℕ → Option ℕ
+leg_step r m j o i = nearest_if (has m i && not (i == j)) o (drive r i j)
 
 abbrev pub or_zero : Option ℕ → ℕ
 or_zero None = 0
 or_zero (Some d) = d
 
 unfoldable pub leg : Round → ℕ → ℕ → ℕ
-unfolding legStep
-leg r m j = or_zero (fold (legStep r m j) None (range_with_len 0 (r.n + 1)))
+unfolding leg_step
+leg r m j = or_zero (fold (leg_step r m j) None (range_with_len 0 (r.n + 1)))
 
 -- ---- downward
 module _ {S V : Type 0} (r : Round) (rule : RuleSense S) (tally : TallySense V) where
@@ -91,16 +91,16 @@ module _ {S V : Type 0} (r : Round) (rule : RuleSense S) (tally : TallySense V) 
   firsts = Some first ∷ []
 
   -- the labels of the next layer, of which there are so many nodes; None for a node to which no path leads
-  unfoldable pub labelsNext : List (Option Lab) → Layer → ℕ → List (Option Lab)
+  unfoldable pub labels_next : List (Option Lab) → Layer → ℕ → List (Option Lab)
   unfolding next arrive merge
-  labelsNext = next arrive merge
+  labels_next = next arrive merge
 
   -- ---- open: each layer has one node, and each node an arc for every door
-  abbrev pub allDoors : Outs
-  allDoors = table r.n (λ k. 1)
+  abbrev pub all_doors : Outs
+  all_doors = table r.n (λ k. 1)
 
   unfoldable pub opened : Net
-  opened = table r.n (λ i. allDoors ∷ [])
+  opened = table r.n (λ i. all_doors ∷ [])
 
   -- ---- sweep: the arc by j from layer i, with h layers of arcs from there to the end, goes if
   --   S1 j is in all of the source, or S2 some with j has fewer than i + 1 doors, or S3 the arrival's finish is above j's closes,
@@ -119,26 +119,26 @@ module _ {S V : Type 0} (r : Round) (rule : RuleSense S) (tally : TallySense V) 
   -- ---- cut: the arrival's value is above the ceiling c
   abbrev pub dear : V → ℕ → Option Lab → Bool
   dear c j None = true
-  dear c j (Some l) = not (tally.notAbove (arrive l j).value c)
+  dear c j (Some l) = not (tally.not_above (arrive l j).value c)
 
   -- ---- part: which in-arcs stay
   -- two arrivals agree in all, some, finish, lasts and state
   unfoldable pub agree : Lab → Lab → Bool
   agree x y = x.all == y.all && (x.some == y.some && (x.finish == y.finish && (x.lasts == y.lasts && rule.same x.state y.state)))
 
-  unfoldable pub agreeAll : Lab → List Lab → Bool
+  unfoldable pub agree_all : Lab → List Lab → Bool
   unfolding agree
-  agreeAll x [] = true
-  agreeAll x (y ∷ ys) = agree x y && agreeAll x ys
+  agree_all x [] = true
+  agree_all x (y ∷ ys) = agree x y && agree_all x ys
 
   unfoldable pub agreeing : List Lab → Bool
-  unfolding agreeAll
+  unfolding agree_all
   agreeing [] = true
-  agreeing (x ∷ xs) = agreeAll x xs
+  agreeing (x ∷ xs) = agree_all x xs
 
-  abbrev pub headO : List Lab → Option Lab
-  headO [] = None
-  headO (x ∷ xs) = Some x
+  abbrev pub first_arrival : List Lab → Option Lab
+  first_arrival [] = None
+  first_arrival (x ∷ xs) = Some x
 
   abbrev pub leaves : Option Lab → Option Lab → ℕ → Bool
   leaves None o j = false

@@ -3,18 +3,18 @@ use Rattle.std.specs.Prelude.{◌≡◌, ℕ, ◌+◌, ◌-◌, ◌*◌, ◌≤�
 use Rattle.round.specs.Clock.{latest}
 use Rattle.layers.specs.declared.node.Arcs.{Arcs}
 use Rattle.layers.specs.declared.node.Node.{Node}
-use Rattle.layers.specs.Flow.{width, countLayer, tidied}
-use Rattle.layers.specs.Records.{arcsRead, laidArcs}
+use Rattle.layers.specs.Flow.{width, count_layer, tidied}
+use Rattle.layers.specs.Records.{arcs_read, laid_arcs}
 use Rattle.layers.specs.Calls.{arcs, layer}
 
 -- the targets by door, place by place
-abbrev pub targetsOf : List Arcs → List (List ℕ)
-targetsOf = map (λ a. a.to)
+abbrev pub targets_of : List Arcs → List (List ℕ)
+targets_of = map (λ a. a.to)
 
 module _ {S V : Type 0} (n W : ℕ) (xs : List (Node S V)) where
   -- no place has arcs but those that are read, by the doors of the round
   abbrev pub Written : Type 0
-  Written = targetsOf (arcsRead (take (n * W + 1) xs)) ≡ targetsOf (laidArcs W (arcs n W xs))
+  Written = targets_of (arcs_read (take (n * W + 1) xs)) ≡ targets_of (laid_arcs W (arcs n W xs))
 
   -- tidying would alter nothing: each node lies on a path from the first to the end, and no arc leads elsewhere
   abbrev pub Tidy : Type 0
@@ -26,7 +26,7 @@ module _ {S V : Type 0} (n W : ℕ) (xs : List (Node S V)) where
 
   -- if an arc leads to the end, the end's place is in use
   abbrev pub Ended : Type 0
-  Ended = min 1 (countLayer (slice_index_or (arcs n W xs) (n - 1) [])) ≤ length (layer n W n xs)
+  Ended = min 1 (count_layer (slice_index_or (arcs n W xs) (n - 1) [])) ≤ length (layer n W n xs)
 
   -- all four: the records are those of a diagram, whatever rule and tally wrote their labels
   pub record Shaped : Type 0 where

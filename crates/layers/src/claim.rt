@@ -1,6 +1,6 @@
 // What is claimed of every diagram, as contracts for any rule and any tally.
-ghost use Rattle.layers.specs.Claim.{Kept, Worked-out, Settled-means, Whole-settles};
-ghost use Rattle.layers.specs.LabelLaws.{Labels-mean};
+ghost use Rattle.layers.specs.Claim.{Kept, WorkedOut, SettledMeans, WholeSettlesAlways};
+ghost use Rattle.layers.specs.LabelLaws.{LabelsMean};
 
 use rules::rule::Rule;
 use tallies::tally::Tally;
@@ -13,21 +13,21 @@ pub fn nothing_lost<R: Rule, T: Tally>(rule: &R, tally: &T)
 
 // In a run with one rule and one tally the labels that stand are those worked out from the arcs, and no later place is altered.
 pub fn labels_stand<R: Rule, T: Tally>(rule: &R, tally: &T)
-    ensures { Worked-out (R.Rule.serves rule.now) (R.Rule.sense rule.now) (T.Tally.sense tally.now) }
+    ensures { WorkedOut (R.Rule.serves rule.now) (R.Rule.sense rule.now) (T.Tally.sense tally.now) }
 {}
 
 // In such a run the diagram is settled exactly when the in-arcs of each node agree and a sweep would take out nothing.
 pub fn settled_means<R: Rule, T: Tally>(rule: &R, tally: &T)
-    ensures { Settled-means (R.Rule.serves rule.now) (R.Rule.sense rule.now) (T.Tally.sense tally.now) }
+    ensures { SettledMeans (R.Rule.serves rule.now) (R.Rule.sense rule.now) (T.Tally.sense tally.now) }
 {}
 
 // In such a run the sets of each node that stands are the doors on every path to it and on at least one, and likewise on from it
 // to the end; its finish is within the clock's bound for its layer, and its value is one that the tally allows there.
 pub fn labels_mean<R: Rule, T: Tally>(rule: &R, tally: &T)
-    ensures { Labels-mean (R.Rule.serves rule.now) (R.Rule.sense rule.now) (T.Tally.serves tally.now) (T.Tally.sense tally.now) (T.Tally.allows tally.now) }
+    ensures { LabelsMean (R.Rule.serves rule.now) (R.Rule.sense rule.now) (T.Tally.serves tally.now) (T.Tally.sense tally.now) (T.Tally.allows tally.now) }
 {}
 
 // In such a run refine that answers whole leaves the diagram settled.
 pub fn whole_settles<R: Rule, T: Tally>(rule: &R, tally: &T)
-    ensures { Whole-settles (R.Rule.serves rule.now) (R.Rule.sense rule.now) (T.Tally.sense tally.now) }
+    ensures { WholeSettlesAlways (R.Rule.serves rule.now) (R.Rule.sense rule.now) (T.Tally.sense tally.now) }
 {}

@@ -2,7 +2,7 @@
 #![tactic(auto)]
 
 ghost use Rattle.std.specs.Prelude.{true, false, ◌≡◌, ◌+◌, ◌*◌, ◌≤◌, length};
-ghost use Rattle.layers.specs.Calls.{openedOn};
+ghost use Rattle.layers.specs.Calls.{opened_on};
 
 use diagram::diagram::Diagram;
 use diagram::room::Room;
@@ -18,7 +18,7 @@ fn opened<R: Rule, T: Tally>(
     records: &mut [Node<R::State, T::Value>],
 )
     requires { room.round.now.n * room.width + 1 ≤ length records.old }
-    ensures { records.new ≡ openedOn room.entry.round.now (R.Rule.sense rule.now) (T.Tally.sense tally.now) room.entry.width records.old }
+    ensures { records.new ≡ opened_on room.entry.round.now (R.Rule.sense rule.now) (T.Tally.sense tally.now) room.entry.width records.old }
 {
     let _diagram = Diagram::open(room, rule, tally, records);
 }
@@ -32,7 +32,7 @@ pub fn opened_or_left<R: Rule, T: Tally>(
     records: &mut [Node<R::State, T::Value>],
 ) -> bool
     ensures left { result ≡ false → records.new ≡ records.old }
-    ensures opened { result ≡ true → records.new ≡ openedOn round.now (R.Rule.sense rule.now) (T.Tally.sense tally.now) width records.old }
+    ensures opened { result ≡ true → records.new ≡ opened_on round.now (R.Rule.sense rule.now) (T.Tally.sense tally.now) width records.old }
 {
     match Room::check(round, width, records.len()) {
         Ok(room) => {

@@ -17,8 +17,8 @@ rides r T t j =
     let a = goes r t.van j in
     record { van = a; cost = T.step t.cost j (drive r t.van.last j) a.finish }
 
-abbrev pub tripAfter : {V : Type 0} → Round → TallySense V → List ℕ → Trip V
-tripAfter r T w = fold (rides r T) (record { van = yard; cost = T.start }) w
+abbrev pub trip_after : {V : Type 0} → Round → TallySense V → List ℕ → Trip V
+trip_after r T w = fold (rides r T) (record { van = yard; cost = T.start }) w
 
 abbrev pub cost : {V : Type 0} → Round → TallySense V → List ℕ → V
-cost r T w = (tripAfter r T w).cost
+cost r T w = (trip_after r T w).cost

@@ -15,17 +15,17 @@ abbrev pub goes : Round → Van → ℕ → Van
 goes r a j = record { last = j; finish = finish r a.finish (drive r a.last j) j }
 
 -- the van after the doors of w
-abbrev pub vanAfter : Round → List ℕ → Van
-vanAfter r w = fold (goes r) yard w
+abbrev pub van_after : Round → List ℕ → Van
+van_after r w = fold (goes r) yard w
 
 -- the minute at which the last door of w finishes
-abbrev pub finishOf : Round → List ℕ → ℕ
-finishOf r w = (vanAfter r w).finish
+abbrev pub finish_of : Round → List ℕ → ℕ
+finish_of r w = (van_after r w).finish
 
 -- the minutes at which the doors of w finish
 abbrev pub finishes : Round → List ℕ → List ℕ
-finishes r w = map (λ k. finishOf r (take (k + 1) w)) (range_with_len 0 (length w))
+finishes r w = map (λ k. finish_of r (take (k + 1) w)) (range_with_len 0 (length w))
 
 -- no door of w finishes after it closes
 abbrev pub Timely : Round → List ℕ → Type 0
-Timely r w = AtEach (λ u j. finishOf r (u ++ j ∷ []) ≤ (door r j).closes) w
+Timely r w = AtEach (λ u j. finish_of r (u ++ j ∷ []) ≤ (door r j).closes) w

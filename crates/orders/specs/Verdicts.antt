@@ -7,17 +7,17 @@ use Rattle.orders.specs.declared.van.Van.{Van}
 use Rattle.orders.specs.declared.verdict.Verdict as verdicts
 use Rattle.orders.specs.declared.verdict.Verdict.TheVariants as is
 use Rattle.orders.specs.Allowed.{Allowed}
-use Rattle.orders.specs.Times.{yard, goes, finishOf, Timely}
+use Rattle.orders.specs.Times.{yard, goes, finish_of, Timely}
 
 -- going on through w from the van a with the rule's state s: a door's closing is looked at ahead of the rule
-abbrev pub verdictFrom : {S : Type 0} → Round → RuleSense S → Van → S → List ℕ → verdicts.Verdict
-verdictFrom r R a s [] = is.Allowed
-verdictFrom r R a s (j ∷ w) =
+abbrev pub verdict_from : {S : Type 0} → Round → RuleSense S → Van → S → List ℕ → verdicts.Verdict
+verdict_from r R a s [] = is.Allowed
+verdict_from r R a s (j ∷ w) =
     cond (nat_lt (door r j).closes (goes r a j).finish) (is.Closes j)
-    (cond (R.bars s j) (is.Breaks j) (verdictFrom r R (goes r a j) (R.step s j) w))
+    (cond (R.bars s j) (is.Breaks j) (verdict_from r R (goes r a j) (R.step s j) w))
 
 abbrev pub verdict : {S : Type 0} → Round → RuleSense S → List ℕ → verdicts.Verdict
-verdict r R w = cond (length w == r.n) (verdictFrom r R yard R.start w) is.Incomplete
+verdict r R w = cond (length w == r.n) (verdict_from r R yard R.start w) is.Incomplete
 
 -- the first fault of w is at door j: the doors u ahead of it are all in order
 pub record Fault (r : Round) (Keeps : List ℕ → Type 0) (w : List ℕ) (j : ℕ) (Wrong : List ℕ → Type 0) : Type 0 where
@@ -32,5 +32,5 @@ pub record Fault (r : Round) (Keeps : List ℕ → Type 0) (w : List ℕ) (j : �
 abbrev pub Judged : Round → (List ℕ → Type 0) → List ℕ → verdicts.Verdict → Type 0
 Judged r Keeps w is.Allowed = Allowed r Keeps w
 Judged r Keeps w is.Incomplete = length w ≡ r.n → ⊥
-Judged r Keeps w (is.Closes j) = Fault r Keeps w j (λ u. (door r j).closes < finishOf r (u ++ j ∷ []))
-Judged r Keeps w (is.Breaks j) = Fault r Keeps w j (λ u. (finishOf r (u ++ j ∷ []) ≤ (door r j).closes) × (Keeps (u ++ j ∷ []) → ⊥))
+Judged r Keeps w (is.Closes j) = Fault r Keeps w j (λ u. (door r j).closes < finish_of r (u ++ j ∷ []))
+Judged r Keeps w (is.Breaks j) = Fault r Keeps w j (λ u. (finish_of r (u ++ j ∷ []) ≤ (door r j).closes) × (Keeps (u ++ j ∷ []) → ⊥))

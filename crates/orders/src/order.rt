@@ -1,6 +1,6 @@
 // A part order of a round's doors.
 ghost use Rattle.std.specs.Prelude.{◌≡◌, true};
-ghost use Rattle.doors.specs.Orders.{isPartOrder};
+ghost use Rattle.doors.specs.Orders.{is_part_order};
 
 use round::table::Round;
 
@@ -11,5 +11,5 @@ pub mod making;
 pub struct Order<'a> {
     pub round: &'a Round,
     pub doors: &'a [usize],
-    ghost part: { isPartOrder round.now.n doors.now ≡ true },
+    ghost part: { is_part_order round.now.n doors.now ≡ true },
 }

@@ -2,5 +2,5 @@
 use Rattle.std.specs.Prelude.{ℕ, min, max, leb}
 use Rattle.tallies.specs.Tallies.{TallySense}
 
-abbrev pub latestSense : TallySense ℕ
-latestSense = record { start = 0; step = λ v j leg finish. max v finish; notAbove = leb; lesser = min }
+abbrev pub latest_sense : TallySense ℕ
+latest_sense = record { start = 0; step = λ v j leg finish. max v finish; not_above = leb; lesser = min }

@@ -1,6 +1,6 @@
 -- An order that begins with one door, as a side rule.
 use Rattle.std.specs.Prelude.{◌≡◌, ℕ, Bool, true, false, not, ◌&&◌, ◌||◌, List, [], ◌∷◌, ◌==◌}
-use Rattle.doors.specs.Orders.{isDoor}
+use Rattle.doors.specs.Orders.{is_door}
 use Rattle.rules.specs.Rules.{RuleSense}
 
 -- w is empty, or its first door is d
@@ -8,9 +8,9 @@ abbrev pub Begins : ℕ → List ℕ → Type 0
 Begins d [] = Unit {0}
 Begins d (x ∷ w) = x ≡ d
 
-abbrev pub sameBool : Bool → Bool → Bool
-sameBool true t = t
-sameBool false t = not t
+abbrev pub same_bool : Bool → Bool → Bool
+same_bool true t = t
+same_bool false t = not t
 
-abbrev pub openerSense : ℕ → ℕ → RuleSense Bool
-openerSense n d = record { start = false; step = λ s j. s || isDoor n j; cover = ◌||◌; bars = λ s j. not s && (isDoor n j && not (j == d)); same = sameBool }
+abbrev pub opener_sense : ℕ → ℕ → RuleSense Bool
+opener_sense n d = record { start = false; step = λ s j. s || is_door n j; cover = ◌||◌; bars = λ s j. not s && (is_door n j && not (j == d)); same = same_bool }

@@ -2,21 +2,21 @@
 use Rattle.std.specs.Prelude.{◌≡◌, ℕ, Bool, true, false, not, ◌&&◌, ◌||◌, List, [], ◌∷◌, ◌++◌, fold, ◌==◌, refl}
 use Rattle.std.proofs.Common.{sym, ap, subst, ◌∙◌, ⊎_elim, arith}
 use Rattle.std.proofs.lemmas.Bool.{and_parts, and_from, or_parts, or_right, not-true, not-false, not_from_false, both_ways, cases_Bool, eqb-true, eq-eqb}
-use Rattle.doors.specs.Orders.{isDoor}
+use Rattle.doors.specs.Orders.{is_door}
 use Rattle.doors.proofs.Orders.{door-is, not-door}
 use Rattle.rules.specs.Rules.{RuleLaws}
-use Rattle.outside.specs.Opener.{Begins, sameBool, openerSense}
+use Rattle.outside.specs.Opener.{Begins, same_bool, opener_sense}
 
 or-true : (s : Bool) → (s || s) ≡ s
 or-true true = refl
 or-true false = refl
 
-same-is : (s t : Bool) → sameBool s t ≡ true → s ≡ t
-same-is true t e = sym e
-same-is false true e = e
-same-is false false e = refl
+same_is : (s t : Bool) → same_bool s t ≡ true → s ≡ t
+same_is true t e = sym e
+same_is false true e = e
+same_is false false e = refl
 
-same_self : (s : Bool) → sameBool s s ≡ true
+same_self : (s : Bool) → same_bool s s ≡ true
 same_self true = refl
 same_self false = refl
 
@@ -32,32 +32,32 @@ module _ (n d : ℕ) where
   abbrev Stands : Bool → List ℕ → Type 0
   Stands s w = s ≡ false → w ≡ []
 
-  bars-one : (s : Bool) (w : List ℕ) (j : ℕ) → Stands s w → (not s && (isDoor n j && not (j == d))) ≡ true → Begins d (w ++ j ∷ []) → ⊥
+  bars-one : (s : Bool) (w : List ℕ) (j : ℕ) → Stands s w → (not s && (is_door n j && not (j == d))) ≡ true → Begins d (w ++ j ∷ []) → ⊥
   bars-one s w j h b k =
       let p = and_parts (not s) _ b in
-      let q = and_parts (isDoor n j) _ p.1 in
+      let q = and_parts (is_door n j) _ p.1 in
       let first : Begins d (j ∷ []) = subst (λ (v : List ℕ). Begins d (v ++ j ∷ [])) (h (not-true s p.0)) k in
       both_ways (j == d) (not-true _ q.1) (eq-eqb j d first)
 
-  clear-one : (w : List ℕ) (j : ℕ) → isDoor n j ≡ true → Begins d w → (not (fold (λ s i. s || isDoor n i) false w) && (isDoor n j && not (j == d))) ≡ false → Begins d (w ++ j ∷ [])
+  clear-one : (w : List ℕ) (j : ℕ) → is_door n j ≡ true → Begins d w → (not (fold (λ s i. s || is_door n i) false w) && (is_door n j && not (j == d))) ≡ false → Begins d (w ++ j ∷ [])
   clear-one [] j door k b = ⊎_elim (eqb-true j d) (λ e. absurd (both_ways _ b (and_from _ _ refl (and_from _ _ door (not_from_false _ e))))) (cases_Bool (j == d))
   clear-one (x ∷ w) j door k b = k
 
-  pub opener-lawful : RuleLaws n (openerSense n d) (Begins d) Stands
-  opener-lawful = record {
-    keeps-none = tt;
-    keeps-front = λ w v p h. begins-front d w v h;
-    start-stands = λ e. refl;
-    step-stands = λ s w j x h e. absurd (both_ways _ e (or_right s _ (door-is n j x.door)));
-    cover-left = λ s t w p h e. h (or_parts s t e).0;
-    cover-right = λ s t w p h e. h (or_parts s t e).1;
-    cover-same = or-true;
-    bars-breaks = λ s w j x h b k. bars-one s w j h b k;
-    clear-keeps = λ w j x k b. clear-one w j (door-is n j x.door) k b;
-    same-is = same-is;
+  pub opener_lawful : RuleLaws n (opener_sense n d) (Begins d) Stands
+  opener_lawful = record {
+    keeps_none = tt;
+    keeps_front = λ w v p h. begins-front d w v h;
+    start_stands = λ e. refl;
+    step_stands = λ s w j x h e. absurd (both_ways _ e (or_right s _ (door-is n j x.door)));
+    cover_left = λ s t w p h e. h (or_parts s t e).0;
+    cover_right = λ s t w p h e. h (or_parts s t e).1;
+    cover_same = or-true;
+    bars_breaks = λ s w j x h b k. bars-one s w j h b k;
+    clear_keeps = λ w j x k b. clear-one w j (door-is n j x.door) k b;
+    same_is = same_is;
     same_self = same_self;
-    outside-step = λ s j h. ap (λ (b : Bool). s || b) (not-door n j h) ∙ no_end s;
-    outside-bars = λ s j h. ap (λ (b : Bool). not s && (b && not (j == d))) (not-door n j h) ∙ no_both (not s);
+    outside_step = λ s j h. ap (λ (b : Bool). s || b) (not-door n j h) ∙ no_end s;
+    outside_bars = λ s j h. ap (λ (b : Bool). not s && (b && not (j == d))) (not-door n j h) ∙ no_both (not s);
   }
     where
       no_both : (t : Bool) → (t && false) ≡ false

@@ -1,7 +1,7 @@
 // A tally: the latest finish so far.
 ghost use Rattle.std.specs.Prelude.{◌≤◌};
 ghost use Rattle.round.specs.Clock.{latest};
-ghost use Rattle.outside.specs.Latest.{latestSense};
+ghost use Rattle.outside.specs.Latest.{latest_sense};
 ghost use Rattle.std.proofs.Common.{rules};
 
 use tallies::tally::Tally;
@@ -14,7 +14,7 @@ impl Tally for LatestFinish {
 
     ghost serves = { λ t n. Unit {0} };
 
-    ghost sense = { λ t. latestSense };
+    ghost sense = { λ t. latest_sense };
 
     ghost allows = { λ t k v. v ≤ latest 16 };
 

@@ -1,9 +1,9 @@
 // A side rule: the order begins with one door. A state is whether the van may have begun.
 ghost use Rattle.std.specs.Prelude.{◌≡◌, ℕ, false, []};
 ghost use Rattle.std.proofs.Common.{subst};
-ghost use Rattle.outside.specs.Opener.{Begins, openerSense};
+ghost use Rattle.outside.specs.Opener.{Begins, opener_sense};
 ghost use Rattle.rules.specs.Rules.{RuleLaws};
-ghost use Rattle.outside.specs.OpenerLaws.{opener-lawful};
+ghost use Rattle.outside.specs.OpenerLaws.{opener_lawful};
 
 use rules::rule::Rule;
 
@@ -18,15 +18,15 @@ impl Rule for Opener {
 
     ghost serves = { λ r n. r.n ≡ n };
 
-    ghost sense = { λ r. openerSense r.n r.door };
+    ghost sense = { λ r. opener_sense r.n r.door };
 
     ghost keeps = { λ r w. Begins r.door w };
 
     ghost stands = { λ r s w. (s ≡ false → w ≡ []) };
 
-    ghost lawful = { λ r n e. subst (λ (m : ℕ). RuleLaws m (openerSense r.n r.door) (Begins r.door) (λ s w. s ≡ false → w ≡ [])) e (opener-lawful r.n r.door) };
+    ghost lawful = { λ r n e. subst (λ (m : ℕ). RuleLaws m (opener_sense r.n r.door) (Begins r.door) (λ s w. s ≡ false → w ≡ [])) e (opener_lawful r.n r.door) };
 
-    ghost reflexive = { λ r s. (opener-lawful r.n r.door).same_self s };
+    ghost reflexive = { λ r s. (opener_lawful r.n r.door).same_self s };
 
     fn start(&self) -> bool {
         false

@@ -28,7 +28,7 @@ fn the_example_is_read(rt: HostRuntime) {
     let mut round = Round::fresh();
     let text = b"round\t1\t4\t5\ndoor\t1\t2\t90\t80\t7\t-1\ndrive\t0\t33\ndrive\t1\t-\n";
     assert!(rt; read_bounded(&mut round, text).is_ok());
-    assert_eq!(rt; (round.n, round.load, round.limit), (1, 4, 5));
+    assert_eq!(rt; (round.n, round.load, round.cap), (1, 4, 5));
     let door = round.door(1);
     assert_eq!(rt;
         (door.opens, door.closes, door.due, door.work),
@@ -42,7 +42,7 @@ fn the_example_is_read(rt: HostRuntime) {
 fn a_refusal_leaves_the_round(rt: HostRuntime) {
     let mut round = Round::fresh();
     assert!(rt; read_bounded(&mut round, b"round\t2\t7\t8\nx").is_err());
-    assert_eq!(rt; (round.n, round.load, round.limit), (1, 0, 0));
+    assert_eq!(rt; (round.n, round.load, round.cap), (1, 0, 0));
 }
 
 #[test]

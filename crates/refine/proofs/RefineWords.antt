@@ -6,10 +6,10 @@ use Rattle.round.specs.declared.table.Round.{Round}
 use Rattle.rules.specs.Rules.{RuleSense}
 use Rattle.tallies.specs.Tallies.{TallySense}
 use Rattle.layers.specs.declared.node.Node.{Node}
-use Rattle.layers.specs.Flow.{Net, countArcs, tidied}
+use Rattle.layers.specs.Flow.{Net, count_arcs, tidied}
 use Rattle.layers.specs.Labels.{firsts}
 use Rattle.layers.specs.Records.{laid}
-use Rattle.layers.specs.Calls.{nodes, arcs, thinned, relaid, fewer, swept, sweepAnswer, splits, splitsAll, sweptOut, refined}
+use Rattle.layers.specs.Calls.{nodes, arcs, thinned, relaid, fewer, swept, sweep_answer, splits, splits_all, swept_out, refined}
 use Rattle.layers.specs.Shape.{Shaped, Timely}
 use Rattle.layers.proofs.Bridge.{laid-long, later-stays}
 use Rattle.layers.proofs.Model.{parted}
@@ -20,11 +20,11 @@ use Rattle.layers.proofs.Timely.{relaid-timely}
 use Rattle.labels.specs.Passes.{fits, relabelled}
 use Rattle.labels.proofs.Laying.{relabelled-lawful}
 use Rattle.labels.proofs.Rooms.{room-facts}
-use Rattle.filter.specs.Steps.{arcCount, sweepSteps}
+use Rattle.filter.specs.Steps.{arc_count, sweep_steps}
 use Rattle.filter.proofs.FilterWords.{proper, sweep-words, swept-shaped, swept-timely, shaped-count, fewer-words}
-use Rattle.split.specs.Steps.{layerSteps}
+use Rattle.split.specs.Steps.{layer_steps}
 use Rattle.split.proofs.LayerWords.{Done, layer-net}
-use Rattle.refine.specs.Steps.{oneLayer, someLayers, sweepsOut, refineSteps}
+use Rattle.refine.specs.Steps.{one_layer, some_layers, sweeps_out, refine_steps}
 
 module _ {S V : Type 0} (r : Round) (R : RuleSense S) (self : (s : S) → R.same s s ≡ true) (T : TallySense V) (W : ℕ) where
   abbrev Recs : Type 0
@@ -51,25 +51,25 @@ module _ {S V : Type 0} (r : Round) (R : RuleSense S) (self : (s : S) → R.same
   after-proper i xs fit s lo = proper-parted r R self T W (room-facts n W (length xs) fit).low W i 0 (left xs) lo (left-proper xs fit s)
 
   -- the parts of a layer on arcs alone
-  parts : (i : ℕ) (xs : Recs) → fits n W (length xs) ≡ true → Shaped n W xs → 1 ≤ i → i < n → Done n W (swept r R T W xs) (after i xs) (layerSteps r R T W i (swept r R T W xs))
+  parts : (i : ℕ) (xs : Recs) → fits n W (length xs) ≡ true → Shaped n W xs → 1 ≤ i → i < n → Done n W (swept r R T W xs) (after i xs) (layer_steps r R T W i (swept r R T W xs))
   unfolding swept relaid
   parts i xs fit s lo hi =
       let f = room-facts n W (length xs) fit in
       let ys = swept r R T W xs in
-      let p = layerSteps r R T W i ys in
+      let p = layer_steps r R T W i ys in
       layer-net r R self T W i (later xs) (left xs) ys p.1 p.0 f.low f.high lo hi (left-proper xs fit s) refl refl
 
-  layer-is : (i : ℕ) (xs : Recs) → fits n W (length xs) ≡ true → Shaped n W xs → 1 ≤ i → i < n → oneLayer r R T W i xs ≡ ((after i xs).0, relaid r R T W xs (after i xs).1)
-  unfolding oneLayer swept relaid
+  layer-is : (i : ℕ) (xs : Recs) → fits n W (length xs) ≡ true → Shaped n W xs → 1 ≤ i → i < n → one_layer r R T W i xs ≡ ((after i xs).0, relaid r R T W xs (after i xs).1)
+  unfolding one_layer swept relaid
   layer-is i xs fit s lo hi =
       let q = parts i xs fit s lo hi in
-      let zs = (layerSteps r R T W i (swept r R T W xs)).1 in
-      ap (λ (ys : Recs). ((layerSteps r R T W i ys).0, relabelled r R T W (layerSteps r R T W i ys).1)) (sweep-words r R T W xs fit s)
+      let zs = (layer_steps r R T W i (swept r R T W xs)).1 in
+      ap (λ (ys : Recs). ((layer_steps r R T W i ys).0, relabelled r R T W (layer_steps r R T W i ys).1)) (sweep-words r R T W xs fit s)
       ∙ ap₂ (λ (b : Bool) (ys : Recs). (b, ys)) q.answer
       (relabelled-lawful r R T W (after i xs).1 zs (lawful n W (after i xs).1 (after-proper i xs fit s lo)) q.arranged
       ∙ ap (λ (ys : Recs). laid r R T W (after i xs).1 ++ ys) (q.tail ∙ later-stays r R T W (room-facts n W (length xs) fit).low (later xs) (left xs) (left-proper xs fit s).deep))
 
-  layer-words : (i : ℕ) (xs : Recs) → fits n W (length xs) ≡ true → Shaped n W xs → 1 ≤ i → i < n → oneLayer r R T W i xs ≡ splits r R T W W i 1 (swept r R T W xs)
+  layer-words : (i : ℕ) (xs : Recs) → fits n W (length xs) ≡ true → Shaped n W xs → 1 ≤ i → i < n → one_layer r R T W i xs ≡ splits r R T W W i 1 (swept r R T W xs)
   unfolding swept relaid
   layer-words i xs fit s lo hi =
       layer-is i xs fit s lo hi ∙ sym (splits-X r R self T W (room-facts n W (length xs) fit).low (later xs) W i 0 (left xs) (left-proper xs fit s) lo hi)
@@ -87,23 +87,23 @@ module _ {S V : Type 0} (r : Round) (R : RuleSense S) (self : (s : S) → R.same
 
   -- ---- all layers
   layers-words : (k i : ℕ) (xs : Recs) → fits n W (length xs) ≡ true → Shaped n W xs → 1 ≤ i → i + k ≤ n
-      → (someLayers r R T W k i xs ≡ splitsAll r R T W k i xs) × Shaped n W (splitsAll r R T W k i xs).1 × (fits n W (length (splitsAll r R T W k i xs).1) ≡ true)
-  unfolding someLayers splitsAll
+      → (some_layers r R T W k i xs ≡ splits_all r R T W k i xs) × Shaped n W (splits_all r R T W k i xs).1 × (fits n W (length (splits_all r R T W k i xs).1) ≡ true)
+  unfolding some_layers splits_all
   layers-words zero i xs fit s lo hi = (refl, s, fit)
   layers-words (suc k) i xs fit s lo hi =
       let a = after i xs in
       let Y = relaid r R T W xs a.1 in
-      let is : oneLayer r R T W i xs ≡ (a.0, Y) = layer-is i xs fit s lo (omega arith) in
+      let is : one_layer r R T W i xs ≡ (a.0, Y) = layer-is i xs fit s lo (omega arith) in
       let def : splits r R T W W i 1 (swept r R T W xs) ≡ (a.0, Y) = sym (layer-words i xs fit s lo (omega arith)) ∙ is in
       let p = after-proper i xs fit s lo in
       let sY = relaid-shaped r R T W (room-facts n W (length xs) fit).low xs a.1 p in
       let fY = relaid-fits xs a.1 fit p.deep in
       let ih = layers-words k (suc i) Y fY sY (omega arith) (omega arith) in
-      let G : Bool × Recs → ℕ × Recs = λ p. cond p.0 (i, p.1) (someLayers r R T W k (suc i) p.1) in
-      let H : Bool × Recs → ℕ × Recs = λ p. cond p.0 (i, p.1) (splitsAll r R T W k (suc i) p.1) in
+      let G : Bool × Recs → ℕ × Recs = λ p. cond p.0 (i, p.1) (some_layers r R T W k (suc i) p.1) in
+      let H : Bool × Recs → ℕ × Recs = λ p. cond p.0 (i, p.1) (splits_all r R T W k (suc i) p.1) in
       let same : G (a.0, Y) ≡ H (a.0, Y) = ap (λ (z : ℕ × Recs). cond a.0 (i, Y) z) ih.0 in
       let Good : ℕ × Recs → Type 0 = λ z. Shaped n W z.1 × (fits n W (length z.1) ≡ true) in
-      let good : Good (H (a.0, Y)) = cond_both a.0 (i, Y) (splitsAll r R T W k (suc i) Y) Good (λ _. (sY, fY)) (λ _. (ih.1, ih.2)) in
+      let good : Good (H (a.0, Y)) = cond_both a.0 (i, Y) (splits_all r R T W k (suc i) Y) Good (λ _. (sY, fY)) (λ _. (ih.1, ih.2)) in
       let there : Good (H (splits r R T W W i 1 (swept r R T W xs))) = subst (λ (z : Bool × Recs). Good (H z)) (sym def) good in
       (ap G is ∙ same ∙ ap H (sym def), there.0, there.1)
 
@@ -116,56 +116,56 @@ module _ {S V : Type 0} (r : Round) (R : RuleSense S) (self : (s : S) → R.same
   unfolding swept
   swept-long xs fit s = relaid-long xs (left xs) fit (left-proper xs fit s).deep
 
-  out-words : (k : ℕ) (xs : Recs) → fits n W (length xs) ≡ true → Shaped n W xs → (sweepsOut r R T W k xs ≡ sweptOut r R T W k xs) × Shaped n W (sweptOut r R T W k xs)
-  unfolding sweepsOut sweptOut
+  out-words : (k : ℕ) (xs : Recs) → fits n W (length xs) ≡ true → Shaped n W xs → (sweeps_out r R T W k xs ≡ swept_out r R T W k xs) × Shaped n W (swept_out r R T W k xs)
+  unfolding sweeps_out swept_out
   out-words zero xs fit s = (refl, s)
   out-words (suc k) xs fit s =
       let Y = swept r R T W xs in
       let sY = swept-shaped r R T W xs fit s in
       let ih = out-words k Y (swept-fits xs fit s) sY in
       let is = sweep-words r R T W xs fit s in
-      let few : arcCount n W xs - arcCount n W Y ≡ sweepAnswer r R T W xs = fewer-words r R T W xs Y fit (swept-long xs fit s) s sY in (
-        ap (λ (ys : Recs). cond (eqb (arcCount n W xs - arcCount n W ys) 0) ys (sweepsOut r R T W k ys)) is
+      let few : arc_count n W xs - arc_count n W Y ≡ sweep_answer r R T W xs = fewer-words r R T W xs Y fit (swept-long xs fit s) s sY in (
+        ap (λ (ys : Recs). cond (eqb (arc_count n W xs - arc_count n W ys) 0) ys (sweeps_out r R T W k ys)) is
             ∙ ap₂ (λ (m : ℕ) (zs : Recs). cond (eqb m 0) Y zs) few ih.0,
-        cond_both (eqb (sweepAnswer r R T W xs) 0) Y (sweptOut r R T W k Y) (Shaped n W) (λ _. sY) (λ _. ih.1),
+        cond_both (eqb (sweep_answer r R T W xs) 0) Y (swept_out r R T W k Y) (Shaped n W) (λ _. sY) (λ _. ih.1),
       )
 
-  out-timely : (k : ℕ) (xs : Recs) → fits n W (length xs) ≡ true → Shaped n W xs → Timely n W xs → Timely n W (sweptOut r R T W k xs)
-  unfolding sweptOut
+  out-timely : (k : ℕ) (xs : Recs) → fits n W (length xs) ≡ true → Shaped n W xs → Timely n W xs → Timely n W (swept_out r R T W k xs)
+  unfolding swept_out
   out-timely zero xs fit s t = t
   out-timely (suc k) xs fit s t =
       let Y = swept r R T W xs in
       let tY = swept-timely r R T W xs fit s in
-      cond_both (eqb (sweepAnswer r R T W xs) 0) Y (sweptOut r R T W k Y) (Timely n W) (λ _. tY) (λ _. out-timely k Y (swept-fits xs fit s) (swept-shaped r R T W xs fit s) tY)
+      cond_both (eqb (sweep_answer r R T W xs) 0) Y (swept_out r R T W k Y) (Timely n W) (λ _. tY) (λ _. out-timely k Y (swept-fits xs fit s) (swept-shaped r R T W xs fit s) tY)
 
-  out_once : (k : ℕ) (xs : Recs) → fits n W (length xs) ≡ true → Shaped n W xs → Timely n W (sweptOut r R T W (suc k) xs)
-  unfolding sweptOut
+  out_once : (k : ℕ) (xs : Recs) → fits n W (length xs) ≡ true → Shaped n W xs → Timely n W (swept_out r R T W (suc k) xs)
+  unfolding swept_out
   out_once k xs fit s =
       let Y = swept r R T W xs in
       let tY = swept-timely r R T W xs fit s in
-      cond_both (eqb (sweepAnswer r R T W xs) 0) Y (sweptOut r R T W k Y) (Timely n W) (λ _. tY) (λ _. out-timely k Y (swept-fits xs fit s) (swept-shaped r R T W xs fit s) tY)
+      cond_both (eqb (sweep_answer r R T W xs) 0) Y (swept_out r R T W k Y) (Timely n W) (λ _. tY) (λ _. out-timely k Y (swept-fits xs fit s) (swept-shaped r R T W xs fit s) tY)
 
   -- ---- refine
   module _ (xs : Recs) (fit : fits n W (length xs) ≡ true) (s : Shaped n W xs) where
     abbrev p : ℕ × Recs
-    p = splitsAll r R T W (n - 1) 1 xs
+    p = splits_all r R T W (n - 1) 1 xs
 
-    all-layers : (someLayers r R T W (n - 1) 1 xs ≡ p) × Shaped n W p.1 × (fits n W (length p.1) ≡ true)
+    all-layers : (some_layers r R T W (n - 1) 1 xs ≡ p) × Shaped n W p.1 × (fits n W (length p.1) ≡ true)
     all-layers = layers-words (n - 1) 1 xs fit s (omega arith) (omega (arith, r.one))
 
-    pub refine-words : refineSteps r R T W xs ≡ refined r R T W xs
-    unfolding refineSteps refined
+    pub refine-words : refine_steps r R T W xs ≡ refined r R T W xs
+    unfolding refine_steps refined
     refine-words =
         let a = all-layers in
-        let G : ℕ × Recs → ℕ × Recs = λ p. (p.0, sweepsOut r R T W (suc (arcCount n W p.1)) p.1) in
+        let G : ℕ × Recs → ℕ × Recs = λ p. (p.0, sweeps_out r R T W (suc (arc_count n W p.1)) p.1) in
         ap G a.0
-        ∙ ap (λ (m : ℕ). (p.0, sweepsOut r R T W (suc m) p.1)) (shaped-count r R T W p.1 a.2 a.1)
-        ∙ ap (λ (ys : Recs). (p.0, ys)) (out-words (suc (countArcs (arcs n W p.1))) p.1 a.2 a.1).0
+        ∙ ap (λ (m : ℕ). (p.0, sweeps_out r R T W (suc m) p.1)) (shaped-count r R T W p.1 a.2 a.1)
+        ∙ ap (λ (ys : Recs). (p.0, ys)) (out-words (suc (count_arcs (arcs n W p.1))) p.1 a.2 a.1).0
 
     pub refined-shaped : Shaped n W (refined r R T W xs).1
     unfolding refined
-    refined-shaped = let a = all-layers in (out-words (suc (countArcs (arcs n W p.1))) p.1 a.2 a.1).1
+    refined-shaped = let a = all-layers in (out-words (suc (count_arcs (arcs n W p.1))) p.1 a.2 a.1).1
 
     pub refined-timely : Timely n W (refined r R T W xs).1
     unfolding refined
-    refined-timely = let a = all-layers in out_once (countArcs (arcs n W p.1)) p.1 a.2 a.1
+    refined-timely = let a = all-layers in out_once (count_arcs (arcs n W p.1)) p.1 a.2 a.1

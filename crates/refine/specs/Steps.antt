@@ -8,34 +8,34 @@ use Rattle.layers.specs.declared.node.Node.{Node}
 use Rattle.layers.specs.Calls.{refined, settled}
 use Rattle.layers.specs.Shape.{Shaped, Timely}
 use Rattle.labels.specs.Passes.{fits, relabelled}
-use Rattle.filter.specs.Steps.{arcCount, sweepSteps, quietSteps, Done}
-use Rattle.split.specs.Steps.{layerSteps, agreedSteps}
+use Rattle.filter.specs.Steps.{arc_count, sweep_steps, quiet_steps, Done}
+use Rattle.split.specs.Steps.{layer_steps, agreed_steps}
 
 module _ {S V : Type 0} (r : Round) (rule : RuleSense S) (tally : TallySense V) (W : ℕ) where
   -- layer i: a sweep, the parts of the layer, and all labels anew; yes if the layer was full
-  unfoldable pub oneLayer : ℕ → List (Node S V) → Bool × List (Node S V)
-  unfolding sweepSteps layerSteps relabelled
-  oneLayer i xs = let p = layerSteps r rule tally W i (sweepSteps r rule tally W xs) in (p.0, relabelled r rule tally W p.1)
+  unfoldable pub one_layer : ℕ → List (Node S V) → Bool × List (Node S V)
+  unfolding sweep_steps layer_steps relabelled
+  one_layer i xs = let p = layer_steps r rule tally W i (sweep_steps r rule tally W xs) in (p.0, relabelled r rule tally W p.1)
 
   -- k layers from i on: the layer that was full, or 0
-  unfoldable pub someLayers : ℕ → ℕ → List (Node S V) → ℕ × List (Node S V)
-  unfolding oneLayer
-  someLayers zero i xs = (0, xs)
-  someLayers (suc k) i xs = let p = oneLayer i xs in cond p.0 (i, p.1) (someLayers k (suc i) p.1)
+  unfoldable pub some_layers : ℕ → ℕ → List (Node S V) → ℕ × List (Node S V)
+  unfolding one_layer
+  some_layers zero i xs = (0, xs)
+  some_layers (suc k) i xs = let p = one_layer i xs in cond p.0 (i, p.1) (some_layers k (suc i) p.1)
 
   -- sweeps until one takes out nothing, k at most
-  unfoldable pub sweepsOut : ℕ → List (Node S V) → List (Node S V)
-  unfolding sweepSteps arcCount
-  sweepsOut zero xs = xs
-  sweepsOut (suc k) xs = let ys = sweepSteps r rule tally W xs in cond (arcCount r.n W xs - arcCount r.n W ys == 0) ys (sweepsOut k ys)
+  unfoldable pub sweeps_out : ℕ → List (Node S V) → List (Node S V)
+  unfolding sweep_steps arc_count
+  sweeps_out zero xs = xs
+  sweeps_out (suc k) xs = let ys = sweep_steps r rule tally W xs in cond (arc_count r.n W xs - arc_count r.n W ys == 0) ys (sweeps_out k ys)
 
-  unfoldable pub refineSteps : List (Node S V) → ℕ × List (Node S V)
-  unfolding someLayers sweepsOut arcCount
-  refineSteps xs = let p = someLayers (r.n - 1) 1 xs in (p.0, sweepsOut (suc (arcCount r.n W p.1)) p.1)
+  unfoldable pub refine_steps : List (Node S V) → ℕ × List (Node S V)
+  unfolding some_layers sweeps_out arc_count
+  refine_steps xs = let p = some_layers (r.n - 1) 1 xs in (p.0, sweeps_out (suc (arc_count r.n W p.1)) p.1)
 
-  unfoldable pub settledSteps : List (Node S V) → Bool
-  unfolding agreedSteps quietSteps
-  settledSteps xs = agreedSteps r rule tally W xs && quietSteps r rule tally W xs
+  unfoldable pub settled_steps : List (Node S V) → Bool
+  unfolding agreed_steps quiet_steps
+  settled_steps xs = agreed_steps r rule tally W xs && quiet_steps r rule tally W xs
 
   -- on the records of a diagram: what the definitions of the calls say
   abbrev pub RefineDone : List (Node S V) → List (Node S V) → ℕ → Type 0

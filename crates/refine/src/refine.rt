@@ -1,9 +1,9 @@
 // Refine: from layer to layer a sweep and all parts, then sweeps until nothing is left to take out.
 ghost use Rattle.std.specs.Prelude.{◌≡◌, suc, ◌+◌, ◌-◌, ◌*◌, ◌<◌, ◌≤◌, true, length, if◌then◌else◌};
 ghost use Rattle.labels.specs.Passes.{fits};
-ghost use Rattle.filter.specs.Steps.{arcCount};
+ghost use Rattle.filter.specs.Steps.{arc_count};
 ghost use Rattle.refine.specs.Answers.{answer_of};
-ghost use Rattle.refine.specs.Steps.{oneLayer, someLayers, sweepsOut, refineSteps, RefineDone};
+ghost use Rattle.refine.specs.Steps.{one_layer, some_layers, sweeps_out, refine_steps, RefineDone};
 
 use crate::answer::Refined;
 use filter::sweep::sweep;
@@ -26,8 +26,8 @@ fn refine_layer<R: Rule, T: Tally>(
     i: usize,
 ) -> bool
     requires { fits round.now.n width (length nodes.old) ≡ true }
-    ensures full { result ≡ (oneLayer round.now (R.Rule.sense rule.now) (T.Tally.sense tally.now) width i nodes.old).0 }
-    ensures records { nodes.new ≡ (oneLayer round.now (R.Rule.sense rule.now) (T.Tally.sense tally.now) width i nodes.old).1 }
+    ensures full { result ≡ (one_layer round.now (R.Rule.sense rule.now) (T.Tally.sense tally.now) width i nodes.old).0 }
+    ensures records { nodes.new ≡ (one_layer round.now (R.Rule.sense rule.now) (T.Tally.sense tally.now) width i nodes.old).1 }
 {
     sweep(round, rule, tally, nodes, width);
     let full = part_layer(round, rule, tally, nodes, width, i);
@@ -43,8 +43,8 @@ fn refine_layers<R: Rule, T: Tally>(
     width: usize,
 ) -> Refined
     requires { fits round.now.n width (length nodes.old) ≡ true }
-    ensures answer { answer_of result ≡ (someLayers round.now (R.Rule.sense rule.now) (T.Tally.sense tally.now) width (round.now.n - 1) 1 nodes.old).0 }
-    ensures records { nodes.new ≡ (someLayers round.now (R.Rule.sense rule.now) (T.Tally.sense tally.now) width (round.now.n - 1) 1 nodes.old).1 }
+    ensures answer { answer_of result ≡ (some_layers round.now (R.Rule.sense rule.now) (T.Tally.sense tally.now) width (round.now.n - 1) 1 nodes.old).0 }
+    ensures records { nodes.new ≡ (some_layers round.now (R.Rule.sense rule.now) (T.Tally.sense tally.now) width (round.now.n - 1) 1 nodes.old).1 }
 {
     for i in 1..round.n {
         if refine_layer(round, rule, tally, nodes, width, i) {
@@ -63,7 +63,7 @@ fn sweep_out<R: Rule, T: Tally>(
     width: usize,
 )
     requires { fits round.now.n width (length nodes.old) ≡ true }
-    ensures { nodes.new ≡ sweepsOut round.now (R.Rule.sense rule.now) (T.Tally.sense tally.now) width (suc (arcCount round.now.n width nodes.old)) nodes.old }
+    ensures { nodes.new ≡ sweeps_out round.now (R.Rule.sense rule.now) (T.Tally.sense tally.now) width (suc (arc_count round.now.n width nodes.old)) nodes.old }
 {
     let most = count_arcs(round, nodes, width);
     for turn in 0..=most {
@@ -83,8 +83,8 @@ pub fn refine<R: Rule, T: Tally>(
     nodes: &mut [Node<R::State, T::Value>],
     width: usize,
 ) -> Refined
-    ensures steps { nodes.new ≡ (if fits round.now.n width (length nodes.old) then (refineSteps round.now (R.Rule.sense rule.now) (T.Tally.sense tally.now) width nodes.old).1 else nodes.old) }
-    ensures answer { answer_of result ≡ (if fits round.now.n width (length nodes.old) then (refineSteps round.now (R.Rule.sense rule.now) (T.Tally.sense tally.now) width nodes.old).0 else 0) }
+    ensures steps { nodes.new ≡ (if fits round.now.n width (length nodes.old) then (refine_steps round.now (R.Rule.sense rule.now) (T.Tally.sense tally.now) width nodes.old).1 else nodes.old) }
+    ensures answer { answer_of result ≡ (if fits round.now.n width (length nodes.old) then (refine_steps round.now (R.Rule.sense rule.now) (T.Tally.sense tally.now) width nodes.old).0 else 0) }
     ensures words { RefineDone round.now (R.Rule.sense rule.now) (T.Tally.sense tally.now) width nodes.old nodes.new (answer_of result) }
 {
     if !has_room(round, width, nodes.len()) {

@@ -1,7 +1,7 @@
 // Whether a diagram is settled.
 ghost use Rattle.std.specs.Prelude.{◌≡◌, length};
 ghost use Rattle.tallies.specs.Tallies.{TallySense};
-ghost use Rattle.refine.specs.Steps.{settledSteps, SettledDone};
+ghost use Rattle.refine.specs.Steps.{settled_steps, SettledDone};
 
 use filter::quiet::quiet;
 use layers::node::Node;
@@ -17,7 +17,7 @@ pub fn settled<R: Rule, V: Copy>(
     nodes: &[Node<R::State, V>],
     width: usize,
 ) -> bool
-    ensures steps { (t : TallySense V) → result ≡ settledSteps round.now (R.Rule.sense rule.now) t width nodes.now }
+    ensures steps { (t : TallySense V) → result ≡ settled_steps round.now (R.Rule.sense rule.now) t width nodes.now }
     ensures words { (t : TallySense V) → SettledDone round.now (R.Rule.sense rule.now) t width nodes.now result }
 {
     agreed(round, rule, nodes, width) && quiet(round, rule, nodes, width)

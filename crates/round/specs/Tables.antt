@@ -7,8 +7,8 @@ abbrev pub blank : Door
 blank = record { opens = 0; closes = 0; due = 0; work = 0; change = pos 0 }
 
 -- the one door of a fresh round
-abbrev pub newDoor : Door
-newDoor = record { opens = 0; closes = 0; due = 0; work = 1; change = pos 0 }
+abbrev pub new_door : Door
+new_door = record { opens = 0; closes = 0; due = 0; work = 1; change = pos 0 }
 
 -- the record of door j
 abbrev pub at : List Door → ℕ → Door

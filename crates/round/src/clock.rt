@@ -1,7 +1,7 @@
 // Reading a round's tables, and its clock.
 ghost use Rattle.std.specs.Prelude.{◌≡◌, ◌+◌, ◌≤◌, max, replicate, slice_index, slice_set};
-ghost use Rattle.doors.specs.Orders.{isDoor};
-ghost use Rattle.round.specs.Tables.{blank, newDoor};
+ghost use Rattle.doors.specs.Orders.{is_door};
+ghost use Rattle.round.specs.Tables.{blank, new_door};
 ghost use Rattle.round.specs.Clock.{door, drive, finish, ClockLaws};
 
 use crate::door::{BLANK, Door};
@@ -12,8 +12,8 @@ impl Round {
     pub fn fresh() -> Round
         ensures n { result.n ≡ 1 }
         ensures load { result.load ≡ 0 }
-        ensures limit { result.limit ≡ 0 }
-        ensures doors { result.doors ≡ slice_set (replicate 17 blank) 1 newDoor }
+        ensures cap { result.cap ≡ 0 }
+        ensures doors { result.doors ≡ slice_set (replicate 17 blank) 1 new_door }
         ensures drives { result.drives ≡ replicate 17 (replicate 17 0) }
         ensures ahead { result.ahead ≡ replicate 17 0 }
     {
@@ -28,7 +28,7 @@ impl Round {
         Round {
             n: 1,
             load: 0,
-            limit: 0,
+            cap: 0,
             doors,
             drives: [[0; 17]; 17],
             ahead: [0; 17],
@@ -37,7 +37,7 @@ impl Round {
 
     // Whether j is one of the doors 1 to n.
     pub fn has_door(&self, j: usize) -> bool
-        ensures { result ≡ isDoor self.now.n j }
+        ensures { result ≡ is_door self.now.n j }
     {
         1 <= j && j <= self.n
     }

@@ -11,12 +11,12 @@ module _ {S : Type 0} {n : ℕ} {R : RuleSense S} {Keeps : List ℕ → Type 0} 
   pub state-stands : (w : List ℕ) → PartOrder n w → Stands (state_of R w) w
   state-stands =
       part-ind n (λ w. Stands (state_of R w) w)
-      (λ w j x h. subst (λ (s : S). Stands s (w ++ j ∷ [])) (sym (fold_push R.step R.start w j)) (rule.step-stands _ w j x h))
-      rule.start-stands
+      (λ w j x h. subst (λ (s : S). Stands s (w ++ j ∷ [])) (sym (fold_push R.step R.start w j)) (rule.step_stands _ w j x h))
+      rule.start_stands
 
   -- bars is exact at the state of a part order that keeps the rule
   pub bars-exactly : (w : List ℕ) (j : ℕ) → Next n w j → Keeps w → Exact Keeps w j (R.bars (state_of R w) j)
   bars-exactly w j x k = record {
-    yes-breaks = rule.bars-breaks _ w j x (state-stands w x.part);
-    breaks-yes = λ h. ⊎_elim (λ e. e) (λ e. absurd (h (rule.clear-keeps w j x k e))) (cases_Bool (R.bars (state_of R w) j));
+    yes_breaks = rule.bars_breaks _ w j x (state-stands w x.part);
+    breaks_yes = λ h. ⊎_elim (λ e. e) (λ e. absurd (h (rule.clear_keeps w j x k e))) (cases_Bool (R.bars (state_of R w) j));
   }

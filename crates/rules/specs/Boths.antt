@@ -2,8 +2,8 @@
 use Rattle.std.specs.Prelude.{◌&&◌, ◌||◌}
 use Rattle.rules.specs.Rules.{RuleSense}
 
-abbrev pub bothSense : {S U : Type 0} → RuleSense S → RuleSense U → RuleSense (S × U)
-bothSense A B = record {
+abbrev pub both_sense : {S U : Type 0} → RuleSense S → RuleSense U → RuleSense (S × U)
+both_sense A B = record {
   start = (A.start, B.start);
   step = λ s j. (A.step s.0 j, B.step s.1 j);
   cover = λ s t. (A.cover s.0 t.0, B.cover s.1 t.1);

@@ -6,7 +6,7 @@ use Rattle.std.specs.Int.{int_max, int_min}
 use Rattle.std.proofs.lemmas.Int.{ints, clamps}
 use Rattle.std.proofs.lemmas.List.Sums.{fold_push}
 use Rattle.std.proofs.lemmas.Bool.{cond-true, cond-false, and_parts, and_from, or_cases, or_parts}
-use Rattle.doors.specs.Orders.{PartOrder, Next, isDoor}
+use Rattle.doors.specs.Orders.{PartOrder, Next, is_door}
 use Rattle.doors.specs.Orders as orders
 use Rattle.doors.proofs.Orders.{door-is, not-door, part-ind, each_none, each-front, each_last, each_more}
 use Rattle.doors.proofs.Sets.{part_length}
@@ -14,7 +14,7 @@ use Rattle.round.specs.declared.door.Door.{Door}
 use Rattle.round.specs.declared.table.Round.{Round}
 use Rattle.round.specs.Tables.{at}
 use Rattle.rules.specs.declared.load.Interval.{Interval}
-use Rattle.rules.specs.Loads.{load_of, Within, interval, Between, held, moves, spans, overflows, eqZ, loadSense}
+use Rattle.rules.specs.Loads.{load_of, Within, interval, Between, held, moves, spans, overflows, same_int, load_sense}
 use Rattle.rules.specs.Rules.{RuleLaws}
 
 held_same : (z : ℤ) → negsuc 9998 ≤ℤ z → z ≤ℤ pos 9999 → held z ≡ z
@@ -32,11 +32,11 @@ below_true a b e = grind (arith, ints)
 below_false : (a b : ℤ) → int_lt a b ≡ false → b ≤ℤ a
 below_false a b e = grind (arith, ints)
 
-eqZ-is : (a b : ℤ) → eqZ a b ≡ true → a ≡ b
-eqZ-is a b e = grind (arith, ints)
+same_int-is : (a b : ℤ) → same_int a b ≡ true → a ≡ b
+same_int-is a b e = grind (arith, ints)
 
-eqZ-self : (a : ℤ) → eqZ a a ≡ true
-eqZ-self a = grind (arith, ints)
+same_int-self : (a : ℤ) → same_int a a ≡ true
+same_int-self a = grind (arith, ints)
 
 module _ (r : Round) where
   abbrev n : ℕ
@@ -45,8 +45,8 @@ module _ (r : Round) where
   abbrev load : ℕ
   load = r.load
 
-  abbrev limit : ℕ
-  limit = r.limit
+  abbrev cap : ℕ
+  cap = r.cap
 
   abbrev doors : List Door
   doors = r.doors
@@ -71,10 +71,10 @@ module _ (r : Round) where
       (omega (arith, ints), omega (arith, ints))
 
   moves-door : (s : Interval) (j : ℕ) → orders.Door n j → moves n doors s j ≡ interval (held (s.low +ℤ (at doors j).change)) (held (s.high +ℤ (at doors j).change))
-  moves-door s j d = cond-true (isDoor n j) _ _ (door-is n j d)
+  moves-door s j d = cond-true (is_door n j) _ _ (door-is n j d)
 
-  bars-door : (s : Interval) (j : ℕ) → orders.Door n j → overflows n limit doors s j ≡ (int_lt (pos limit) (s.low +ℤ (at doors j).change) || int_lt (s.high +ℤ (at doors j).change) (pos 0))
-  bars-door s j d = cond-true (isDoor n j) _ _ (door-is n j d)
+  bars-door : (s : Interval) (j : ℕ) → orders.Door n j → overflows n cap doors s j ≡ (int_lt (pos cap) (s.low +ℤ (at doors j).change) || int_lt (s.high +ℤ (at doors j).change) (pos 0))
+  bars-door s j d = cond-true (is_door n j) _ _ (door-is n j d)
 
   point : ℤ → Interval
   point z = interval z z
@@ -93,35 +93,35 @@ module _ (r : Round) where
       ∙ ap₂ interval same same)
       refl
 
-  pub load-lawful : RuleLaws n (loadSense n load limit doors) (Within load limit doors) (Between load doors)
-  load-lawful = record {
-    keeps-none = each_none _;
-    keeps-front = λ w v p h. each-front _ w v h;
-    start-stands = (≤ℤ_refl (pos load), ≤ℤ_refl (pos load));
-    step-stands = λ s w j x h.
+  pub load_lawful : RuleLaws n (load_sense n load cap doors) (Within load cap doors) (Between load doors)
+  load_lawful = record {
+    keeps_none = each_none _;
+    keeps_front = λ w v p h. each-front _ w v h;
+    start_stands = (≤ℤ_refl (pos load), ≤ℤ_refl (pos load));
+    step_stands = λ s w j x h.
         let i = inside w j x in
         let c = (at doors j).change in
         let z = load_of load doors w +ℤ c in
         subst (λ (t : Interval). Between load doors t (w ++ j ∷ [])) (sym (moves-door s j x.door))
         (subst (λ (z : ℤ). (held (s.low +ℤ (at doors j).change) ≤ℤ z) × (z ≤ℤ held (s.high +ℤ (at doors j).change))) (sym (load-last w j))
         (held_low (s.low +ℤ c) z (omega (arith, ints)) i.0, held_high (s.high +ℤ c) z (omega (arith, ints)) i.1));
-    cover-left = λ s t w p h. (omega (arith, ints, clamps), omega (arith, ints, clamps));
-    cover-right = λ s t w p h. (omega (arith, ints, clamps), omega (arith, ints, clamps));
-    cover-same = λ s. ap₂ interval (omega (arith, ints, clamps)) (omega (arith, ints, clamps));
-    bars-breaks = λ s w j x h b k.
+    cover_left = λ s t w p h. (omega (arith, ints, clamps), omega (arith, ints, clamps));
+    cover_right = λ s t w p h. (omega (arith, ints, clamps), omega (arith, ints, clamps));
+    cover_same = λ s. ap₂ interval (omega (arith, ints, clamps)) (omega (arith, ints, clamps));
+    bars_breaks = λ s w j x h b k.
         let l = load-last w j in
         let r = each_last _ w j k in
         let a = s.low +ℤ (at doors j).change in
         let z = s.high +ℤ (at doors j).change in
-        let either : (int_lt (pos limit) a ≡ true) ⊎ (int_lt z (pos 0) ≡ true) = or_cases _ _ (sym (bars-door s j x.door) ∙ b) in
-        ⊎_elim (λ e. omega (arith, ints, below_true (pos limit) a e)) (λ e. omega (arith, ints, below_true z (pos 0) e)) either;
-    clear-keeps = λ w j x k b.
+        let either : (int_lt (pos cap) a ≡ true) ⊎ (int_lt z (pos 0) ≡ true) = or_cases _ _ (sym (bars-door s j x.door) ∙ b) in
+        ⊎_elim (λ e. omega (arith, ints, below_true (pos cap) a e)) (λ e. omega (arith, ints, below_true z (pos 0) e)) either;
+    clear_keeps = λ w j x k b.
         let l = load-last w j in
         let z = load_of load doors w +ℤ (at doors j).change in
-        let c : (int_lt (pos limit) z ≡ false) × (int_lt z (pos 0) ≡ false) = or_parts _ _ (sym (bars-door (interval (load_of load doors w) (load_of load doors w)) j x.door) ∙ subst (λ (s : Interval). overflows n limit doors s j ≡ false) (state-is w x.part) b) in
-        each_more _ w j k (omega (arith, ints, below_false z (pos 0) c.1), omega (arith, ints, below_false (pos limit) z c.0));
-    same-is = λ s t e. let p = and_parts (eqZ s.low t.low) _ e in ap₂ interval (eqZ-is _ _ p.0) (eqZ-is _ _ p.1);
-    same_self = λ s. and_from _ _ (eqZ-self s.low) (eqZ-self s.high);
-    outside-step = λ s j h. cond-false (isDoor n j) _ _ (not-door n j h);
-    outside-bars = λ s j h. cond-false (isDoor n j) _ _ (not-door n j h);
+        let c : (int_lt (pos cap) z ≡ false) × (int_lt z (pos 0) ≡ false) = or_parts _ _ (sym (bars-door (interval (load_of load doors w) (load_of load doors w)) j x.door) ∙ subst (λ (s : Interval). overflows n cap doors s j ≡ false) (state-is w x.part) b) in
+        each_more _ w j k (omega (arith, ints, below_false z (pos 0) c.1), omega (arith, ints, below_false (pos cap) z c.0));
+    same_is = λ s t e. let p = and_parts (same_int s.low t.low) _ e in ap₂ interval (same_int-is _ _ p.0) (same_int-is _ _ p.1);
+    same_self = λ s. and_from _ _ (same_int-self s.low) (same_int-self s.high);
+    outside_step = λ s j h. cond-false (is_door n j) _ _ (not-door n j h);
+    outside_bars = λ s j h. cond-false (is_door n j) _ _ (not-door n j h);
   }

@@ -1,7 +1,7 @@
--- The rule of the load, by the start load, the limit and the doors' changes.
+-- The rule of the load, by the start load, the cap and the doors' changes.
 use Rattle.std.specs.Prelude.{ℕ, Bool, false, cond, ◌&&◌, ◌||◌, List, [], ◌∷◌, ◌++◌, ℤ, pos, negsuc, ◌+ℤ◌, ◌≤ℤ◌, fold, int_le, int_lt}
 use Rattle.std.specs.Int.{int_max, int_min}
-use Rattle.doors.specs.Orders.{AtEach, isDoor}
+use Rattle.doors.specs.Orders.{AtEach, is_door}
 use Rattle.round.specs.declared.door.Door.{Door}
 use Rattle.round.specs.Tables.{at}
 use Rattle.rules.specs.declared.load.Interval.{Interval}
@@ -11,9 +11,9 @@ use Rattle.rules.specs.Rules.{RuleSense}
 abbrev pub load_of : ℕ → List Door → List ℕ → ℤ
 load_of load doors w = fold (λ l j. l +ℤ (at doors j).change) (pos load) w
 
--- the load is 0 to limit after every door of w
+-- the load is 0 to cap after every door of w
 abbrev pub Within : ℕ → ℕ → List Door → List ℕ → Type 0
-Within load limit doors w = AtEach (λ u j. (pos 0 ≤ℤ load_of load doors (u ++ j ∷ [])) × (load_of load doors (u ++ j ∷ []) ≤ℤ pos limit)) w
+Within load cap doors w = AtEach (λ u j. (pos 0 ≤ℤ load_of load doors (u ++ j ∷ [])) × (load_of load doors (u ++ j ∷ []) ≤ℤ pos cap)) w
 
 abbrev pub interval : ℤ → ℤ → Interval
 interval a b = record { low = a; high = b }
@@ -28,24 +28,24 @@ held z = int_max (negsuc 9998) (int_min z (pos 9999))
 
 -- both ends moved by the change of door j
 abbrev pub moves : ℕ → List Door → Interval → ℕ → Interval
-moves n doors s j = cond (isDoor n j) (interval (held (s.low +ℤ (at doors j).change)) (held (s.high +ℤ (at doors j).change))) s
+moves n doors s j = cond (is_door n j) (interval (held (s.low +ℤ (at doors j).change)) (held (s.high +ℤ (at doors j).change))) s
 
 abbrev pub spans : Interval → Interval → Interval
 spans s t = interval (int_min s.low t.low) (int_max s.high t.high)
 
--- the lowest load would pass the limit, or the highest fall below 0
+-- the lowest load would pass the cap, or the highest fall below 0
 abbrev pub overflows : ℕ → ℕ → List Door → Interval → ℕ → Bool
-overflows n limit doors s j = cond (isDoor n j) (int_lt (pos limit) (s.low +ℤ (at doors j).change) || int_lt (s.high +ℤ (at doors j).change) (pos 0)) false
+overflows n cap doors s j = cond (is_door n j) (int_lt (pos cap) (s.low +ℤ (at doors j).change) || int_lt (s.high +ℤ (at doors j).change) (pos 0)) false
 
 -- a and b are one number
-abbrev pub eqZ : ℤ → ℤ → Bool
-eqZ a b = int_le a b && int_le b a
+abbrev pub same_int : ℤ → ℤ → Bool
+same_int a b = int_le a b && int_le b a
 
-abbrev pub loadSense : ℕ → ℕ → ℕ → List Door → RuleSense Interval
-loadSense n load limit doors = record {
+abbrev pub load_sense : ℕ → ℕ → ℕ → List Door → RuleSense Interval
+load_sense n load cap doors = record {
   start = interval (pos load) (pos load);
   step = moves n doors;
   cover = spans;
-  bars = overflows n limit doors;
-  same = λ s t. eqZ s.low t.low && eqZ s.high t.high;
+  bars = overflows n cap doors;
+  same = λ s t. same_int s.low t.low && same_int s.high t.high;
 }

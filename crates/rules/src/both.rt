@@ -1,7 +1,7 @@
 // Two rules together are a rule again.
 ghost use Rattle.std.specs.Prelude.{◌≡◌};
-ghost use Rattle.rules.specs.Boths.{bothSense};
-ghost use Rattle.rules.specs.BothLaws.{both-lawful};
+ghost use Rattle.rules.specs.Boths.{both_sense};
+ghost use Rattle.rules.specs.BothLaws.{both_lawful};
 ghost use Rattle.std.proofs.lemmas.Bool.{and_from};
 
 use crate::load::Load;
@@ -33,13 +33,13 @@ impl<A: Rule, B: Rule> Rule for Both<A, B> {
 
     ghost serves = { λ r n. A.Rule.serves r.first n × B.Rule.serves r.second n };
 
-    ghost sense = { λ r. bothSense (A.Rule.sense r.first) (B.Rule.sense r.second) };
+    ghost sense = { λ r. both_sense (A.Rule.sense r.first) (B.Rule.sense r.second) };
 
     ghost keeps = { λ r w. A.Rule.keeps r.first w × B.Rule.keeps r.second w };
 
     ghost stands = { λ r s w. A.Rule.stands r.first s.0 w × B.Rule.stands r.second s.1 w };
 
-    ghost lawful = { λ r n h. both-lawful (A.Rule.lawful r.first n h.0) (B.Rule.lawful r.second n h.1) };
+    ghost lawful = { λ r n h. both_lawful (A.Rule.lawful r.first n h.0) (B.Rule.lawful r.second n h.1) };
 
     ghost reflexive = { λ r s. and_from _ _ (A.Rule.reflexive r.first s.0) (B.Rule.reflexive r.second s.1) };
 

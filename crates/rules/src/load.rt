@@ -1,4 +1,4 @@
-// The load of the van: after every door it holds 0 to `limit` key boxes.
+// The load of the van: after every door it holds 0 to `cap` key boxes.
 use round::table::Round;
 
 pub mod rule;

@@ -14,14 +14,14 @@ abbrev pub none : Seen
 none = record { ends = false; one = false; both = false }
 
 -- from the end
-abbrev pub atEnd : Seen
-atEnd = record { ends = true; one = false; both = false }
+abbrev pub at_end : Seen
+at_end = record { ends = true; one = false; both = false }
 
 -- in a net, of paths with the door i, and with the door j and the door i after it
-unfoldable pub seenFrom : ℕ → ℕ → Net → ℕ → Seen
+unfoldable pub seen_from : ℕ → ℕ → Net → ℕ → Seen
 unfolding seeks
-seenFrom i j Ls zero = none
-seenFrom i j Ls (suc b) = record { ends = seeks Ls b []; one = seeks Ls b (i ∷ []); both = seeks Ls b (j ∷ i ∷ []) }
+seen_from i j Ls zero = none
+seen_from i j Ls (suc b) = record { ends = seeks Ls b []; one = seeks Ls b (i ∷ []); both = seeks Ls b (j ∷ i ∷ []) }
 
 -- over an arc by the door d
 unfoldable pub through : ℕ → ℕ → ℕ → Seen → Seen
@@ -37,27 +37,27 @@ module _ {S V : Type 0} (i j : ℕ) (below : List Seen) where
   by u k = through i j (k + 1) (slice_index_or below (slice_index u.arcs.to k) none)
 
   -- over the arcs of u by its first doors
-  unfoldable pub byFirst : Node S V → ℕ → Seen
+  unfoldable pub by_first : Node S V → ℕ → Seen
   unfolding by either
-  byFirst u zero = none
-  byFirst u (suc k) = either (byFirst u k) (by u k)
+  by_first u zero = none
+  by_first u (suc k) = either (by_first u k) (by u k)
 
-abbrev pub seenIf : Bool → Seen → Seen
-seenIf live s = cond live s none
+abbrev pub seen_if : Bool → Seen → Seen
+seen_if live s = cond live s none
 
 -- all of these are used
-unfoldable pub allUsed : {S V : Type 0} → List (Node S V) → Bool
-allUsed [] = true
-allUsed (u ∷ us) = used u && allUsed us
+unfoldable pub all_used : {S V : Type 0} → List (Node S V) → Bool
+all_used [] = true
+all_used (u ∷ us) = used u && all_used us
 
 -- what f says of the node at place b, if it stands
-unfoldable pub ofPlace : {S V : Type 0} → (Node S V → Seen) → List (Node S V) → ℕ → Seen
-ofPlace f [] b = none
-ofPlace f (u ∷ us) zero = seenIf (used u) (f u)
-ofPlace f (u ∷ us) (suc b) = seenIf (used u) (ofPlace f us b)
+unfoldable pub of_place : {S V : Type 0} → (Node S V → Seen) → List (Node S V) → ℕ → Seen
+of_place f [] b = none
+of_place f (u ∷ us) zero = seen_if (used u) (f u)
+of_place f (u ∷ us) (suc b) = seen_if (used u) (of_place f us b)
 
 -- by target number
-unfoldable pub ofTarget : {S V : Type 0} → (Node S V → Seen) → List (Node S V) → ℕ → Seen
-unfolding ofPlace
-ofTarget f us zero = none
-ofTarget f us (suc b) = ofPlace f us b
+unfoldable pub of_target : {S V : Type 0} → (Node S V → Seen) → List (Node S V) → ℕ → Seen
+unfolding of_place
+of_target f us zero = none
+of_target f us (suc b) = of_place f us b

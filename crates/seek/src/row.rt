@@ -1,7 +1,7 @@
 // A row: what is seen from each node of a layer, by target number.
 ghost use Rattle.std.specs.Prelude.{◌≡◌, ℕ, ◌+◌, ◌*◌, ◌≤◌, length, slice_index_or};
 ghost use Rattle.layers.specs.Calls.{arcs};
-ghost use Rattle.seek.specs.Rows.{byFirst, none, ofTarget, seenFrom};
+ghost use Rattle.seek.specs.Rows.{by_first, none, of_target, seen_from};
 
 use crate::seen::{NONE, Seen, either, through};
 use layers::node::Node;
@@ -15,7 +15,7 @@ fn by_first<S: Copy, V: Copy>(
     n: usize,
 ) -> Seen
     requires { n ≤ 16 }
-    ensures { result ≡ byFirst i j below.now u.now n }
+    ensures { result ≡ by_first i j below.now u.now n }
 {
     let mut got = NONE;
     for k in 0..n {
@@ -35,7 +35,7 @@ fn row_of<S: Copy, V: Copy>(
 ) -> [Seen; 256]
     requires n_bound { n ≤ 16 }
     requires us_len_bound { length us.now ≤ 128 }
-    ensures { (t : ℕ) → slice_index_or result t none ≡ ofTarget (λ u. byFirst i j below.now u n) us.now t }
+    ensures { (t : ℕ) → slice_index_or result t none ≡ of_target (λ u. by_first i j below.now u n) us.now t }
 {
     let mut row = [NONE; 256];
     for (a, u) in us.iter().enumerate() {
@@ -58,7 +58,7 @@ pub(crate) fn first_row<S: Copy, V: Copy>(
     requires n_bound { n ≤ 16 }
     requires width_bound { width ≤ 128 }
     requires width_in_bounds { n * width + 1 ≤ length nodes.now }
-    ensures { (t : ℕ) → slice_index_or result t none ≡ seenFrom i j (arcs n width nodes.now) t }
+    ensures { (t : ℕ) → slice_index_or result t none ≡ seen_from i j (arcs n width nodes.now) t }
 {
     let mut row = [NONE; 256];
     row[1].ends = true;

@@ -15,6 +15,7 @@ use text::reading::read_bounded;
 
 // The width of the diagram, and the records that it takes with 16 doors.
 const WIDTH: usize = 16;
+
 const RECORDS: usize = 257;
 
 fn print_bound(rt: &HostRuntime, bound: Option<(u32, u32)>) -> anyhow::Result<()> {

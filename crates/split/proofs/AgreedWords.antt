@@ -7,11 +7,11 @@ use Rattle.tallies.specs.Tallies.{TallySense}
 use Rattle.layers.specs.declared.node.Node.{Node}
 use Rattle.layers.specs.Labels.{agreeing}
 use Rattle.layers.specs.Records.{standing, layers}
-use Rattle.layers.specs.Calls.{nodes, arcs, agreedBelow, agreedAll}
+use Rattle.layers.specs.Calls.{nodes, arcs, agreed_below, agreed_all}
 use Rattle.layers.specs.Shape.{Shaped}
 use Rattle.layers.proofs.Places.{layer-at}
 use Rattle.labels.specs.Passes.{part, fits}
-use Rattle.split.specs.Steps.{countAt, agreedTo, agreedLayers, agreedSteps}
+use Rattle.split.specs.Steps.{node_count, agreed_to, agreed_layers, agreed_steps}
 use Rattle.split.specs.Words.{AgreedDone}
 use Rattle.split.proofs.LayerNet.{known-standing}
 use Rattle.split.proofs.ShapedNet.{known-shaped, count-layer}
@@ -33,39 +33,39 @@ up_first (suc k) f = ap (λ b. f (suc k) && b) (up_first k f) ∙ and-swap (f (s
 
 module _ {S V : Type 0} (r : Round) (R : RuleSense S) (T : TallySense V) where
   abbrev here : List (List (Node S V)) → ℕ → Bool
-  here Ns j = agreedBelow r R T (get_or Ns j []) (length (get_or Ns (suc j) []))
+  here Ns j = agreed_below r R T (get_or Ns j []) (length (get_or Ns (suc j) []))
 
   -- layer by layer
-  all_up : (k : ℕ) (Ns : List (List (Node S V))) → length Ns ≡ suc (suc k) → agreedAll r R T Ns ≡ up_to k (here Ns)
-  unfolding agreedAll
+  all_up : (k : ℕ) (Ns : List (List (Node S V))) → length Ns ≡ suc (suc k) → agreed_all r R T Ns ≡ up_to k (here Ns)
+  unfolding agreed_all
   all_up k [] e = absurd (omega arith)
   all_up k (N ∷ []) e = absurd (omega arith)
   all_up zero (N ∷ M ∷ []) e = refl
   all_up (suc k) (N ∷ M ∷ []) e = absurd (omega arith)
   all_up zero (N ∷ M ∷ K ∷ Ns) e = absurd (omega arith)
-  all_up (suc k) (N ∷ M ∷ K ∷ Ns) e = ap (λ b. agreedBelow r R T N (length M) && b) (all_up k (M ∷ K ∷ Ns) (omega arith)) ∙ sym (up_first k (here (N ∷ M ∷ K ∷ Ns)))
+  all_up (suc k) (N ∷ M ∷ K ∷ Ns) e = ap (λ b. agreed_below r R T N (length M) && b) (all_up k (M ∷ K ∷ Ns) (omega arith)) ∙ sym (up_first k (here (N ∷ M ∷ K ∷ Ns)))
 
   layers-long : (W k : ℕ) (xs : List (Node S V)) → length (layers W k xs) ≡ suc k
   layers-long W zero xs = refl
   layers-long W (suc k) xs = ap suc (layers-long W k (drop W xs))
 
   module _ (W : ℕ) (xs : List (Node S V)) (some : 1 ≤ W) (few : W ≤ 128) (fit : r.n * W + 1 ≤ length xs) (s : Shaped r.n W xs) where
-    layer-same : (d : ℕ) → suc d < r.n → (b : ℕ) → agreedTo r R T b (part (d * W) W xs) ≡ agreedBelow r R T (standing (part (d * W) W xs)) b
-    unfolding agreedTo agreedBelow
+    layer-same : (d : ℕ) → suc d < r.n → (b : ℕ) → agreed_to r R T b (part (d * W) W xs) ≡ agreed_below r R T (standing (part (d * W) W xs)) b
+    unfolding agreed_to agreed_below
     layer-same d lt zero = refl
     layer-same d lt (suc b) = ap₂ ◌&&◌ (ap (agreeing r R T) (known-standing r R T W d (arcs r.n W xs) xs (known-shaped r R T W xs some fit s d lt) b)) (layer-same d lt b)
 
-    layers-same : (k : ℕ) → suc k ≤ r.n → agreedLayers r R T W k xs ≡ up_to k (here (nodes r.n W xs))
-    unfolding agreedLayers
+    layers-same : (k : ℕ) → suc k ≤ r.n → agreed_layers r R T W k xs ≡ up_to k (here (nodes r.n W xs))
+    unfolding agreed_layers
     layers-same zero le = refl
     layers-same (suc k) le =
         ap₂ ◌&&◌
-        (layer-same k le (countAt (k * W + W) W xs)
-        ∙ ap₂ (λ (N : List (Node S V)) (m : ℕ). agreedBelow r R T N m) (sym (layer-at W r.n k xs (omega arith))) (count-layer r.n W xs k le))
+        (layer-same k le (node_count (k * W + W) W xs)
+        ∙ ap₂ (λ (N : List (Node S V)) (m : ℕ). agreed_below r R T N m) (sym (layer-at W r.n k xs (omega arith))) (count-layer r.n W xs k le))
         (layers-same k (omega arith))
 
-    pub agreed-words : agreedSteps r R T W xs ≡ agreedAll r R T (nodes r.n W xs)
-    unfolding agreedSteps
+    pub agreed-words : agreed_steps r R T W xs ≡ agreed_all r R T (nodes r.n W xs)
+    unfolding agreed_steps
     agreed-words =
         let one = r.one in
         let deep : length (nodes r.n W xs) ≡ suc (suc (r.n - 1)) = (let e = layers-long W r.n xs in omega arith) in
@@ -74,5 +74,5 @@ module _ {S V : Type 0} (r : Round) (R : RuleSense S) (T : TallySense V) where
         ∙ sym (all_up (r.n - 1) (nodes r.n W xs) deep)
 
   -- the clause
-  pub agreed-said : (W : ℕ) (xs : List (Node S V)) (b : Bool) → b ≡ agreedSteps r R T W xs → AgreedDone r R T W xs b
+  pub agreed-said : (W : ℕ) (xs : List (Node S V)) (b : Bool) → b ≡ agreed_steps r R T W xs → AgreedDone r R T W xs b
   agreed-said W xs b made s = made ∙ agreed-words W xs s.some s.few s.fit s.shaped

@@ -9,42 +9,42 @@ use Rattle.layers.specs.declared.node.Node.{Node}
 use Rattle.layers.specs.declared.node.Down.{Down}
 use Rattle.layers.specs.declared.refusal.Refusal.{Refusal}
 use Rattle.layers.specs.Refusals.{number_of}
-use Rattle.layers.specs.Labels.{agreeing, headO}
+use Rattle.layers.specs.Labels.{agreeing, first_arrival}
 use Rattle.split.specs.declared.source.Source.{Source}
 use Rattle.split.specs.declared.source.Arrived.{Arrived}
-use Rattle.split.specs.Agreed.{broughtFirst}
-use Rattle.split.specs.Steps.{placeCode, nodeCode, groupCode, countAt, alike, partCode, pairCode, clashAt, joinCode}
-use Rattle.split.specs.Asked.{MayJoin, gotCode}
+use Rattle.split.specs.Agreed.{brought_first}
+use Rattle.split.specs.Steps.{place_code, node_code, group_code, node_count, alike, part_code, pair_code, clash_at, join_code}
+use Rattle.split.specs.Asked.{MayJoin, got_code}
 use Rattle.split.proofs.Codes.{else-first, else-next, else-parts, place-clear, node-clear, pair_parts}
 
 module _ {S V : Type 0} (r : Round) (R : RuleSense S) (T : TallySense V) where
-  pub none-agree : (ys : List (Down S V)) → None ≡ headO r R T ys → agreeing r R T ys ≡ true
+  pub none-agree : (ys : List (Down S V)) → None ≡ first_arrival r R T ys → agreeing r R T ys ≡ true
   unfolding agreeing
   none-agree [] e = refl
   none-agree (y ∷ ys) e = absurd (grind arith)
 
   -- where nothing arrives all agree
-  pub got-group : (got : Arrived S V) (full : Bool) (ys : List (Down S V)) → broughtFirst r R T got.first ≡ headO r R T ys → got.agreed ≡ agreeing r R T ys
-      → groupCode (agreeing r R T ys) full ≡ gotCode got.first got.agreed full
+  pub got-group : (got : Arrived S V) (full : Bool) (ys : List (Down S V)) → brought_first r R T got.first ≡ first_arrival r R T ys → got.agreed ≡ agreeing r R T ys
+      → group_code (agreeing r R T ys) full ≡ got_code got.first got.agreed full
   got-group got full ys e f = go got.first e
     where
-      go : (o : Option (Source S V)) → broughtFirst r R T o ≡ headO r R T ys → groupCode (agreeing r R T ys) full ≡ gotCode o got.agreed full
-      go None h = ap (λ q. groupCode q full) (none-agree ys h)
-      go (Some x) h = ap (λ q. groupCode q full) (sym f)
+      go : (o : Option (Source S V)) → brought_first r R T o ≡ first_arrival r R T ys → group_code (agreeing r R T ys) full ≡ got_code o got.agreed full
+      go None h = ap (λ q. group_code q full) (none-agree ys h)
+      go (Some x) h = ap (λ q. group_code q full) (sym f)
 
   -- ---- part: the refusals in their order
   module _ (w i a : ℕ) (xs : List (Node S V)) where
-    pub part-place : (e : Refusal) → placeCode r.n w (length xs) i ≡ number_of e → partCode r R T w i a xs ≡ number_of e
-    unfolding partCode
+    pub part-place : (e : Refusal) → place_code r.n w (length xs) i ≡ number_of e → part_code r R T w i a xs ≡ number_of e
+    unfolding part_code
     part-place e is = else-first _ _ e is
 
-    pub part-node : (e : Refusal) → placeCode r.n w (length xs) i ≡ 0 → nodeCode (countAt ((i - 1) * w + w) w xs) a ≡ number_of e → partCode r R T w i a xs ≡ number_of e
-    unfolding partCode
+    pub part-node : (e : Refusal) → place_code r.n w (length xs) i ≡ 0 → node_code (node_count ((i - 1) * w + w) w xs) a ≡ number_of e → part_code r R T w i a xs ≡ number_of e
+    unfolding part_code
     part-node e none is = else-next _ _ _ none (else-first _ _ e is)
 
-    pub part-group : (k : ℕ) → placeCode r.n w (length xs) i ≡ 0 → nodeCode (countAt ((i - 1) * w + w) w xs) a ≡ 0
-        → groupCode (alike r R T ((i - 1) * w) w a xs) (leb w (countAt ((i - 1) * w + w) w xs)) ≡ k → partCode r R T w i a xs ≡ k
-    unfolding partCode
+    pub part-group : (k : ℕ) → place_code r.n w (length xs) i ≡ 0 → node_code (node_count ((i - 1) * w + w) w xs) a ≡ 0
+        → group_code (alike r R T ((i - 1) * w) w a xs) (leb w (node_count ((i - 1) * w + w) w xs)) ≡ k → part_code r R T w i a xs ≡ k
+    unfolding part_code
     part-group k none one is = else-next _ _ _ none (else-next _ _ _ one is)
 
 -- ---- join
@@ -59,31 +59,31 @@ in_order a b m la lb ha hb ne = ⊎_elim
     (cases_lt a b)
 
 module _ {S V : Type 0} (n : ℕ) (z : Node S V) (w i a b : ℕ) (xs : List (Node S V)) where
-  pub join-place : (e : Refusal) → placeCode n w (length xs) i ≡ number_of e → joinCode n z w i a b xs ≡ number_of e
-  unfolding joinCode
+  pub join-place : (e : Refusal) → place_code n w (length xs) i ≡ number_of e → join_code n z w i a b xs ≡ number_of e
+  unfolding join_code
   join-place e is = else-first _ _ e is
 
-  pub join_one : (e : Refusal) → placeCode n w (length xs) i ≡ 0 → nodeCode (countAt ((i - 1) * w + w) w xs) a ≡ number_of e → joinCode n z w i a b xs ≡ number_of e
-  unfolding joinCode
+  pub join_one : (e : Refusal) → place_code n w (length xs) i ≡ 0 → node_code (node_count ((i - 1) * w + w) w xs) a ≡ number_of e → join_code n z w i a b xs ≡ number_of e
+  unfolding join_code
   join_one e none is = else-next _ _ _ none (else-first _ _ e is)
 
-  pub join-other : (e : Refusal) → placeCode n w (length xs) i ≡ 0 → nodeCode (countAt ((i - 1) * w + w) w xs) a ≡ 0 → nodeCode (countAt ((i - 1) * w + w) w xs) b ≡ number_of e → joinCode n z w i a b xs ≡ number_of e
-  unfolding joinCode
+  pub join-other : (e : Refusal) → place_code n w (length xs) i ≡ 0 → node_code (node_count ((i - 1) * w + w) w xs) a ≡ 0 → node_code (node_count ((i - 1) * w + w) w xs) b ≡ number_of e → join_code n z w i a b xs ≡ number_of e
+  unfolding join_code
   join-other e none one is = else-next _ _ _ none (else-next _ _ _ one (else-first _ _ e is))
 
-  pub join-pair : (k : ℕ) → placeCode n w (length xs) i ≡ 0 → nodeCode (countAt ((i - 1) * w + w) w xs) a ≡ 0 → nodeCode (countAt ((i - 1) * w + w) w xs) b ≡ 0
-      → pairCode (eqb a b) (clashAt z ((i - 1) * w + w) a b xs) ≡ k → joinCode n z w i a b xs ≡ k
-  unfolding joinCode
+  pub join-pair : (k : ℕ) → place_code n w (length xs) i ≡ 0 → node_code (node_count ((i - 1) * w + w) w xs) a ≡ 0 → node_code (node_count ((i - 1) * w + w) w xs) b ≡ 0
+      → pair_code (eqb a b) (clash_at z ((i - 1) * w + w) a b xs) ≡ k → join_code n z w i a b xs ≡ k
+  unfolding join_code
   join-pair k none one other is = else-next _ _ _ none (else-next _ _ _ one (else-next _ _ _ other is))
 
-  pub join-clear : joinCode n z w i a b xs ≡ 0 → MayJoin n z w i a b xs
-  unfolding joinCode
+  pub join-clear : join_code n z w i a b xs ≡ 0 → MayJoin n z w i a b xs
+  unfolding join_code
   join-clear is =
       let p = else-parts _ _ is in
       let q = else-parts _ _ p.1 in
       let t = else-parts _ _ q.1 in
       let x = node-clear _ _ q.0 in
       let y = node-clear _ _ t.0 in
-      let c = pair_parts (eqb a b) (clashAt z ((i - 1) * w + w) a b xs) t.1 in
+      let c = pair_parts (eqb a b) (clash_at z ((i - 1) * w + w) a b xs) t.1 in
       let o = in_order a b _ x.0 y.0 x.1 y.1 (eqb-false a b c.0) in
       record { clear = is; placed = place-clear n w (length xs) i p.0; low = o.0; apart = o.1; high = o.2; calm = c.1 }

@@ -3,7 +3,7 @@ use Rattle.std.proofs.Common.{◌≡◌, ℕ, zero, suc, ◌+◌, ◌*◌, ◌<�
 use Rattle.std.proofs.lemmas.List.{take_at, drop_at, drop-drop, length-append, length-take-le, take-append-drop}
 use Rattle.layers.specs.declared.node.Node.{Node}
 use Rattle.layers.specs.Flow.{Layer, Net}
-use Rattle.labels.proofs.Laying.{arcsOf, Arranged, Good}
+use Rattle.labels.proofs.Laying.{arcs_of, Arranged, Good}
 use Rattle.labels.proofs.RedirectNet.{arranged-long}
 
 -- ---- nets
@@ -54,7 +54,7 @@ module _ {S V : Type 0} where
       (subst (λ zs. Arranged w (drop d Ls) zs → Arranged w (act 0 (drop d Ls)) (op zs)) (drop-deeper w d xs) base) in
       subst (λ N. Arranged w N (take (suc d * w) xs ++ op (drop (suc d * w) xs))) (sym (step d L Ls))
       (subst (Arranged w (L ∷ act d Ls)) (sym is) (
-        ap (map arcsOf) (take_at us rest w many) ∙ arr.0,
+        ap (map arcs_of) (take_at us rest w many) ∙ arr.0,
         subst (Arranged w (act d Ls)) (sym (drop_at us rest w many)) again,
       ))
 

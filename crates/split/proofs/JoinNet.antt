@@ -4,37 +4,37 @@ use Rattle.std.proofs.lemmas.List.{take_at, drop_at, drop-drop, map-set, map_pus
 use Rattle.std.proofs.lemmas.Bool.{cases_eq}
 use Rattle.layers.specs.declared.node.Arcs.{Arcs}
 use Rattle.layers.specs.declared.node.Node.{Node}
-use Rattle.layers.specs.Flow.{table, Outs, Layer, Net, node, pickT, bothOut, apart_t, clash, dropAt, moved, joinAt}
-use Rattle.layers.specs.Records.{padded, arcsAt}
+use Rattle.layers.specs.Flow.{table, Outs, Layer, Net, node, either_target, both_out, apart_t, clash, without_at, moved, join_at}
+use Rattle.layers.specs.Records.{padded, arcs_at}
 use Rattle.layers.proofs.Bridge.{table-long, table-ext}
 use Rattle.layers.proofs.Flows.{table_at}
-use Rattle.labels.proofs.Laying.{arcsOf, Arranged, Good}
+use Rattle.labels.proofs.Laying.{arcs_of, Arranged, Good}
 use Rattle.layers.specs.Targets.{targets}
-use Rattle.split.specs.Joined.{movedTo, movedNode, joinedNode, joinedLayer, joinedSecond}
+use Rattle.split.specs.Joined.{moved_to, moved_node, joined_node, joined_layer, joined_second}
 use Rattle.labels.proofs.RedirectNet.{table-list, arranged-long, targets-arranged, redirect-arranged}
 use Rattle.split.proofs.DepthNet.{good-drop, two-fit, at-depth, later-stays, long-stays}
 
 -- ---- two nodes by sixteen doors
-both_at : (x y : Outs) (k : ℕ) → get_or (bothOut x y) k 0 ≡ pickT (get_or x k 0) (get_or y k 0)
-unfolding bothOut
+both_at : (x y : Outs) (k : ℕ) → get_or (both_out x y) k 0 ≡ either_target (get_or x k 0) (get_or y k 0)
+unfolding both_out
 both_at [] ts k = refl
 both_at (s ∷ ss) [] k = sym (alone (get_or (s ∷ ss) k 0))
   where
-    alone : (t : ℕ) → pickT t 0 ≡ t
+    alone : (t : ℕ) → either_target t 0 ≡ t
     alone zero = refl
     alone (suc t) = refl
 both_at (s ∷ ss) (t ∷ ts) zero = refl
 both_at (s ∷ ss) (t ∷ ts) (suc k) = both_at ss ts k
 
-both-table : (n : ℕ) (f g : ℕ → ℕ) → bothOut (table n f) (table n g) ≡ table n (λ k. pickT (f k) (g k))
-unfolding bothOut
+both-table : (n : ℕ) (f g : ℕ → ℕ) → both_out (table n f) (table n g) ≡ table n (λ k. either_target (f k) (g k))
+unfolding both_out
 both-table zero f g = refl
-both-table (suc n) f g = ap (λ ts. pickT (f 0) (g 0) ∷ ts) (both-table n (λ k. f (suc k)) (λ k. g (suc k)))
+both-table (suc n) f g = ap (λ ts. either_target (f 0) (g 0) ∷ ts) (both-table n (λ k. f (suc k)) (λ k. g (suc k)))
 
-both-padded : (x y : Outs) → bothOut (padded x) (padded y) ≡ padded (bothOut x y)
+both-padded : (x y : Outs) → both_out (padded x) (padded y) ≡ padded (both_out x y)
 both-padded x y =
     both-table 16 (λ k. get_or x k 0) (λ k. get_or y k 0)
-    ∙ table-ext 16 (λ k. pickT (get_or x k 0) (get_or y k 0)) (λ k. get_or (bothOut x y) k 0) (λ k lt. sym (both_at x y k))
+    ∙ table-ext 16 (λ k. either_target (get_or x k 0) (get_or y k 0)) (λ k. get_or (both_out x y) k 0) (λ k lt. sym (both_at x y k))
 
 no-clash-left : (n : ℕ) (g : ℕ → ℕ) → clash (table n (λ k. 0)) (table n g) ≡ false
 unfolding clash
@@ -66,138 +66,138 @@ table-push : {X : Type 0} (w : ℕ) (f : ℕ → X) → table w f ++ f w ∷ [] 
 table-push zero f = refl
 table-push (suc w) f = ap (λ xs. f 0 ∷ xs) (table-push w (λ k. f (suc k)))
 
-map-drop : {X Y : Type 0} (f : X → Y) (i : ℕ) (xs : List X) → map f (dropAt i xs) ≡ dropAt i (map f xs)
-unfolding dropAt
+map-drop : {X Y : Type 0} (f : X → Y) (i : ℕ) (xs : List X) → map f (without_at i xs) ≡ without_at i (map f xs)
+unfolding without_at
 map-drop f i [] = refl
 map-drop f zero (x ∷ xs) = refl
 map-drop f (suc i) (x ∷ xs) = ap (λ ys. f x ∷ ys) (map-drop f i xs)
 
-drop-long : {X : Type 0} (i : ℕ) (xs : List X) → i < length xs → length (dropAt i xs) + 1 ≡ length xs
-unfolding dropAt
+drop-long : {X : Type 0} (i : ℕ) (xs : List X) → i < length xs → length (without_at i xs) + 1 ≡ length xs
+unfolding without_at
 drop-long i [] h = absurd (omega arith)
 drop-long zero (x ∷ xs) h = omega arith
-drop-long (suc i) (x ∷ xs) h = let e : length (dropAt i xs) + 1 ≡ length xs = drop-long i xs (omega arith) in omega arith
+drop-long (suc i) (x ∷ xs) h = let e : length (without_at i xs) + 1 ≡ length xs = drop-long i xs (omega arith) in omega arith
 
 -- a node taken out of a layer, and the place that is left at the end
-drop-table : (w hi : ℕ) (M : Layer) → hi < length M → length M ≤ w → dropAt hi (table w (arcsAt M)) ++ arcsAt [] 0 ∷ [] ≡ table w (arcsAt (dropAt hi M))
-unfolding dropAt
+drop-table : (w hi : ℕ) (M : Layer) → hi < length M → length M ≤ w → without_at hi (table w (arcs_at M)) ++ arcs_at [] 0 ∷ [] ≡ table w (arcs_at (without_at hi M))
+unfolding without_at
 drop-table w hi [] h le = absurd (omega arith)
 drop-table zero hi (nd ∷ M) h le = absurd (omega arith)
 drop-table (suc w) zero (nd ∷ M) h le =
-    ap (λ (x : Outs). table w (arcsAt M) ++ record { to = padded x } ∷ []) (sym (get_or_past M w [] (omega arith))) ∙ table-push w (arcsAt M)
-drop-table (suc w) (suc hi) (nd ∷ M) h le = ap (λ xs. arcsAt (nd ∷ M) 0 ∷ xs) (drop-table w hi M (omega arith) (omega arith))
+    ap (λ (x : Outs). table w (arcs_at M) ++ record { to = padded x } ∷ []) (sym (get_or_past M w [] (omega arith))) ∙ table-push w (arcs_at M)
+drop-table (suc w) (suc hi) (nd ∷ M) h le = ap (λ xs. arcs_at (nd ∷ M) 0 ∷ xs) (drop-table w hi M (omega arith) (omega arith))
 
 -- another node at a place of a layer
-set-table : (w lo : ℕ) (M : Layer) (nd : Outs) → lo < length M → length M ≤ w → set (table w (arcsAt M)) lo (record { to = padded nd }) ≡ table w (arcsAt (set M lo nd))
-set-table w lo M nd lt le = table-list w (arcsAt (set M lo nd)) (set (table w (arcsAt M)) lo new) (length-set (table w (arcsAt M)) lo new ∙ table-long w (arcsAt M)) (λ k d k<w. ⊎_elim
-    (λ (e : k ≡ lo). ap (λ (i : ℕ). get_or (set (table w (arcsAt M)) lo new) i d) e ∙ get_or-set_same (table w (arcsAt M)) lo new d (omega (arith, table-long w (arcsAt M)))
+set-table : (w lo : ℕ) (M : Layer) (nd : Outs) → lo < length M → length M ≤ w → set (table w (arcs_at M)) lo (record { to = padded nd }) ≡ table w (arcs_at (set M lo nd))
+set-table w lo M nd lt le = table-list w (arcs_at (set M lo nd)) (set (table w (arcs_at M)) lo new) (length-set (table w (arcs_at M)) lo new ∙ table-long w (arcs_at M)) (λ k d k<w. ⊎_elim
+    (λ (e : k ≡ lo). ap (λ (i : ℕ). get_or (set (table w (arcs_at M)) lo new) i d) e ∙ get_or-set_same (table w (arcs_at M)) lo new d (omega (arith, table-long w (arcs_at M)))
     ∙ ap (λ (x : Outs). record { to = padded x }) (sym (ap (node (set M lo nd)) e ∙ get_or-set_same M lo nd [] lt)))
-    (λ (ne : k ≢ lo). get_or-set_other (table w (arcsAt M)) lo k new d ne ∙ table_at w k (arcsAt M) d k<w ∙ ap (λ (x : Outs). record { to = padded x }) (sym (get_or-set_other M lo k nd [] ne)))
+    (λ (ne : k ≢ lo). get_or-set_other (table w (arcs_at M)) lo k new d ne ∙ table_at w k (arcs_at M) d k<w ∙ ap (λ (x : Outs). record { to = padded x }) (sym (get_or-set_other M lo k nd [] ne)))
     (cases_eq k lo))
   where
     new : Arcs
     new = record { to = padded nd }
 
 -- one layer more before them
-joins-deeper : (lo hi d : ℕ) (L : Layer) (Ls : Net) → joinAt (suc d) lo hi (L ∷ Ls) ≡ L ∷ joinAt d lo hi Ls
-unfolding joinAt
+joins-deeper : (lo hi d : ℕ) (L : Layer) (Ls : Net) → join_at (suc d) lo hi (L ∷ Ls) ≡ L ∷ join_at d lo hi Ls
+unfolding join_at
 joins-deeper lo hi d L Ls = refl
 
 module _ {S V : Type 0} where
   -- ---- lengths
-  layer-long : (lo hi : ℕ) (us : List (Node S V)) (z : Node S V) → hi < length us → length (joinedLayer lo hi us z) ≡ length us
-  unfolding joinedLayer
+  layer-long : (lo hi : ℕ) (us : List (Node S V)) (z : Node S V) → hi < length us → length (joined_layer lo hi us z) ≡ length us
+  unfolding joined_layer
   layer-long lo hi us z lt =
-      let x = joinedNode (get_or us lo z) (get_or us hi z) in
-      length_push (dropAt hi (set us lo x)) z ∙ drop-long hi (set us lo x) (omega (arith, length-set us lo x)) ∙ length-set us lo x
+      let x = joined_node (get_or us lo z) (get_or us hi z) in
+      length_push (without_at hi (set us lo x)) z ∙ drop-long hi (set us lo x) (omega (arith, length-set us lo x)) ∙ length-set us lo x
 
-  second-tail : (w lo hi n : ℕ) (z : Node S V) (ys : List (Node S V)) → w + w ≤ length ys → hi < w → w + w ≤ n → drop n (joinedSecond w lo hi ys z) ≡ drop n ys
-  unfolding joinedSecond
+  second-tail : (w lo hi n : ℕ) (z : Node S V) (ys : List (Node S V)) → w + w ≤ length ys → hi < w → w + w ≤ n → drop n (joined_second w lo hi ys z) ≡ drop n ys
+  unfolding joined_second
   second-tail w lo hi n z ys le lt more =
-      let A = map (movedNode lo hi) (take w ys) in
+      let A = map (moved_node lo hi) (take w ys) in
       let vs = take w (drop w ys) in
-      let B = joinedLayer lo hi vs z in
+      let B = joined_layer lo hi vs z in
       let C = drop w (drop w ys) in
       let k = n - (w + w) in
       let e : n ≡ w + (w + k) = omega arith in
-      let many : length A ≡ w = length-map (take w ys) (movedNode lo hi) ∙ length-take-le w ys (omega arith) in
+      let many : length A ≡ w = length-map (take w ys) (moved_node lo hi) ∙ length-take-le w ys (omega arith) in
       let wide : length vs ≡ w = length-take-le w (drop w ys) (omega (arith, length-drop w ys)) in
       let more : length B ≡ w = layer-long lo hi vs z (omega arith) ∙ wide in
       ap (λ (i : ℕ). drop i (A ++ (B ++ C))) e ∙ sym (drop-drop (w + k) w (A ++ (B ++ C))) ∙ ap (drop (w + k)) (drop_at A (B ++ C) w many)
       ∙ sym (drop-drop k w (B ++ C)) ∙ ap (drop k) (drop_at B C w more)
       ∙ drop-drop k w (drop w ys) ∙ drop-drop (w + k) w ys ∙ ap (λ (i : ℕ). drop i ys) (sym e)
 
-  second-long : (w lo hi : ℕ) (z : Node S V) (ys : List (Node S V)) → w + w ≤ length ys → hi < w → length (joinedSecond w lo hi ys z) ≡ length ys
-  unfolding joinedSecond
+  second-long : (w lo hi : ℕ) (z : Node S V) (ys : List (Node S V)) → w + w ≤ length ys → hi < w → length (joined_second w lo hi ys z) ≡ length ys
+  unfolding joined_second
   second-long w lo hi z ys le lt =
-      let A = map (movedNode lo hi) (take w ys) in
+      let A = map (moved_node lo hi) (take w ys) in
       let vs = take w (drop w ys) in
-      let B = joinedLayer lo hi vs z in
+      let B = joined_layer lo hi vs z in
       let C = drop w (drop w ys) in
-      let many : length A ≡ w = length-map (take w ys) (movedNode lo hi) ∙ length-take-le w ys (omega arith) in
+      let many : length A ≡ w = length-map (take w ys) (moved_node lo hi) ∙ length-take-le w ys (omega arith) in
       let wide : length vs ≡ w = length-take-le w (drop w ys) (omega (arith, length-drop w ys)) in
       let more : length B ≡ w = layer-long lo hi vs z (omega arith) ∙ wide in
       omega (arith, length-append A (B ++ C), length-append B C, length-drop w (drop w ys), length-drop w ys)
 
   pub join-tail : (w d lo hi : ℕ) (z : Node S V) (Ls : Net) (xs : List (Node S V)) → suc d < length Ls → hi < w → length Ls * w + 1 ≤ length xs
-      → drop (length Ls * w + 1) (take (d * w) xs ++ joinedSecond w lo hi (drop (d * w) xs) z) ≡ drop (length Ls * w + 1) xs
+      → drop (length Ls * w + 1) (take (d * w) xs ++ joined_second w lo hi (drop (d * w) xs) z) ≡ drop (length Ls * w + 1) xs
   join-tail w d lo hi z Ls xs deep lt le =
       let fit = two-fit w d (length Ls) deep in
       let n = length Ls * w + 1 - d * w in
-      later-stays (λ ys. joinedSecond w lo hi ys z) (d * w) n (length Ls * w + 1) xs (omega arith) (omega arith)
+      later-stays (λ ys. joined_second w lo hi ys z) (d * w) n (length Ls * w + 1) xs (omega arith) (omega arith)
       (second-tail w lo hi n z (drop (d * w) xs) (omega (arith, length-drop (d * w) xs)) lt (omega arith))
 
   pub join-length : (w d lo hi : ℕ) (z : Node S V) (Ls : Net) (xs : List (Node S V)) → suc d < length Ls → hi < w → length Ls * w + 1 ≤ length xs
-      → length (take (d * w) xs ++ joinedSecond w lo hi (drop (d * w) xs) z) ≡ length xs
+      → length (take (d * w) xs ++ joined_second w lo hi (drop (d * w) xs) z) ≡ length xs
   join-length w d lo hi z Ls xs deep lt le =
       let fit = two-fit w d (length Ls) deep in
-      long-stays (λ ys. joinedSecond w lo hi ys z) (d * w) xs (second-long w lo hi z (drop (d * w) xs) (omega (arith, length-drop (d * w) xs)) lt)
+      long-stays (λ ys. joined_second w lo hi ys z) (d * w) xs (second-long w lo hi z (drop (d * w) xs) (omega (arith, length-drop (d * w) xs)) lt)
 
   -- ---- the arcs
-  layer-arranged : (w lo hi : ℕ) (z : Node S V) (M : Layer) (us : List (Node S V)) → lo < hi → hi < length M → length M ≤ w → z.arcs ≡ arcsAt [] 0 → map arcsOf us ≡ table w (arcsAt M)
-      → map arcsOf (joinedLayer lo hi us z) ≡ table w (arcsAt (dropAt hi (set M lo (bothOut (node M lo) (node M hi)))))
-  unfolding joinedLayer joinedNode
+  layer-arranged : (w lo hi : ℕ) (z : Node S V) (M : Layer) (us : List (Node S V)) → lo < hi → hi < length M → length M ≤ w → z.arcs ≡ arcs_at [] 0 → map arcs_of us ≡ table w (arcs_at M)
+      → map arcs_of (joined_layer lo hi us z) ≡ table w (arcs_at (without_at hi (set M lo (both_out (node M lo) (node M hi)))))
+  unfolding joined_layer joined_node
   layer-arranged w lo hi z M us lt in' le bare e =
-      let x = joinedNode (get_or us lo z) (get_or us hi z) in
-      let nd = bothOut (node M lo) (node M hi) in
-      let both : bothOut (targets (get_or us lo z)) (targets (get_or us hi z)) ≡ padded nd =
-      ap₂ bothOut (targets-arranged w M us lo z e (omega arith)) (targets-arranged w M us hi z e (omega arith)) ∙ both-padded (node M lo) (node M hi) in
+      let x = joined_node (get_or us lo z) (get_or us hi z) in
+      let nd = both_out (node M lo) (node M hi) in
+      let both : both_out (targets (get_or us lo z)) (targets (get_or us hi z)) ≡ padded nd =
+      ap₂ both_out (targets-arranged w M us lo z e (omega arith)) (targets-arranged w M us hi z e (omega arith)) ∙ both-padded (node M lo) (node M hi) in
       let is : x.arcs ≡ record { to = padded nd } = ap (λ (ts : List ℕ). record { to = ts }) both in
-      map_push arcsOf (dropAt hi (set us lo x)) z
+      map_push arcs_of (without_at hi (set us lo x)) z
       ∙ ap₂ (λ (xs : List Arcs) (a : Arcs). xs ++ a ∷ [])
-      (map-drop arcsOf hi (set us lo x) ∙ ap (dropAt hi) (map-set arcsOf us lo x ∙ ap₂ (λ (xs : List Arcs) (a : Arcs). set xs lo a) e is ∙ set-table w lo M nd (omega arith) le))
+      (map-drop arcs_of hi (set us lo x) ∙ ap (without_at hi) (map-set arcs_of us lo x ∙ ap₂ (λ (xs : List Arcs) (a : Arcs). set xs lo a) e is ∙ set-table w lo M nd (omega arith) le))
       bare
       ∙ drop-table w hi (set M lo nd) (omega (arith, length-set M lo nd)) (omega (arith, length-set M lo nd))
 
-  join_first : (w lo hi : ℕ) (z : Node S V) (Ls : Net) (ys : List (Node S V)) → Good w Ls → 1 < length Ls → lo < hi → hi < length (get_or Ls 1 []) → z.arcs ≡ arcsAt [] 0
-      → Arranged w Ls ys → Arranged w (joinAt 0 lo hi Ls) (joinedSecond w lo hi ys z)
-  unfolding joinAt joinedSecond movedNode movedTo
+  join_first : (w lo hi : ℕ) (z : Node S V) (Ls : Net) (ys : List (Node S V)) → Good w Ls → 1 < length Ls → lo < hi → hi < length (get_or Ls 1 []) → z.arcs ≡ arcs_at [] 0
+      → Arranged w Ls ys → Arranged w (join_at 0 lo hi Ls) (joined_second w lo hi ys z)
+  unfolding join_at joined_second moved_node moved_to
   join_first w lo hi z [] ys good deep lt in' bare arr = absurd (omega arith)
   join_first w lo hi z (L ∷ []) ys good deep lt in' bare arr = absurd (omega arith)
   join_first w lo hi z (L ∷ M ∷ Ls) ys good deep lt in' bare arr =
       let us = take w ys in
       let vs = take w (drop w ys) in
-      let A = map (movedNode lo hi) us in
-      let B = joinedLayer lo hi vs z in
+      let A = map (moved_node lo hi) us in
+      let B = joined_layer lo hi vs z in
       let C = drop w (drop w ys) in
       let room : length M ≤ w = good.3.1 in
-      let many : length A ≡ w = length-map us (movedNode lo hi) ∙ arranged-long w L us arr.0 in
+      let many : length A ≡ w = length-map us (moved_node lo hi) ∙ arranged-long w L us arr.0 in
       let wide : length vs ≡ w = arranged-long w M vs arr.1.0 in
       let more : length B ≡ w = layer-long lo hi vs z (omega arith) ∙ wide in
       let back : drop w (A ++ (B ++ C)) ≡ B ++ C = drop_at A (B ++ C) w many in (
-        ap (map arcsOf) (take_at A (B ++ C) w many) ∙ redirect-arranged w L us (λ u. movedTo lo hi) (λ a j b. suc (moved lo hi b)) good.1 arr.0 (λ x a j b less t. refl),
+        ap (map arcs_of) (take_at A (B ++ C) w many) ∙ redirect-arranged w L us (λ u. moved_to lo hi) (λ a j b. suc (moved lo hi b)) good.1 arr.0 (λ x a j b less t. refl),
         (
-          ap (λ zs. map arcsOf (take w zs)) back ∙ ap (map arcsOf) (take_at B C w more) ∙ layer-arranged w lo hi z M vs lt in' room bare arr.1.0,
+          ap (λ zs. map arcs_of (take w zs)) back ∙ ap (map arcs_of) (take_at B C w more) ∙ layer-arranged w lo hi z M vs lt in' room bare arr.1.0,
           subst (Arranged w Ls) (sym (ap (drop w) back ∙ drop_at B C w more)) arr.1.1,
         ),
       )
 
   -- the records of the net, joined, are those of the joined net
   pub join-arranged : (w d lo hi : ℕ) (z : Node S V) (Ls : Net) (xs : List (Node S V))
-      → Good w Ls → suc d < length Ls → lo < hi → hi < length (get_or Ls (suc d) []) → z.arcs ≡ arcsAt [] 0 → Arranged w Ls xs → length Ls * w + 1 ≤ length xs
-      → Arranged w (joinAt d lo hi Ls) (take (d * w) xs ++ joinedSecond w lo hi (drop (d * w) xs) z)
+      → Good w Ls → suc d < length Ls → lo < hi → hi < length (get_or Ls (suc d) []) → z.arcs ≡ arcs_at [] 0 → Arranged w Ls xs → length Ls * w + 1 ≤ length xs
+      → Arranged w (join_at d lo hi Ls) (take (d * w) xs ++ joined_second w lo hi (drop (d * w) xs) z)
   join-arranged w d lo hi z Ls xs good deep lt in' bare arr le =
       let Ks = drop d Ls in
       let second : get_or Ls (suc d) [] ≡ get_or Ks 1 [] = (let e : suc d ≡ d + 1 = omega arith in ap (λ (i : ℕ). get_or Ls i []) e ∙ sym (get_or-drop d Ls 1 [])) in
-      at-depth w (λ d. joinAt d lo hi) (λ ys. joinedSecond w lo hi ys z) (joins-deeper lo hi) d Ls xs (omega arith) arr
+      at-depth w (λ d. join_at d lo hi) (λ ys. joined_second w lo hi ys z) (joins-deeper lo hi) d Ls xs (omega arith) arr
       (join_first w lo hi z Ks (drop (d * w) xs) (good-drop w d Ls good) (omega (arith, length-drop d Ls)) lt (subst (λ (L : Layer). hi < length L) second in') bare)

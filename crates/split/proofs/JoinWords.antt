@@ -9,19 +9,19 @@ use Rattle.tallies.specs.Tallies.{TallySense}
 use Rattle.layers.specs.declared.node.Node.{Node}
 use Rattle.layers.specs.declared.refusal.Refusal.{Refusal}
 use Rattle.layers.specs.Refusals.{number_of}
-use Rattle.layers.specs.Flow.{Net, node, clash, joinAt}
+use Rattle.layers.specs.Flow.{Net, node, clash, join_at}
 use Rattle.layers.specs.Records.{padded}
-use Rattle.layers.specs.Calls.{arcs, layer, relaid, badNode, joinAnswer, joined}
+use Rattle.layers.specs.Calls.{arcs, layer, relaid, bad_node, join_answer, joined}
 use Rattle.layers.specs.Shape.{Shaped, Timely}
 use Rattle.layers.specs.Targets.{targets}
 use Rattle.layers.proofs.Shaped.{relaid-shaped}
 use Rattle.layers.proofs.Timely.{relaid-timely}
 use Rattle.layers.proofs.Proper.{Proper, proper-join}
-use Rattle.labels.specs.Passes.{part, blankNode, relabelled}
+use Rattle.labels.specs.Passes.{part, blank_node, relabelled}
 use Rattle.labels.proofs.Overs.{get_d_part}
 use Rattle.labels.proofs.RedirectNet.{targets-arranged}
 use Rattle.labels.proofs.Shaped_arranged.{proper-good}
-use Rattle.split.specs.Steps.{nodeCode, pairCode, or_else, countAt, clashAt, joinedOne, joinCode, joinSteps}
+use Rattle.split.specs.Steps.{node_code, pair_code, or_else, node_count, clash_at, joined_one, join_code, join_steps}
 use Rattle.split.specs.Words.{JoinDone}
 use Rattle.split.proofs.Asking.{join-clear}
 use Rattle.split.proofs.Codes.{else-cond, place_is, same_code}
@@ -48,19 +48,19 @@ two-within a b m la lb ha hb = ⊎_elim
 
 module _ {S V : Type 0} (r : Round) (R : RuleSense S) (T : TallySense V) (W i a b : ℕ) (xs : List (Node S V)) where
   abbrev z : Node S V
-  z = blankNode r R T
+  z = blank_node r R T
 
   module _ (some : 1 ≤ W) (few : W ≤ 128) (fit : r.n * W + 1 ≤ length xs) (s : Shaped r.n W xs) where
-    count_same : 1 ≤ i → i < r.n → countAt ((i - 1) * W + W) W xs ≡ length (layer r.n W i xs)
+    count_same : 1 ≤ i → i < r.n → node_count ((i - 1) * W + W) W xs ≡ length (layer r.n W i xs)
     count_same low high = let back : suc (i - 1) ≡ i = omega arith in count-layer r.n W xs (i - 1) (omega arith) ∙ ap (λ (k : ℕ). length (layer r.n W k xs)) back
 
-    node-within : (c : ℕ) → 1 ≤ i → i < r.n → badNode r R T W i c xs ≡ false → (1 ≤ c) × (c ≤ W)
+    node-within : (c : ℕ) → 1 ≤ i → i < r.n → bad_node r R T W i c xs ≡ false → (1 ≤ c) × (c ≤ W)
     node-within c low high ok =
         let n = or_parts (ltb c 1) (ltb (length (layer r.n W i xs)) c) ok in
         let le : c ≤ length (layer r.n W i xs) = ltb-false (length (layer r.n W i xs)) c n.1 in
         (ltb-false c 1 n.0, omega (arith, count_same low high, count_most ((i - 1) * W + W) W xs))
 
-    both-within : 1 ≤ i → i < r.n → badNode r R T W i a xs ≡ false → badNode r R T W i b xs ≡ false → (1 ≤ min a b) × (max a b ≤ W) × (min a b ≤ W) × (1 ≤ max a b)
+    both-within : 1 ≤ i → i < r.n → bad_node r R T W i a xs ≡ false → bad_node r R T W i b xs ≡ false → (1 ≤ min a b) × (max a b ≤ W) × (min a b ≤ W) × (1 ≤ max a b)
     both-within low high oka okb =
         let x = node-within a low high oka in
         let y = node-within b low high okb in
@@ -78,7 +78,7 @@ module _ {S V : Type 0} (r : Round) (R : RuleSense S) (T : TallySense V) (W i a 
         ∙ targets-arranged W (get_or Ls i []) (part (i * W) W xs) (c - 1) z (arranged-at W i Ls xs (omega (arith, k.proper.deep)) k.arranged) (omega arith)
 
     clash-same : 1 ≤ i → i < r.n → 1 ≤ min a b → max a b ≤ W → min a b ≤ W → 1 ≤ max a b
-        → clashAt z ((i - 1) * W + W) a b xs ≡ clash (node (get_or (arcs r.n W xs) i []) (min a b - 1)) (node (get_or (arcs r.n W xs) i []) (max a b - 1))
+        → clash_at z ((i - 1) * W + W) a b xs ≡ clash (node (get_or (arcs r.n W xs) i []) (min a b - 1)) (node (get_or (arcs r.n W xs) i []) (max a b - 1))
     clash-same low high lo hi lo' hi' =
         let L = get_or (arcs r.n W xs) i [] in
         let k = known-shaped r R T W xs some fit s (i - 1) (omega arith) in
@@ -86,27 +86,27 @@ module _ {S V : Type 0} (r : Round) (R : RuleSense S) (T : TallySense V) (W i a 
         ∙ clash-padded (node L (min a b - 1)) (node L (max a b - 1)) (node-few r W i (arcs r.n W xs) k.proper (min a b - 1))
 
     -- the answer
-    pub join-answer : joinCode r.n z W i a b xs ≡ joinAnswer r R T W i a b xs
-    unfolding joinCode joinAnswer
+    pub join-answer : join_code r.n z W i a b xs ≡ join_answer r R T W i a b xs
+    unfolding join_code join_answer
     join-answer =
-        let m = countAt ((i - 1) * W + W) W xs in
-        let X : ℕ → ℕ = λ m. or_else (nodeCode m a) (or_else (nodeCode m b) (pairCode (eqb a b) (clashAt z ((i - 1) * W + W) a b xs))) in
+        let m = node_count ((i - 1) * W + W) W xs in
+        let X : ℕ → ℕ = λ m. or_else (node_code m a) (or_else (node_code m b) (pair_code (eqb a b) (clash_at z ((i - 1) * W + W) a b xs))) in
         ap (λ (k : ℕ). or_else k (X m)) (place_is r.n W (length xs) i some few fit)
         ∙ else-cond (ltb i 1 || leb r.n i) 19 (X m) _
         (λ q.
         let low = ltb-false i 1 (or_parts _ _ q).0 in
         let high = leb-false r.n i (or_parts _ _ q).1 in
         ap X (count_same low high)
-        ∙ either-one (badNode r R T W i a xs) (badNode r R T W i b xs) 20 (pairCode (eqb a b) (clashAt z ((i - 1) * W + W) a b xs))
-        ∙ when-none (badNode r R T W i a xs || badNode r R T W i b xs) 21 _ _
-        (λ ok. let t = both-within low high (or_parts _ _ ok).0 (or_parts _ _ ok).1 in ap (pairCode (eqb a b)) (clash-same low high t.0 t.1 t.2 t.3)))
+        ∙ either-one (bad_node r R T W i a xs) (bad_node r R T W i b xs) 20 (pair_code (eqb a b) (clash_at z ((i - 1) * W + W) a b xs))
+        ∙ when-none (bad_node r R T W i a xs || bad_node r R T W i b xs) 21 _ _
+        (λ ok. let t = both-within low high (or_parts _ _ ok).0 (or_parts _ _ ok).1 in ap (pair_code (eqb a b)) (clash-same low high t.0 t.1 t.2 t.3)))
 
     -- what it does
     abbrev new : Net
-    new = joinAt (i - 1) (min a b - 1) (max a b - 1) (arcs r.n W xs)
+    new = join_at (i - 1) (min a b - 1) (max a b - 1) (arcs r.n W xs)
 
-    join-made : joinCode r.n z W i a b xs ≡ 0 → Proper r.n W new × (relabelled r R T W (joinedOne r R T ((i - 1) * W) W (min a b - 1) (max a b - 1) xs) ≡ relaid r R T W xs new)
-    unfolding joinedOne
+    join-made : join_code r.n z W i a b xs ≡ 0 → Proper r.n W new × (relabelled r R T W (joined_one r R T ((i - 1) * W) W (min a b - 1) (max a b - 1) xs) ≡ relaid r R T W xs new)
+    unfolding joined_one
     join-made e =
         let q = join-clear r.n z W i a b xs e in
         let low = q.placed.low in
@@ -118,7 +118,7 @@ module _ {S V : Type 0} (r : Round) (R : RuleSense S) (T : TallySense V) (W i a 
         let k = known-shaped r R T W xs some fit s d (omega arith) in
         let deep : suc d < length Ls = omega (arith, k.proper.deep) in
         let back : i ≡ suc d = omega arith in
-        let m = countAt (d * W + W) W xs in
+        let m = node_count (d * W + W) W xs in
         let em : m ≡ length (get_or Ls (suc d) []) = count_long r.n W xs d (omega arith) in
         let top = count_most (d * W + W) W xs in
         let order : lo < hi = omega (arith, q.low, q.apart) in
@@ -127,7 +127,7 @@ module _ {S V : Type 0} (r : Round) (R : RuleSense S) (T : TallySense V) (W i a 
         let clear : clash (node (get_or Ls (suc d) []) lo) (node (get_or Ls (suc d) []) hi) ≡ false =
         sym (clash-same low high q.low (omega (arith, q.high)) (omega (arith, q.high, q.apart)) (omega (arith, q.low, q.apart)) ∙ ap (λ (j : ℕ). clash (node (get_or Ls j []) lo) (node (get_or Ls j []) hi)) back) ∙ q.calm in
         let same : r.n * W + 1 ≡ length Ls * W + 1 = ap (λ (j : ℕ). j * W + 1) (sym k.proper.deep) in
-        let ys = joinedOne r R T (d * W) W lo hi xs in
+        let ys = joined_one r R T (d * W) W lo hi xs in
         let p : Proper r.n W new = proper-join r R T W some d lo hi Ls order inside clear k.proper in
         let made : relabelled r R T W ys ≡ relaid r R T W xs new =
         relaid-same r R T W xs ys new p
@@ -135,27 +135,27 @@ module _ {S V : Type 0} (r : Round) (R : RuleSense S) (T : TallySense V) (W i a 
         (ap (λ (j : ℕ). drop j ys) same ∙ join-tail W d lo hi z Ls xs deep (omega (arith, q.high, q.low, q.apart)) long ∙ ap (λ (j : ℕ). drop j xs) (sym same)) in
         (p, made)
 
-    pub join-words : joinSteps r R T W i a b xs ≡ joined r R T W i a b xs
-    unfolding joinSteps joined
-    join-words = same_code (joinCode r.n z W i a b xs) (joinAnswer r R T W i a b xs) _ _ xs join-answer (λ e. (join-made e).1)
+    pub join-words : join_steps r R T W i a b xs ≡ joined r R T W i a b xs
+    unfolding join_steps joined
+    join-words = same_code (join_code r.n z W i a b xs) (join_answer r R T W i a b xs) _ _ xs join-answer (λ e. (join-made e).1)
 
     -- the shape stays
-    pub join-shaped : Shaped r.n W (joinSteps r R T W i a b xs)
-    unfolding joinSteps
-    join-shaped = cond_both (eqb (joinCode r.n z W i a b xs) 0) _ xs (Shaped r.n W)
-        (λ e. let q = join-made (eqb-true (joinCode r.n z W i a b xs) 0 e) in subst (Shaped r.n W) (sym q.1) (relaid-shaped r R T W some xs new q.0))
+    pub join-shaped : Shaped r.n W (join_steps r R T W i a b xs)
+    unfolding join_steps
+    join-shaped = cond_both (eqb (join_code r.n z W i a b xs) 0) _ xs (Shaped r.n W)
+        (λ e. let q = join-made (eqb-true (join_code r.n z W i a b xs) 0 e) in subst (Shaped r.n W) (sym q.1) (relaid-shaped r R T W some xs new q.0))
         (λ e. s)
 
     -- and no finish gets late
-    pub join-timely : Timely r.n W xs → Timely r.n W (joinSteps r R T W i a b xs)
-    unfolding joinSteps
-    join-timely t = cond_both (eqb (joinCode r.n z W i a b xs) 0) _ xs (Timely r.n W)
-        (λ e. let q = join-made (eqb-true (joinCode r.n z W i a b xs) 0 e) in subst (Timely r.n W) (sym q.1) (relaid-timely r R T W xs new q.0.deep))
+    pub join-timely : Timely r.n W xs → Timely r.n W (join_steps r R T W i a b xs)
+    unfolding join_steps
+    join-timely t = cond_both (eqb (join_code r.n z W i a b xs) 0) _ xs (Timely r.n W)
+        (λ e. let q = join-made (eqb-true (join_code r.n z W i a b xs) 0 e) in subst (Timely r.n W) (sym q.1) (relaid-timely r R T W xs new q.0.deep))
         (λ e. t)
 
 -- the clause
 pub join-said : {S V A : Type 0} (r : Round) (R : RuleSense S) (T : TallySense V) (W i a b : ℕ) (xs ys : List (Node S V)) (o : Result A Refusal)
-    → MatchResult o (λ _. joinCode r.n (blankNode r R T) W i a b xs ≡ 0) (λ e. joinCode r.n (blankNode r R T) W i a b xs ≡ number_of e) → ys ≡ joinSteps r R T W i a b xs → JoinDone r R T W xs i a b o ys
+    → MatchResult o (λ _. join_code r.n (blank_node r R T) W i a b xs ≡ 0) (λ e. join_code r.n (blank_node r R T) W i a b xs ≡ number_of e) → ys ≡ join_steps r R T W i a b xs → JoinDone r R T W xs i a b o ys
 join-said r R T W i a b xs ys o said made s =
     let same = join-answer r R T W i a b xs s.some s.few s.fit s.shaped in
     (MatchResult-weaker o said (λ x e. sym same ∙ e) (λ x e. sym same ∙ e), made ∙ join-words r R T W i a b xs s.some s.few s.fit s.shaped)

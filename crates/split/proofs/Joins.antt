@@ -5,9 +5,9 @@ use Rattle.std.specs.List.{range_with_len, list_any, zip}
 use Rattle.std.proofs.lemmas.List.FromFn.{fill_by_all}
 use Rattle.std.proofs.lemmas.Bool.{eq-eqb, ne_eqb, lt-ltb, le-ltb}
 use Rattle.layers.specs.declared.node.Node.{Node}
-use Rattle.layers.specs.Flow.{apart_t, clash, pickT, bothOut, moved, dropAt}
-use Rattle.layers.specs.Targets.{targets, withTargets, atDoor}
-use Rattle.split.specs.Joined.{movedTo, joinedNode}
+use Rattle.layers.specs.Flow.{apart_t, clash, either_target, both_out, moved, without_at}
+use Rattle.layers.specs.Targets.{targets, with_targets, at_door}
+use Rattle.split.specs.Joined.{moved_to, joined_node}
 use Rattle.labels.proofs.Redirects.{written}
 
 -- ---- one door
@@ -21,7 +21,7 @@ apart-tested (suc s) zero = ap₂ (λ a b. not a && (not b && not a)) (ne_eqb (s
 apart-tested (suc s) (suc t) =
     ap₂ (λ a b. not a && (not b && not (eqb (suc s) (suc t)))) (ne_eqb (suc s) 0 (omega arith)) (ne_eqb (suc t) 0 (omega arith)) ∙ ap not (eqb-suc-suc s t)
 
-pub pick_some : (s t : ℕ) → s ≢ 0 → s ≡ pickT s t
+pub pick_some : (s t : ℕ) → s ≢ 0 → s ≡ either_target s t
 pick_some zero t some = absurd (some refl)
 pick_some (suc s) t some = refl
 
@@ -36,29 +36,29 @@ pub all-targets : {S V : Type 0} (x : Node S V) → length x.arcs.to ≡ 16 → 
 unfolding targets
 all-targets x long = fill_by_all (λ k. get_or x.arcs.to k 0) x.arcs.to 16 0 long (λ k lt. refl)
 
-both-mapped : (f g : ℕ → ℕ) (ks : List ℕ) → map (λ k. pickT (f k) (g k)) ks ≡ bothOut (map f ks) (map g ks)
-unfolding bothOut
+both-mapped : (f g : ℕ → ℕ) (ks : List ℕ) → map (λ k. either_target (f k) (g k)) ks ≡ both_out (map f ks) (map g ks)
+unfolding both_out
 both-mapped f g [] = refl
-both-mapped f g (k ∷ ks) = ap (λ ts. pickT (f k) (g k) ∷ ts) (both-mapped f g ks)
+both-mapped f g (k ∷ ks) = ap (λ ts. either_target (f k) (g k) ∷ ts) (both-mapped f g ks)
 
 abbrev pub picked : {S V : Type 0} → Node S V → Node S V → ℕ → ℕ
-picked x y k = pickT (get_or x.arcs.to k 0) (get_or y.arcs.to k 0)
+picked x y k = either_target (get_or x.arcs.to k 0) (get_or y.arcs.to k 0)
 
-pub both-made : {S V : Type 0} (x y : Node S V) → withTargets x (written (picked x y) 16) ≡ joinedNode x y
-unfolding joinedNode targets
-both-made x y = ap (withTargets x) (both-mapped (λ k. get_or x.arcs.to k 0) (λ k. get_or y.arcs.to k 0) (range_with_len 0 16))
+pub both-made : {S V : Type 0} (x y : Node S V) → with_targets x (written (picked x y) 16) ≡ joined_node x y
+unfolding joined_node targets
+both-made x y = ap (with_targets x) (both-mapped (λ k. get_or x.arcs.to k 0) (λ k. get_or y.arcs.to k 0) (range_with_len 0 16))
 
 -- ---- numbers, which are places and one
 module _ (lo hi j : ℕ) (some : 1 ≤ lo) (lt : lo < hi) where
-  pub moved_same : (t : ℕ) → t ≡ hi → lo ≡ atDoor (movedTo (lo - 1) (hi - 1)) j t
-  unfolding movedTo moved
+  pub moved_same : (t : ℕ) → t ≡ hi → lo ≡ at_door (moved_to (lo - 1) (hi - 1)) j t
+  unfolding moved_to moved
   moved_same zero e = absurd (omega arith)
   moved_same (suc b) e =
       let back : lo ≡ suc (lo - 1) = omega arith in
       back ∙ ap (λ c. suc (cond c (lo - 1) (cond (ltb (hi - 1) b) (b - 1) b))) (sym (eq-eqb b (hi - 1) (omega arith)))
 
-  pub moved-above : (t : ℕ) → hi < t → t - 1 ≡ atDoor (movedTo (lo - 1) (hi - 1)) j t
-  unfolding movedTo moved
+  pub moved-above : (t : ℕ) → hi < t → t - 1 ≡ at_door (moved_to (lo - 1) (hi - 1)) j t
+  unfolding moved_to moved
   moved-above zero gt = absurd (omega arith)
   moved-above (suc b) gt =
       let back : suc b - 1 ≡ suc (b - 1) = omega arith in
@@ -66,16 +66,16 @@ module _ (lo hi j : ℕ) (some : 1 ≤ lo) (lt : lo < hi) where
       ∙ ap (λ c. suc (cond c (b - 1) b)) (sym (lt-ltb (hi - 1) b (omega arith)))
       ∙ ap (λ c. suc (cond c (lo - 1) (cond (ltb (hi - 1) b) (b - 1) b))) (sym (ne_eqb b (hi - 1) (omega arith)))
 
-  pub moved-below : (t : ℕ) → t < hi → t ≡ atDoor (movedTo (lo - 1) (hi - 1)) j t
-  unfolding movedTo moved
+  pub moved-below : (t : ℕ) → t < hi → t ≡ at_door (moved_to (lo - 1) (hi - 1)) j t
+  unfolding moved_to moved
   moved-below zero less = refl
   moved-below (suc b) less =
       ap (λ c. suc (cond c (b - 1) b)) (sym (le-ltb (hi - 1) b (omega arith)))
       ∙ ap (λ c. suc (cond c (lo - 1) (cond (ltb (hi - 1) b) (b - 1) b))) (sym (ne_eqb b (hi - 1) (omega arith)))
 
 -- ---- taking out one record
-pub dropped : {X : Type 0} (at : ℕ) (xs : List X) → take at xs ++ drop (suc at) xs ≡ dropAt at xs
-unfolding dropAt
+pub dropped : {X : Type 0} (at : ℕ) (xs : List X) → take at xs ++ drop (suc at) xs ≡ without_at at xs
+unfolding without_at
 dropped zero [] = refl
 dropped (suc at) [] = refl
 dropped zero (x ∷ xs) = refl

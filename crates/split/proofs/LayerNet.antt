@@ -9,18 +9,18 @@ use Rattle.layers.specs.declared.node.Node.{Node}
 use Rattle.layers.specs.declared.node.Down.{Down}
 use Rattle.layers.specs.declared.node.Label.{Label}
 use Rattle.layers.specs.Flow.{table, Outs, Layer, Net, node, ins, Even}
-use Rattle.layers.specs.Labels.{arrive, agreeing, headO, leaves}
-use Rattle.layers.specs.Records.{used, standing, arcsIn, downsIn, padded, arcsAt}
-use Rattle.layers.specs.Calls.{partedAt, arrivals as arrivalsIn}
+use Rattle.layers.specs.Labels.{arrive, agreeing, first_arrival, leaves}
+use Rattle.layers.specs.Records.{used, standing, arcs_in, downs_in, padded, arcs_at}
+use Rattle.layers.specs.Calls.{parted_at, arrivals as arrivalsIn}
 use Rattle.layers.proofs.Bridge.{table-long}
 use Rattle.layers.proofs.Flows.{table_at}
 use Rattle.layers.proofs.Proper.{Proper, even-of}
 use Rattle.layers.proofs.Shaped.{standing-at}
-use Rattle.labels.specs.Passes.{part, arrivals, blankNode}
-use Rattle.labels.proofs.Laying.{arcsOf, Arranged, Good}
+use Rattle.labels.specs.Passes.{part, arrivals, blank_node}
+use Rattle.labels.proofs.Laying.{arcs_of, Arranged, Good}
 use Rattle.labels.proofs.RedirectNet.{arcs-arranged}
 use Rattle.labels.proofs.Shaped_arranged.{proper-good}
-use Rattle.split.specs.Steps.{alike, keptFirst, partedOne}
+use Rattle.split.specs.Steps.{alike, kept_first, parted_one}
 use Rattle.split.proofs.ArrivalNet.{arrivals-standing}
 use Rattle.split.proofs.DepthNet.{good-room, two-fit}
 use Rattle.split.proofs.PartNet.{part-arranged, part-tail, part_length, part-labels}
@@ -67,11 +67,11 @@ module _ {S V : Type 0} where
       go false false f here rest = refl
 
   -- and the labels of those
-  downs-labels : (us : List (Node S V)) → downsIn us ≡ map (λ (l : Label S V). Some l.down) (labelsOf us)
+  downs-labels : (us : List (Node S V)) → downs_in us ≡ map (λ (l : Label S V). Some l.down) (labelsOf us)
   downs-labels [] = refl
   downs-labels (u ∷ us) = ap (λ ls. Some u.label.down ∷ ls) (downs-labels us)
 
-  pub downs-same : (us vs : List (Node S V)) → labelsOf us ≡ labelsOf vs → downsIn (standing us) ≡ downsIn (standing vs)
+  pub downs-same : (us vs : List (Node S V)) → labelsOf us ≡ labelsOf vs → downs_in (standing us) ≡ downs_in (standing vs)
   downs-same us vs e = downs-labels (standing us) ∙ ap (map (λ (l : Label S V). Some l.down)) (standing-labels us vs e) ∙ sym (downs-labels (standing vs))
 
   pub stands_same : (us vs : List (Node S V)) → labelsOf us ≡ labelsOf vs → length (standing us) ≡ length (standing vs)
@@ -79,24 +79,24 @@ module _ {S V : Type 0} where
 
   -- ---- one layer
   -- their arcs are the net's
-  pub arcs-standing : (n w : ℕ) (z : Node S V) (L : Layer) (us : List (Node S V)) → n ≤ 16 → ((a : ℕ) → a < length L → length (node L a) ≡ n) → length L ≤ w → map arcsOf us ≡ table w (arcsAt L)
-      → length (standing us) ≡ length L → arcsIn n (standing us) ≡ L
+  pub arcs-standing : (n w : ℕ) (z : Node S V) (L : Layer) (us : List (Node S V)) → n ≤ 16 → ((a : ℕ) → a < length L → length (node L a) ≡ n) → length L ≤ w → map arcs_of us ≡ table w (arcs_at L)
+      → length (standing us) ≡ length L → arcs_in n (standing us) ≡ L
   arcs-standing n w z L us h even room e long =
       let f : Node S V → List ℕ = λ x. take n x.arcs.to in
-      let many : length (arcsIn n (standing us)) ≡ length L = length-map (standing us) f ∙ long in
-      same_lists (arcsIn n (standing us)) L many
+      let many : length (arcs_in n (standing us)) ≡ length L = length-map (standing us) f ∙ long in
+      same_lists (arcs_in n (standing us)) L many
       (λ k d lt.
       get_or-map f (standing us) k z d (omega (arith, many)) ∙ ap f (standing-at us k z (omega (arith, many)))
       ∙ ap (λ (x : Arcs). take n x.to) (arcs-arranged w L us k z e (omega (arith, many)))
       ∙ take-padded n (node L k) h (even k (omega (arith, many))) ∙ get_or_default L k [] d (omega (arith, many)))
 
   -- ---- layer d of the records
-  pub arranged-at : (w d : ℕ) (Ls : Net) (xs : List (Node S V)) → d < length Ls → Arranged w Ls xs → map arcsOf (part (d * w) w xs) ≡ table w (arcsAt (get_or Ls d []))
+  pub arranged-at : (w d : ℕ) (Ls : Net) (xs : List (Node S V)) → d < length Ls → Arranged w Ls xs → map arcs_of (part (d * w) w xs) ≡ table w (arcs_at (get_or Ls d []))
   arranged-at w d [] xs lt arr = absurd (omega arith)
-  arranged-at w zero (L ∷ Ls) xs lt arr = ap (λ (k : ℕ). map arcsOf (take w (drop k xs))) (zero-mul w) ∙ arr.0
+  arranged-at w zero (L ∷ Ls) xs lt arr = ap (λ (k : ℕ). map arcs_of (take w (drop k xs))) (zero-mul w) ∙ arr.0
   arranged-at w (suc d) (L ∷ Ls) xs lt arr =
       let e : suc d * w ≡ w + d * w = omega (arith, suc-mul d w) in
-      ap (λ (k : ℕ). map arcsOf (take w (drop k xs))) e ∙ ap (λ ys. map arcsOf (take w ys)) (sym (drop-drop (d * w) w xs)) ∙ arranged-at w d Ls (drop w xs) (omega arith) arr.1
+      ap (λ (k : ℕ). map arcs_of (take w (drop k xs))) e ∙ ap (λ ys. map arcs_of (take w ys)) (sym (drop-drop (d * w) w xs)) ∙ arranged-at w d Ls (drop w xs) (omega arith) arr.1
 
 -- ---- what is known of the records of the net Ls, with layer d in use as far as the net's has nodes
 module _ {S V : Type 0} (r : Round) (R : RuleSense S) (T : TallySense V) (W d : ℕ) (Ls : Net) (xs : List (Node S V)) where
@@ -111,7 +111,7 @@ module _ {S V : Type 0} (r : Round) (R : RuleSense S) (T : TallySense V) (W d : 
   us = part (d * W) W xs
 
   abbrev pub labs : List (Option (Down S V))
-  labs = downsIn (standing us)
+  labs = downs_in (standing us)
 
   module _ (k : Known) where
     within : suc d < length Ls
@@ -123,12 +123,12 @@ module _ {S V : Type 0} (r : Round) (R : RuleSense S) (T : TallySense V) (W d : 
     long : length Ls * W + 1 ≤ length xs
     long = let e : length Ls * W + 1 ≡ r.n * W + 1 = ap (λ (i : ℕ). i * W + 1) k.proper.deep in omega (arith, k.fit)
 
-    known-arcs : arcsIn r.n (standing us) ≡ get_or Ls d []
-    known-arcs = arcs-standing r.n W (blankNode r R T) (get_or Ls d []) us r.most (even-at r.n d Ls (omega (arith, within)) (even-of r.n Ls k.proper.even)) room (arranged-at W d Ls xs (omega (arith, within)) k.arranged) k.stand
+    known-arcs : arcs_in r.n (standing us) ≡ get_or Ls d []
+    known-arcs = arcs-standing r.n W (blank_node r R T) (get_or Ls d []) us r.most (even-at r.n d Ls (omega (arith, within)) (even-of r.n Ls k.proper.even)) room (arranged-at W d Ls xs (omega (arith, within)) k.arranged) k.stand
 
     -- what arrives
     pub known-standing : (a : ℕ) → arrivals r R T (suc a) us ≡ arrivalsIn r R T (standing us) a
-    known-standing a = arrivals-standing r R T W a us (arranged-at W d Ls xs (omega (arith, within)) k.arranged ∙ ap (λ (L : Layer). table W (arcsAt L)) (sym known-arcs))
+    known-standing a = arrivals-standing r R T W a us (arranged-at W d Ls xs (omega (arith, within)) k.arranged ∙ ap (λ (L : Layer). table W (arcs_at L)) (sym known-arcs))
 
     pub known-arrivals : (a : ℕ) → arrivals r R T (suc a) us ≡ ins (arrive r R T) a labs (get_or Ls d [])
     unfolding arrivalsIn
@@ -138,7 +138,7 @@ module _ {S V : Type 0} (r : Round) (R : RuleSense S) (T : TallySense V) (W d : 
     known_alike a = ap (agreeing r R T) (known-arrivals a)
 
     -- which in-arcs leave
-    kept : (o : Option (Down S V)) (x : Node S V) (u j : ℕ) → u < length (get_or Ls d []) → leaves r R T o (get_or labs u None) j ≡ not (keptFirst r R T o (get_or (drop (d * W) xs) u x).label j)
+    kept : (o : Option (Down S V)) (x : Node S V) (u j : ℕ) → u < length (get_or Ls d []) → leaves r R T o (get_or labs u None) j ≡ not (kept_first r R T o (get_or (drop (d * W) xs) u x).label j)
     kept None x u j lt = refl
     kept (Some y) x u j lt =
         let f : Node S V → Option (Down S V) = λ v. Some v.label.down in
@@ -146,27 +146,27 @@ module _ {S V : Type 0} (r : Round) (R : RuleSense S) (T : TallySense V) (W d : 
         let lt' : u < length (standing us) = omega (arith, k.stand) in
         ap (λ o. leaves r R T (Some y) o j) (get_or-map f (standing us) u x None lt' ∙ ap f (standing-at us u x lt' ∙ get_or-take W (drop (d * W) xs) u x (omega arith)))
 
-    pub known-parted : (a m : ℕ) → m ≡ length (get_or Ls (suc d) []) → a < m → m < W → Arranged W (partedAt r R T d a labs Ls) (partedOne r R T (d * W) W a m xs)
-    unfolding partedOne
+    pub known-parted : (a m : ℕ) → m ≡ length (get_or Ls (suc d) []) → a < m → m < W → Arranged W (parted_at r R T d a labs Ls) (parted_one r R T (d * W) W a m xs)
+    unfolding parted_one
     known-parted a m em al ml =
-        part-arranged r R T (keptFirst r R T (headO r R T (arrivals r R T (suc a) us))) W d a m (blankNode r R T) labs Ls xs (proper-good r W Ls k.proper) within em al ml k.arranged long
-        (λ x u j lt. ap (λ zs. leaves r R T (headO r R T zs) (get_or labs u None) j) (sym (known-arrivals a)) ∙ kept (headO r R T (arrivals r R T (suc a) us)) x u j lt)
+        part-arranged r R T (kept_first r R T (first_arrival r R T (arrivals r R T (suc a) us))) W d a m (blank_node r R T) labs Ls xs (proper-good r W Ls k.proper) within em al ml k.arranged long
+        (λ x u j lt. ap (λ zs. leaves r R T (first_arrival r R T zs) (get_or labs u None) j) (sym (known-arrivals a)) ∙ kept (first_arrival r R T (arrivals r R T (suc a) us)) x u j lt)
 
     -- the places after the end, the length, and the labels of the layer before stay
-    pub known-tail : (a m : ℕ) → m < W → drop (r.n * W + 1) (partedOne r R T (d * W) W a m xs) ≡ drop (r.n * W + 1) xs
-    unfolding partedOne
+    pub known-tail : (a m : ℕ) → m < W → drop (r.n * W + 1) (parted_one r R T (d * W) W a m xs) ≡ drop (r.n * W + 1) xs
+    unfolding parted_one
     known-tail a m ml =
         let e : r.n * W + 1 ≡ length Ls * W + 1 = ap (λ (i : ℕ). i * W + 1) (sym k.proper.deep) in
-        let stays = keptFirst r R T (headO r R T (arrivals r R T (suc a) us)) in
-        let ys = partedOne r R T (d * W) W a m xs in
-        ap (λ (i : ℕ). drop i ys) e ∙ part-tail stays W d a m (blankNode r R T) Ls xs within ml long ∙ ap (λ (i : ℕ). drop i xs) (sym e)
+        let stays = kept_first r R T (first_arrival r R T (arrivals r R T (suc a) us)) in
+        let ys = parted_one r R T (d * W) W a m xs in
+        ap (λ (i : ℕ). drop i ys) e ∙ part-tail stays W d a m (blank_node r R T) Ls xs within ml long ∙ ap (λ (i : ℕ). drop i xs) (sym e)
 
-    pub known-labels : (a m : ℕ) → labelsOf (part (d * W) W (partedOne r R T (d * W) W a m xs)) ≡ labelsOf us
-    unfolding partedOne
+    pub known-labels : (a m : ℕ) → labelsOf (part (d * W) W (parted_one r R T (d * W) W a m xs)) ≡ labelsOf us
+    unfolding parted_one
     known-labels a m =
         let fits = two-fit W d r.n k.deep in
-        part-labels (keptFirst r R T (headO r R T (arrivals r R T (suc a) us))) W d a m (blankNode r R T) xs (omega (arith, k.fit))
+        part-labels (kept_first r R T (first_arrival r R T (arrivals r R T (suc a) us))) W d a m (blank_node r R T) xs (omega (arith, k.fit))
 
-  pub known-length : (a m : ℕ) → length (partedOne r R T (d * W) W a m xs) ≡ length xs
-  unfolding partedOne
-  known-length a m = part_length (keptFirst r R T (headO r R T (arrivals r R T (suc a) us))) W d a m (blankNode r R T) xs
+  pub known-length : (a m : ℕ) → length (parted_one r R T (d * W) W a m xs) ≡ length xs
+  unfolding parted_one
+  known-length a m = part_length (kept_first r R T (first_arrival r R T (arrivals r R T (suc a) us))) W d a m (blank_node r R T) xs

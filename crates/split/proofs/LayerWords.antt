@@ -7,12 +7,12 @@ use Rattle.rules.specs.Rules.{RuleSense}
 use Rattle.tallies.specs.Tallies.{TallySense}
 use Rattle.layers.specs.declared.node.Node.{Node}
 use Rattle.layers.specs.Flow.{Net, node, width, ins}
-use Rattle.layers.specs.Labels.{Lab, firsts, labelsNext, agreeing, arrive}
-use Rattle.layers.specs.Records.{standing, downsIn, arcsRead, laidArcs, laid}
-use Rattle.layers.specs.Calls.{partedAt, arcs, layer, relaid, splits}
+use Rattle.layers.specs.Labels.{Lab, firsts, labels_next, agreeing, arrive}
+use Rattle.layers.specs.Records.{standing, downs_in, arcs_read, laid_arcs, laid}
+use Rattle.layers.specs.Calls.{parted_at, arcs, layer, relaid, splits}
 use Rattle.layers.proofs.Bridge.{labsAt, group_at, part-at, laid-long}
 use Rattle.layers.proofs.Laid.{written, arcs-laid}
-use Rattle.layers.proofs.Model.{part_at, oneGroup, count, parted}
+use Rattle.layers.proofs.Model.{part_at, one_group, count, parted}
 use Rattle.layers.proofs.Places.{layer-at}
 use Rattle.layers.proofs.Proper.{Proper, proper-part, proper-parted}
 use Rattle.layers.proofs.Shaped.{shaped-proper}
@@ -21,7 +21,7 @@ use Rattle.layers.proofs.Tied.{redirect-length}
 use Rattle.layers.proofs.Ways.{length-snoc}
 use Rattle.labels.specs.Passes.{part, relabelled}
 use Rattle.labels.proofs.Laying.{Arranged, arranged-of}
-use Rattle.split.specs.Steps.{placeCode, countAt, alike, partedOne, partsFrom, layerSteps}
+use Rattle.split.specs.Steps.{place_code, node_count, alike, parted_one, parts_from, layer_steps}
 use Rattle.split.specs.Words.{LayerDone}
 use Rattle.split.proofs.Codes.{place_is, clear-done}
 use Rattle.split.proofs.LayerNet.{Known, labs, downs-same, stands_same, known_alike, known-parted, known-tail, known-length, known-labels}
@@ -44,8 +44,8 @@ module _ {S V : Type 0} (r : Round) (R : RuleSense S) (T : TallySense V) (W : �
   labs-stay zero a ls Ls = refl
   labs-stay (suc d) a ls [] = refl
   labs-stay (suc d) a ls (L ∷ Ls) =
-      let ls' = labelsNext r R T ls L (width Ls) in
-      ap (λ (m : ℕ). labsAt r R T W w d (labelsNext r R T ls L m) (part_at r R T d a ls' Ls)) (part-width d a ls' Ls) ∙ labs-stay d a ls' Ls
+      let ls' = labels_next r R T ls L (width Ls) in
+      ap (λ (m : ℕ). labsAt r R T W w d (labels_next r R T ls L m) (part_at r R T d a ls' Ls)) (part-width d a ls' Ls) ∙ labs-stay d a ls' Ls
 
   -- how many nodes it has
   before-stays : (d a : ℕ) (ls : List (Option (Lab r R T))) (Ls : Net) → length (get_or (part_at r R T d a ls Ls) d []) ≡ length (get_or Ls d [])
@@ -54,7 +54,7 @@ module _ {S V : Type 0} (r : Round) (R : RuleSense S) (T : TallySense V) (W : �
   before-stays (suc d) a ls [] = refl
   before-stays zero a ls (L ∷ []) = refl
   before-stays zero a ls (L ∷ M ∷ Ls) = redirect-length _ L
-  before-stays (suc d) a ls (L ∷ Ls) = before-stays d a (labelsNext r R T ls L (width Ls)) Ls
+  before-stays (suc d) a ls (L ∷ Ls) = before-stays d a (labels_next r R T ls L (width Ls)) Ls
 
   -- and its own layer has one more
   after-grows : (d a : ℕ) (ls : List (Option (Lab r R T))) (Ls : Net) → suc d < length Ls → length (get_or (part_at r R T d a ls Ls) (suc d) []) ≡ suc (length (get_or Ls (suc d) []))
@@ -63,7 +63,7 @@ module _ {S V : Type 0} (r : Round) (R : RuleSense S) (T : TallySense V) (W : �
   after-grows (suc d) a ls [] lt = absurd (omega arith)
   after-grows zero a ls (L ∷ []) lt = absurd (omega arith)
   after-grows zero a ls (L ∷ M ∷ Ls) lt = length-snoc M (node M a)
-  after-grows (suc d) a ls (L ∷ Ls) lt = after-grows d a (labelsNext r R T ls L (width Ls)) Ls (omega arith)
+  after-grows (suc d) a ls (L ∷ Ls) lt = after-grows d a (labels_next r R T ls L (width Ls)) Ls (omega arith)
 
 -- ---- the records: p is what is left of a net, and q of the records xs
 pub record Done {S V : Type 0} (n W : ℕ) (xs : List (Node S V)) (p : Bool × Net) (q : Bool × List (Node S V)) : Type 0 where
@@ -76,7 +76,7 @@ module _ {S V : Type 0} (r : Round) (R : RuleSense S) (self : (s : S) → R.same
   -- what is known at each turn: the labels of the layer before are those of the net
   pub record State (Ls : Net) (xs : List (Node S V)) : Type 0 where
     pub known : Known r R T W (i - 1) Ls xs
-    pub labelled : downsIn (standing (part ((i - 1) * W) W xs)) ≡ labsAt r R T W w (i - 1) (firsts r R T) Ls
+    pub labelled : downs_in (standing (part ((i - 1) * W) W xs)) ≡ labsAt r R T W w (i - 1) (firsts r R T) Ls
 
   module _ (Ls : Net) (xs : List (Node S V)) (s : State Ls xs) (a m : ℕ) (em : m ≡ count r R T i Ls) where
     back : i ≡ suc (i - 1)
@@ -85,7 +85,7 @@ module _ {S V : Type 0} (r : Round) (R : RuleSense S) (self : (s : S) → R.same
     em' : m ≡ length (get_or Ls (suc (i - 1)) [])
     em' = em ∙ ap (λ (j : ℕ). length (get_or Ls j [])) back
 
-    group-same : alike r R T ((i - 1) * W) W (suc a) xs ≡ oneGroup r R T (i - 1) a (firsts r R T) Ls
+    group-same : alike r R T ((i - 1) * W) W (suc a) xs ≡ one_group r R T (i - 1) a (firsts r R T) Ls
     group-same =
         let k = s.known in
         let d = i - 1 in
@@ -93,17 +93,17 @@ module _ {S V : Type 0} (r : Round) (R : RuleSense S) (self : (s : S) → R.same
         ∙ ap (λ ls. agreeing r R T (ins (arrive r R T) a ls (get_or Ls d []))) s.labelled
         ∙ sym (group_at r R T W w d a (firsts r R T) Ls (omega (arith, k.deep, k.proper.deep)))
 
-    next-state : a < m → m < W → oneGroup r R T (i - 1) a (firsts r R T) Ls ≡ false → State (part_at r R T (i - 1) a (firsts r R T) Ls) (partedOne r R T ((i - 1) * W) W a m xs)
+    next-state : a < m → m < W → one_group r R T (i - 1) a (firsts r R T) Ls ≡ false → State (part_at r R T (i - 1) a (firsts r R T) Ls) (parted_one r R T ((i - 1) * W) W a m xs)
     next-state al ml apart =
         let k = s.known in
         let d = i - 1 in
         let fs = firsts r R T in
         let Ms = part_at r R T d a fs Ls in
-        let ys = partedOne r R T (d * W) W a m xs in
+        let ys = parted_one r R T (d * W) W a m xs in
         let same = known-labels r R T W d Ls xs k a m in
         let us = part (d * W) W xs in
         let vs = part (d * W) W ys in
-        let net : partedAt r R T d a (labs r R T W d Ls xs) Ls ≡ Ms = ap (λ ls. partedAt r R T d a ls Ls) s.labelled ∙ part-at r R T W w d a fs Ls in
+        let net : parted_at r R T d a (labs r R T W d Ls xs) Ls ≡ Ms = ap (λ ls. parted_at r R T d a ls Ls) s.labelled ∙ part-at r R T W w d a fs Ls in
         record {
           known = record {
             proper = proper-part r R self T W w d a Ls (omega (arith, em')) (omega (arith, em')) apart k.proper;
@@ -123,14 +123,14 @@ module _ {S V : Type 0} (r : Round) (R : RuleSense S) (self : (s : S) → R.same
         ap suc em' ∙ sym (after-grows r R T W w d a (firsts r R T) Ls (omega (arith, k.deep, k.proper.deep))) ∙ ap (λ (j : ℕ). length (get_or Ms j [])) (sym back)
 
   -- all turns
-  pub parts-net : (k a m : ℕ) (Ls : Net) (xs : List (Node S V)) → State Ls xs → m ≡ count r R T i Ls → Done r.n W xs (parted r R T W k i a Ls) (partsFrom r R T ((i - 1) * W) W k a m xs)
-  unfolding parted partsFrom
+  pub parts-net : (k a m : ℕ) (Ls : Net) (xs : List (Node S V)) → State Ls xs → m ≡ count r R T i Ls → Done r.n W xs (parted r R T W k i a Ls) (parts_from r R T ((i - 1) * W) W k a m xs)
+  unfolding parted parts_from
   parts-net zero a m Ls xs s em = record { answer = refl; arranged = s.known.arranged; tail = refl; long = refl }
   parts-net (suc k) a m Ls xs s em =
       let G : Bool → Bool → Bool → Bool × Net = λ x y z. elim x [ true ↦ (false, Ls) | false ↦ elim y [ true ↦ parted r R T W k i (suc a) Ls | false ↦ elim z [ true ↦ (true, Ls) | false ↦ parted r R T W k i (suc a) P ] ] ] in
-      let same : G (leb m a) (alike r R T ((i - 1) * W) W (suc a) xs) (leb W m) ≡ G (leb (count r R T i Ls) a) (oneGroup r R T (i - 1) a (firsts r R T) Ls) (leb W (count r R T i Ls)) =
+      let same : G (leb m a) (alike r R T ((i - 1) * W) W (suc a) xs) (leb W m) ≡ G (leb (count r R T i Ls) a) (one_group r R T (i - 1) a (firsts r R T) Ls) (leb W (count r R T i Ls)) =
       ap (λ (c : ℕ). G (leb c a) (alike r R T ((i - 1) * W) W (suc a) xs) (leb W c)) em ∙ ap (λ y. G (leb (count r R T i Ls) a) y (leb W (count r R T i Ls))) (group-same Ls xs s a m em) in
-      subst (λ p. Done r.n W xs p (partsFrom r R T ((i - 1) * W) W (suc k) a m xs)) same
+      subst (λ p. Done r.n W xs p (parts_from r R T ((i - 1) * W) W (suc k) a m xs)) same
       (go (leb m a) refl (alike r R T ((i - 1) * W) W (suc a) xs) refl (leb W m) refl (parts-net k (suc a) m Ls xs s em)
       (λ t. parts-net k (suc a) (suc m) P ys t (next-count Ls xs s a m em)))
     where
@@ -138,13 +138,13 @@ module _ {S V : Type 0} (r : Round) (R : RuleSense S) (self : (s : S) → R.same
       P = part_at r R T (i - 1) a (firsts r R T) Ls
 
       ys : List (Node S V)
-      ys = partedOne r R T ((i - 1) * W) W a m xs
+      ys = parted_one r R T ((i - 1) * W) W a m xs
 
       go : (x : Bool) → leb m a ≡ x → (y : Bool) → alike r R T ((i - 1) * W) W (suc a) xs ≡ y → (z : Bool) → leb W m ≡ z
-          → Done r.n W xs (parted r R T W k i (suc a) Ls) (partsFrom r R T ((i - 1) * W) W k (suc a) m xs)
-          → (State P ys → Done r.n W ys (parted r R T W k i (suc a) P) (partsFrom r R T ((i - 1) * W) W k (suc a) (suc m) ys))
+          → Done r.n W xs (parted r R T W k i (suc a) Ls) (parts_from r R T ((i - 1) * W) W k (suc a) m xs)
+          → (State P ys → Done r.n W ys (parted r R T W k i (suc a) P) (parts_from r R T ((i - 1) * W) W k (suc a) (suc m) ys))
           → Done r.n W xs (elim x [ true ↦ (false, Ls) | false ↦ elim y [ true ↦ parted r R T W k i (suc a) Ls | false ↦ elim z [ true ↦ (true, Ls) | false ↦ parted r R T W k i (suc a) P ] ] ])
-          (cond x (false, xs) (cond y (partsFrom r R T ((i - 1) * W) W k (suc a) m xs) (cond z (true, xs) (partsFrom r R T ((i - 1) * W) W k (suc a) (suc m) ys))))
+          (cond x (false, xs) (cond y (parts_from r R T ((i - 1) * W) W k (suc a) m xs) (cond z (true, xs) (parts_from r R T ((i - 1) * W) W k (suc a) (suc m) ys))))
       go true e y f z g on next = record { answer = refl; arranged = s.known.arranged; tail = refl; long = refl }
       go false e true f z g on next = on
       go false e false f true g on next = record { answer = refl; arranged = s.known.arranged; tail = refl; long = refl }
@@ -172,7 +172,7 @@ module _ {S V : Type 0} (r : Round) (R : RuleSense S) (self : (s : S) → R.same
   laid-arranged : Arranged W Ls xs
   laid-arranged =
       let e : length Ls * W + 1 ≡ r.n * W + 1 = ap (λ (k : ℕ). k * W + 1) p.deep in
-      arranged-of W Ls xs (omega (arith, laid-fit)) (ap (λ (k : ℕ). arcsRead (take k xs)) e ∙ written r R T W w later Ls p ∙ ap (laidArcs W) (arcs-laid r R T W w later Ls p))
+      arranged-of W Ls xs (omega (arith, laid-fit)) (ap (λ (k : ℕ). arcs_read (take k xs)) e ∙ written r R T W w later Ls p ∙ ap (laid_arcs W) (arcs-laid r R T W w later Ls p))
 
   module _ (i : ℕ) (low : 1 ≤ i) (high : i < r.n) where
     laid-state : State r R self T W w i low Ls xs
@@ -187,31 +187,31 @@ module _ {S V : Type 0} (r : Round) (R : RuleSense S) (self : (s : S) → R.same
             deep = omega arith;
             stand = ap (λ (M : List (Node S V)). length M) (sym N) ∙ q.2;
           };
-          labelled = ap downsIn (sym N) ∙ q.0;
+          labelled = ap downs_in (sym N) ∙ q.0;
         }
 
-    laid-count : countAt ((i - 1) * W + W) W xs ≡ count r R T i Ls
+    laid-count : node_count ((i - 1) * W + W) W xs ≡ count r R T i Ls
     laid-count =
         let back : suc (i - 1) ≡ i = omega arith in
         count-layer r.n W xs (i - 1) (omega arith) ∙ ap (λ (j : ℕ). length (layer r.n W j xs)) back ∙ (at-X r R self T W w later i Ls p high).2
 
     -- the layer parted
-    pub layer-words : W ≤ 128 → Done r.n W xs (parted r R T W W i 0 Ls) (layerSteps r R T W i xs)
-    unfolding layerSteps
+    pub layer-words : W ≤ 128 → Done r.n W xs (parted r R T W W i 0 Ls) (layer_steps r R T W i xs)
+    unfolding layer_steps
     layer-words few =
-        let clear : placeCode r.n W (length xs) i ≡ 0 = place_is r.n W (length xs) i w few laid-fit ∙ cond-false _ 20 0 (or_from (ltb i 1) (leb r.n i) (le-ltb i 1 low) (lt-leb r.n i high)) in
-        subst (Done r.n W xs (parted r R T W W i 0 Ls)) (sym (clear-done (placeCode r.n W (length xs) i) _ (false, xs) clear))
-        (parts-net r R self T W w i low W 0 (countAt ((i - 1) * W + W) W xs) Ls xs laid-state laid-count)
+        let clear : place_code r.n W (length xs) i ≡ 0 = place_is r.n W (length xs) i w few laid-fit ∙ cond-false _ 20 0 (or_from (ltb i 1) (leb r.n i) (le-ltb i 1 low) (lt-leb r.n i high)) in
+        subst (Done r.n W xs (parted r R T W W i 0 Ls)) (sym (clear-done (place_code r.n W (length xs) i) _ (false, xs) clear))
+        (parts-net r R self T W w i low W 0 (node_count ((i - 1) * W + W) W xs) Ls xs laid-state laid-count)
 
--- the same of an answer and records that are what `layerSteps` says
+-- the same of an answer and records that are what `layer_steps` says
 pub layer-net : {S V : Type 0} (r : Round) (R : RuleSense S) (self : (s : S) → R.same s s ≡ true) (T : TallySense V) (W i : ℕ) (later : List (Node S V)) (Ls : Net) (xs ys : List (Node S V)) (b : Bool)
-    → 1 ≤ W → W ≤ 128 → 1 ≤ i → i < r.n → Proper r.n W Ls → xs ≡ laid r R T W Ls ++ later → (b, ys) ≡ layerSteps r R T W i xs → Done r.n W xs (parted r R T W W i 0 Ls) (b, ys)
+    → 1 ≤ W → W ≤ 128 → 1 ≤ i → i < r.n → Proper r.n W Ls → xs ≡ laid r R T W Ls ++ later → (b, ys) ≡ layer_steps r R T W i xs → Done r.n W xs (parted r R T W W i 0 Ls) (b, ys)
 layer-net r R self T W i later Ls xs ys b w few low high p is made =
     subst (Done r.n W xs (parted r R T W W i 0 Ls)) (sym made)
-    (subst (λ (zs : List (Node _ _)). Done r.n W zs (parted r R T W W i 0 Ls) (layerSteps r R T W i zs)) (sym is) (layer-words r R self T W w later Ls p i low high few))
+    (subst (λ (zs : List (Node _ _)). Done r.n W zs (parted r R T W W i 0 Ls) (layer_steps r R T W i zs)) (sym is) (layer-words r R self T W w later Ls p i low high few))
 
 -- the clause
-pub layer-said : {S V : Type 0} (r : Round) (R : RuleSense S) (self : (s : S) → R.same s s ≡ true) (T : TallySense V) (W i : ℕ) (xs ys : List (Node S V)) (b : Bool) → (b, ys) ≡ layerSteps r R T W i xs → LayerDone r R T W xs i b ys
+pub layer-said : {S V : Type 0} (r : Round) (R : RuleSense S) (self : (s : S) → R.same s s ≡ true) (T : TallySense V) (W i : ℕ) (xs ys : List (Node S V)) (b : Bool) → (b, ys) ≡ layer_steps r R T W i xs → LayerDone r R T W xs i b ys
 unfolding relaid
 layer-said r R self T W i xs ys b made s stays low high =
     let Ls = arcs r.n W xs in

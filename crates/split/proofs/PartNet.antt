@@ -11,14 +11,14 @@ use Rattle.layers.specs.declared.node.Node.{Node}
 use Rattle.layers.specs.declared.node.Label.{Label}
 use Rattle.layers.specs.declared.node.Down.{Down}
 use Rattle.layers.specs.Flow.{table, Outs, Layer, Net, node, ins}
-use Rattle.layers.specs.Labels.{arrive, headO, leaves}
-use Rattle.layers.specs.Records.{padded, arcsAt}
-use Rattle.layers.specs.Calls.{partedAt}
+use Rattle.layers.specs.Labels.{arrive, first_arrival, leaves}
+use Rattle.layers.specs.Records.{padded, arcs_at}
+use Rattle.layers.specs.Calls.{parted_at}
 use Rattle.layers.proofs.Bridge.{table-long}
 use Rattle.layers.proofs.Flows.{table_at}
-use Rattle.labels.proofs.Laying.{arcsOf, Arranged, Good}
+use Rattle.labels.proofs.Laying.{arcs_of, Arranged, Good}
 use Rattle.layers.specs.Targets.{redirected}
-use Rattle.split.specs.Parted.{partedTo, partedNode, partedSecond}
+use Rattle.split.specs.Parted.{parted_to, parted_node, parted_second}
 use Rattle.labels.proofs.RedirectNet.{table-list, arranged-long, arcs-arranged, redirect-arranged}
 use Rattle.split.proofs.DepthNet.{good-drop, two-fit, at-depth, later-stays, long-stays}
 
@@ -29,11 +29,11 @@ push-node M nd k ne = ⊎_elim
     (λ (ge : length M ≤ k). get_or_past M k [] ge ∙ sym (get_or_past (M ++ (nd ∷ [])) k [] (omega (arith, length_push M nd))))
     (cases_lt k (length M))
 
-push-table : (w m : ℕ) (M : Layer) (nd : Outs) → m ≡ length M → m < w → set (table w (arcsAt M)) m (record { to = padded nd }) ≡ table w (arcsAt (M ++ (nd ∷ [])))
-push-table w m M nd em lt = table-list w (arcsAt M') (set (table w (arcsAt M)) m new) (length-set (table w (arcsAt M)) m new ∙ table-long w (arcsAt M)) (λ k d k<w. ⊎_elim
-    (λ (e : k ≡ m). ap (λ (i : ℕ). get_or (set (table w (arcsAt M)) m new) i d) e ∙ get_or-set_same (table w (arcsAt M)) m new d (omega (arith, table-long w (arcsAt M)))
+push-table : (w m : ℕ) (M : Layer) (nd : Outs) → m ≡ length M → m < w → set (table w (arcs_at M)) m (record { to = padded nd }) ≡ table w (arcs_at (M ++ (nd ∷ [])))
+push-table w m M nd em lt = table-list w (arcs_at M') (set (table w (arcs_at M)) m new) (length-set (table w (arcs_at M)) m new ∙ table-long w (arcs_at M)) (λ k d k<w. ⊎_elim
+    (λ (e : k ≡ m). ap (λ (i : ℕ). get_or (set (table w (arcs_at M)) m new) i d) e ∙ get_or-set_same (table w (arcs_at M)) m new d (omega (arith, table-long w (arcs_at M)))
     ∙ ap (λ (x : Outs). record { to = padded x }) (sym (ap (node M') (e ∙ em) ∙ get_or_push M nd [] (length M) refl)))
-    (λ (ne : k ≢ m). get_or-set_other (table w (arcsAt M)) m k new d ne ∙ table_at w k (arcsAt M) d k<w ∙ ap (λ (x : Outs). record { to = padded x }) (push-node M nd k (λ e. ne (e ∙ sym em))))
+    (λ (ne : k ≢ m). get_or-set_other (table w (arcs_at M)) m k new d ne ∙ table_at w k (arcs_at M) d k<w ∙ ap (λ (x : Outs). record { to = padded x }) (push-node M nd k (λ e. ne (e ∙ sym em))))
     (cases_eq k m))
   where
     M' : Layer
@@ -42,59 +42,59 @@ push-table w m M nd em lt = table-list w (arcsAt M') (set (table w (arcsAt M)) m
     new : Arcs
     new = record { to = padded nd }
 
-push-arranged : {S V : Type 0} (w m : ℕ) (M : Layer) (nd : Outs) (vs : List (Node S V)) (y : Node S V) → map arcsOf vs ≡ table w (arcsAt M) → m ≡ length M → m < w → y.arcs ≡ record { to = padded nd }
-    → map arcsOf (set vs m y) ≡ table w (arcsAt (M ++ (nd ∷ [])))
+push-arranged : {S V : Type 0} (w m : ℕ) (M : Layer) (nd : Outs) (vs : List (Node S V)) (y : Node S V) → map arcs_of vs ≡ table w (arcs_at M) → m ≡ length M → m < w → y.arcs ≡ record { to = padded nd }
+    → map arcs_of (set vs m y) ≡ table w (arcs_at (M ++ (nd ∷ [])))
 push-arranged w m M nd vs y e em lt is =
-    map-set arcsOf vs m y ∙ ap₂ (λ (xs : List Arcs) (x : Arcs). set xs m x) e is ∙ push-table w m M nd em lt
+    map-set arcs_of vs m y ∙ ap₂ (λ (xs : List Arcs) (x : Arcs). set xs m x) e is ∙ push-table w m M nd em lt
 
 module _ {S V : Type 0} (stays : Label S V → ℕ → Bool) where
   -- ---- the records that stay, and the labels
-  pub part_length : (w d a m : ℕ) (z : Node S V) (xs : List (Node S V)) → length (take (d * w) xs ++ partedSecond stays w a m (drop (d * w) xs) z) ≡ length xs
-  unfolding partedSecond
-  part_length w d a m z xs = long-stays (λ ys. partedSecond stays w a m ys z) (d * w) xs (one (drop (d * w) xs))
+  pub part_length : (w d a m : ℕ) (z : Node S V) (xs : List (Node S V)) → length (take (d * w) xs ++ parted_second stays w a m (drop (d * w) xs) z) ≡ length xs
+  unfolding parted_second
+  part_length w d a m z xs = long-stays (λ ys. parted_second stays w a m ys z) (d * w) xs (one (drop (d * w) xs))
     where
-      one : (ys : List (Node S V)) → length (map (partedNode stays a m) (take w ys) ++ set (drop w ys) m (get_or (drop w ys) a z)) ≡ length ys
+      one : (ys : List (Node S V)) → length (map (parted_node stays a m) (take w ys) ++ set (drop w ys) m (get_or (drop w ys) a z)) ≡ length ys
       one ys =
-          length-append (map (partedNode stays a m) (take w ys)) (set (drop w ys) m (get_or (drop w ys) a z))
-          ∙ ap₂ (λ (i j : ℕ). i + j) (length-map (take w ys) (partedNode stays a m)) (length-set (drop w ys) m (get_or (drop w ys) a z))
+          length-append (map (parted_node stays a m) (take w ys)) (set (drop w ys) m (get_or (drop w ys) a z))
+          ∙ ap₂ (λ (i j : ℕ). i + j) (length-map (take w ys) (parted_node stays a m)) (length-set (drop w ys) m (get_or (drop w ys) a z))
           ∙ sym (length-append (take w ys) (drop w ys)) ∙ ap length (take-append-drop w ys)
 
-  second-tail : (w a m n : ℕ) (z : Node S V) (ys : List (Node S V)) → w ≤ length ys → m < w → w + w ≤ n → drop n (partedSecond stays w a m ys z) ≡ drop n ys
-  unfolding partedSecond
+  second-tail : (w a m n : ℕ) (z : Node S V) (ys : List (Node S V)) → w ≤ length ys → m < w → w + w ≤ n → drop n (parted_second stays w a m ys z) ≡ drop n ys
+  unfolding parted_second
   second-tail w a m n z ys le lt more =
-      let A = map (partedNode stays a m) (take w ys) in
+      let A = map (parted_node stays a m) (take w ys) in
       let y = get_or (drop w ys) a z in
       let k = n - w in
       let e : n ≡ w + k = omega arith in
-      let many : length A ≡ w = length-map (take w ys) (partedNode stays a m) ∙ length-take-le w ys le in
+      let many : length A ≡ w = length-map (take w ys) (parted_node stays a m) ∙ length-take-le w ys le in
       ap (λ (i : ℕ). drop i (A ++ set (drop w ys) m y)) e ∙ sym (drop-drop k w (A ++ set (drop w ys) m y))
       ∙ ap (drop k) (drop_at A (set (drop w ys) m y) w many)
       ∙ drop-set-lt k (drop w ys) m y (omega arith)
       ∙ drop-drop k w ys ∙ ap (λ (i : ℕ). drop i ys) (sym e)
 
   pub part-tail : (w d a m : ℕ) (z : Node S V) (Ls : Net) (xs : List (Node S V)) → suc d < length Ls → m < w → length Ls * w + 1 ≤ length xs
-      → drop (length Ls * w + 1) (take (d * w) xs ++ partedSecond stays w a m (drop (d * w) xs) z) ≡ drop (length Ls * w + 1) xs
+      → drop (length Ls * w + 1) (take (d * w) xs ++ parted_second stays w a m (drop (d * w) xs) z) ≡ drop (length Ls * w + 1) xs
   part-tail w d a m z Ls xs deep lt le =
       let fit = two-fit w d (length Ls) deep in
       let n = length Ls * w + 1 - d * w in
-      later-stays (λ ys. partedSecond stays w a m ys z) (d * w) n (length Ls * w + 1) xs (omega arith) (omega arith)
+      later-stays (λ ys. parted_second stays w a m ys z) (d * w) n (length Ls * w + 1) xs (omega arith) (omega arith)
       (second-tail w a m n z (drop (d * w) xs) (omega (arith, length-drop (d * w) xs)) lt (omega arith))
 
-  same-label : (a m : ℕ) (us : List (Node S V)) → map (λ (x : Node S V). x.label) (map (partedNode stays a m) us) ≡ map (λ (x : Node S V). x.label) us
-  unfolding partedNode redirected
+  same-label : (a m : ℕ) (us : List (Node S V)) → map (λ (x : Node S V). x.label) (map (parted_node stays a m) us) ≡ map (λ (x : Node S V). x.label) us
+  unfolding parted_node redirected
   same-label a m [] = refl
   same-label a m (u ∷ us) = ap (λ ls. u.label ∷ ls) (same-label a m us)
 
   -- the records of the layer before keep their labels
   pub part-labels : (w d a m : ℕ) (z : Node S V) (xs : List (Node S V)) → d * w + w ≤ length xs
-      → map (λ (x : Node S V). x.label) (take w (drop (d * w) (take (d * w) xs ++ partedSecond stays w a m (drop (d * w) xs) z))) ≡ map (λ (x : Node S V). x.label) (take w (drop (d * w) xs))
-  unfolding partedSecond
+      → map (λ (x : Node S V). x.label) (take w (drop (d * w) (take (d * w) xs ++ parted_second stays w a m (drop (d * w) xs) z))) ≡ map (λ (x : Node S V). x.label) (take w (drop (d * w) xs))
+  unfolding parted_second
   part-labels w d a m z xs le =
       let k = d * w in
       let ys = drop k xs in
-      let A = map (partedNode stays a m) (take w ys) in
+      let A = map (parted_node stays a m) (take w ys) in
       let B = set (drop w ys) m (get_or (drop w ys) a z) in
-      let many : length A ≡ w = length-map (take w ys) (partedNode stays a m) ∙ length-take-le w ys (omega (arith, length-drop k xs)) in
+      let many : length A ≡ w = length-map (take w ys) (parted_node stays a m) ∙ length-take-le w ys (omega (arith, length-drop k xs)) in
       ap (λ zs. map (λ (x : Node S V). x.label) (take w zs)) (drop_at (take k xs) (A ++ B) k (length-take-le k xs (omega arith)))
       ∙ ap (map (λ (x : Node S V). x.label)) (take_at A B w many)
       ∙ same-label a m (take w ys)
@@ -103,45 +103,45 @@ module _ {S V : Type 0} (stays : Label S V → ℕ → Bool) where
 module _ {S V : Type 0} (r : Round) (R : RuleSense S) (T : TallySense V) (stays : Label S V → ℕ → Bool) where
   part-first : (w a m : ℕ) (z : Node S V) (labs : List (Option (Down S V))) (Ls : Net) (ys : List (Node S V))
       → Good w Ls → 1 < length Ls → m ≡ length (get_or Ls 1 []) → a < m → m < w
-      → ((x : Node S V) (u j : ℕ) → u < length (get_or Ls 0 []) → leaves r R T (headO r R T (ins (arrive r R T) a labs (get_or Ls 0 []))) (get_or labs u None) j ≡ not (stays (get_or ys u x).label j))
-      → Arranged w Ls ys → Arranged w (partedAt r R T 0 a labs Ls) (partedSecond stays w a m ys z)
-  unfolding partedAt partedSecond partedNode partedTo
+      → ((x : Node S V) (u j : ℕ) → u < length (get_or Ls 0 []) → leaves r R T (first_arrival r R T (ins (arrive r R T) a labs (get_or Ls 0 []))) (get_or labs u None) j ≡ not (stays (get_or ys u x).label j))
+      → Arranged w Ls ys → Arranged w (parted_at r R T 0 a labs Ls) (parted_second stays w a m ys z)
+  unfolding parted_at parted_second parted_node parted_to
   part-first w a m z labs [] ys good deep em al ml h arr = absurd (omega arith)
   part-first w a m z labs (L ∷ []) ys good deep em al ml h arr = absurd (omega arith)
   part-first w a m z labs (L ∷ M ∷ Ls) ys good deep em al ml h arr =
       let us = take w ys in
       let vs = drop w ys in
       let y = get_or vs a z in
-      let A = map (partedNode stays a m) us in
-      let o = headO r R T (ins (arrive r R T) a labs L) in
+      let A = map (parted_node stays a m) us in
+      let o = first_arrival r R T (ins (arrive r R T) a labs L) in
       let f : ℕ → ℕ → ℕ → ℕ = λ u j b. cond (eqb b a && leaves r R T o (get_or labs u None) j) (suc (length M)) (suc b) in
-      let many : length A ≡ w = length-map us (partedNode stays a m) ∙ arranged-long w L us arr.0 in
+      let many : length A ≡ w = length-map us (parted_node stays a m) ∙ arranged-long w L us arr.0 in
       let back : drop w (A ++ set vs m y) ≡ set vs m y = drop_at A (set vs m y) w many in
-      let is : y.arcs ≡ arcsAt M a = ap (λ (x : Node S V). x.arcs) (sym (get_or-take w vs a z (omega arith))) ∙ arcs-arranged w M (take w vs) a z arr.1.0 (omega arith) in (
-        ap (map arcsOf) (take_at A (set vs m y) w many)
-            ∙ redirect-arranged w L us (partedTo stays a m) f good.1 arr.0 (λ x u j b lt t.
+      let is : y.arcs ≡ arcs_at M a = ap (λ (x : Node S V). x.arcs) (sym (get_or-take w vs a z (omega arith))) ∙ arcs-arranged w M (take w vs) a z arr.1.0 (omega arith) in (
+        ap (map arcs_of) (take_at A (set vs m y) w many)
+            ∙ redirect-arranged w L us (parted_to stays a m) f good.1 arr.0 (λ x u j b lt t.
             ap₂ (λ (q : Bool) (k : ℕ). cond (eqb b a && q) (suc k) (suc b)) (ap (λ (n : Node S V). not (stays n.label j)) (get_or-take w ys u x (omega (arith, good.1))) ∙ sym (h x u j lt)) em),
         (
-          ap (λ zs. map arcsOf (take w zs)) back ∙ ap (map arcsOf) (take-set-lt w vs m y ml) ∙ push-arranged w m M (node M a) (take w vs) y arr.1.0 em ml is,
+          ap (λ zs. map arcs_of (take w zs)) back ∙ ap (map arcs_of) (take-set-lt w vs m y ml) ∙ push-arranged w m M (node M a) (take w vs) y arr.1.0 em ml is,
           subst (Arranged w Ls) (sym (ap (drop w) back ∙ drop-set-lt w vs m y ml)) arr.1.1,
         ),
       )
 
-  parts-deeper : (a : ℕ) (labs : List (Option (Down S V))) (d : ℕ) (L : Layer) (Ls : Net) → partedAt r R T (suc d) a labs (L ∷ Ls) ≡ L ∷ partedAt r R T d a labs Ls
-  unfolding partedAt
+  parts-deeper : (a : ℕ) (labs : List (Option (Down S V))) (d : ℕ) (L : Layer) (Ls : Net) → parted_at r R T (suc d) a labs (L ∷ Ls) ≡ L ∷ parted_at r R T d a labs Ls
+  unfolding parted_at
   parts-deeper a labs d L Ls = refl
 
   -- the records of the net, parted, are those of the parted net
   pub part-arranged : (w d a m : ℕ) (z : Node S V) (labs : List (Option (Down S V))) (Ls : Net) (xs : List (Node S V))
       → Good w Ls → suc d < length Ls → m ≡ length (get_or Ls (suc d) []) → a < m → m < w → Arranged w Ls xs → length Ls * w + 1 ≤ length xs
-      → ((x : Node S V) (u j : ℕ) → u < length (get_or Ls d []) → leaves r R T (headO r R T (ins (arrive r R T) a labs (get_or Ls d []))) (get_or labs u None) j ≡ not (stays (get_or (drop (d * w) xs) u x).label j))
-      → Arranged w (partedAt r R T d a labs Ls) (take (d * w) xs ++ partedSecond stays w a m (drop (d * w) xs) z)
+      → ((x : Node S V) (u j : ℕ) → u < length (get_or Ls d []) → leaves r R T (first_arrival r R T (ins (arrive r R T) a labs (get_or Ls d []))) (get_or labs u None) j ≡ not (stays (get_or (drop (d * w) xs) u x).label j))
+      → Arranged w (parted_at r R T d a labs Ls) (take (d * w) xs ++ parted_second stays w a m (drop (d * w) xs) z)
   part-arranged w d a m z labs Ls xs good deep em al ml arr le h =
       let Ks = drop d Ls in
       let ys = drop (d * w) xs in
       let first : get_or Ls d [] ≡ get_or Ks 0 [] = (let e : d ≡ d + 0 = omega arith in ap (λ (i : ℕ). get_or Ls i []) e ∙ sym (get_or-drop d Ls 0 [])) in
       let second : get_or Ls (suc d) [] ≡ get_or Ks 1 [] = (let e : suc d ≡ d + 1 = omega arith in ap (λ (i : ℕ). get_or Ls i []) e ∙ sym (get_or-drop d Ls 1 [])) in
-      let h' : (x : Node S V) (u j : ℕ) → u < length (get_or Ks 0 []) → leaves r R T (headO r R T (ins (arrive r R T) a labs (get_or Ks 0 []))) (get_or labs u None) j ≡ not (stays (get_or ys u x).label j) =
-      subst (λ L. (x : Node S V) (u j : ℕ) → u < length L → leaves r R T (headO r R T (ins (arrive r R T) a labs L)) (get_or labs u None) j ≡ not (stays (get_or ys u x).label j)) first h in
-      at-depth w (λ d. partedAt r R T d a labs) (λ ys. partedSecond stays w a m ys z) (parts-deeper a labs) d Ls xs (omega arith) arr
+      let h' : (x : Node S V) (u j : ℕ) → u < length (get_or Ks 0 []) → leaves r R T (first_arrival r R T (ins (arrive r R T) a labs (get_or Ks 0 []))) (get_or labs u None) j ≡ not (stays (get_or ys u x).label j) =
+      subst (λ L. (x : Node S V) (u j : ℕ) → u < length L → leaves r R T (first_arrival r R T (ins (arrive r R T) a labs L)) (get_or labs u None) j ≡ not (stays (get_or ys u x).label j)) first h in
+      at-depth w (λ d. parted_at r R T d a labs) (λ ys. parted_second stays w a m ys z) (parts-deeper a labs) d Ls xs (omega arith) arr
       (part-first w a m z labs Ks ys (good-drop w d Ls good) (omega (arith, length-drop d Ls)) (em ∙ ap length second) al ml h')

@@ -10,8 +10,8 @@ use Rattle.layers.specs.declared.refusal.Refusal.{Refusal}
 use Rattle.layers.specs.Refusals.{number_of}
 use Rattle.layers.specs.Flow.{Net}
 use Rattle.layers.specs.Labels.{agreeing}
-use Rattle.layers.specs.Records.{standing, downsIn, laid}
-use Rattle.layers.specs.Calls.{arcs, layer, partedAt, relaid, oneGroup, isFull, badNode, partAnswer, split, parted, arrivals as arrivalsIn}
+use Rattle.layers.specs.Records.{standing, downs_in, laid}
+use Rattle.layers.specs.Calls.{arcs, layer, parted_at, relaid, one_group, is_full, bad_node, part_answer, split, parted, arrivals as arrivalsIn}
 use Rattle.layers.specs.Shape.{Shaped, Timely}
 use Rattle.layers.proofs.Places.{layer-at}
 use Rattle.layers.proofs.Shaped.{relaid-shaped}
@@ -19,7 +19,7 @@ use Rattle.layers.proofs.Timely.{relaid-timely}
 use Rattle.layers.proofs.Proper.{Proper, lawful, proper-parted-at}
 use Rattle.labels.specs.Passes.{part, relabelled}
 use Rattle.labels.proofs.Laying.{Arranged, relabelled-lawful}
-use Rattle.split.specs.Steps.{nodeCode, groupCode, or_else, countAt, alike, partedOne, partCode, partSteps}
+use Rattle.split.specs.Steps.{node_code, group_code, or_else, node_count, alike, parted_one, part_code, part_steps}
 use Rattle.split.specs.Asked.{Placed}
 use Rattle.split.specs.Words.{PartDone}
 use Rattle.split.proofs.Codes.{else-parts, else-cond, place_is, place-clear, node-clear, group-clear, same_code}
@@ -34,10 +34,10 @@ relaid-same r R T W xs ys Ms p arr tail = relabelled-lawful r R T W Ms ys (lawfu
 
 module _ {S V : Type 0} (r : Round) (R : RuleSense S) (T : TallySense V) (W i a : ℕ) (xs : List (Node S V)) where
   -- what no refusal tells
-  part-clear : partCode r R T W i a xs ≡ 0 → Placed r.n W (length xs) i × (1 ≤ a) × (a ≤ countAt ((i - 1) * W + W) W xs) × (alike r R T ((i - 1) * W) W a xs ≡ false) × (countAt ((i - 1) * W + W) W xs < W)
-  unfolding partCode
+  part-clear : part_code r R T W i a xs ≡ 0 → Placed r.n W (length xs) i × (1 ≤ a) × (a ≤ node_count ((i - 1) * W + W) W xs) × (alike r R T ((i - 1) * W) W a xs ≡ false) × (node_count ((i - 1) * W + W) W xs < W)
+  unfolding part_code
   part-clear e =
-      let m = countAt ((i - 1) * W + W) W xs in
+      let m = node_count ((i - 1) * W + W) W xs in
       let p = else-parts _ _ e in
       let q = else-parts _ _ p.1 in
       let b = node-clear m a q.0 in
@@ -46,8 +46,8 @@ module _ {S V : Type 0} (r : Round) (R : RuleSense S) (T : TallySense V) (W i a 
 
   module _ (some : 1 ≤ W) (few : W ≤ 128) (fit : r.n * W + 1 ≤ length xs) (s : Shaped r.n W xs) where
     -- the in-arcs of a node agree
-    group-same : 1 ≤ i → i < r.n → 1 ≤ a → alike r R T ((i - 1) * W) W a xs ≡ oneGroup r R T W i a xs
-    unfolding oneGroup
+    group-same : 1 ≤ i → i < r.n → 1 ≤ a → alike r R T ((i - 1) * W) W a xs ≡ one_group r R T W i a xs
+    unfolding one_group
     group-same low high one =
         let k = known-shaped r R T W xs some fit s (i - 1) (omega arith) in
         let back : a ≡ suc (a - 1) = omega arith in
@@ -55,68 +55,68 @@ module _ {S V : Type 0} (r : Round) (R : RuleSense S) (T : TallySense V) (W i a 
         ∙ ap (agreeing r R T) (known-standing r R T W (i - 1) (arcs r.n W xs) xs k (a - 1))
         ∙ ap (λ (N : List (Node S V)). agreeing r R T (arrivalsIn r R T N (a - 1))) (sym (layer-at W r.n (i - 1) xs (omega arith)))
 
-    count_same : 1 ≤ i → i < r.n → countAt ((i - 1) * W + W) W xs ≡ length (layer r.n W i xs)
+    count_same : 1 ≤ i → i < r.n → node_count ((i - 1) * W + W) W xs ≡ length (layer r.n W i xs)
     count_same low high = let back : suc (i - 1) ≡ i = omega arith in count-layer r.n W xs (i - 1) (omega arith) ∙ ap (λ (k : ℕ). length (layer r.n W k xs)) back
 
     -- the answer
-    pub part-answer : partCode r R T W i a xs ≡ partAnswer r R T W i a xs
-    unfolding partCode partAnswer
+    pub part-answer : part_code r R T W i a xs ≡ part_answer r R T W i a xs
+    unfolding part_code part_answer
     part-answer =
-        let m = countAt ((i - 1) * W + W) W xs in
-        let X : ℕ → ℕ = λ m. or_else (nodeCode m a) (groupCode (alike r R T ((i - 1) * W) W a xs) (leb W m)) in
+        let m = node_count ((i - 1) * W + W) W xs in
+        let X : ℕ → ℕ = λ m. or_else (node_code m a) (group_code (alike r R T ((i - 1) * W) W a xs) (leb W m)) in
         ap (λ (k : ℕ). or_else k (X m)) (place_is r.n W (length xs) i some few fit)
         ∙ else-cond (ltb i 1 || leb r.n i) 19 (X m) _
         (λ q.
         let low = ltb-false i 1 (or_parts _ _ q).0 in
         let high = leb-false r.n i (or_parts _ _ q).1 in
         ap X (count_same low high)
-        ∙ else-cond (badNode r R T W i a xs) 20 (groupCode (alike r R T ((i - 1) * W) W a xs) (isFull r R T W i xs)) _
-        (λ b. ap (λ p. groupCode p (isFull r R T W i xs)) (group-same low high (ltb-false a 1 (or_parts _ _ b).0))))
+        ∙ else-cond (bad_node r R T W i a xs) 20 (group_code (alike r R T ((i - 1) * W) W a xs) (is_full r R T W i xs)) _
+        (λ b. ap (λ p. group_code p (is_full r R T W i xs)) (group-same low high (ltb-false a 1 (or_parts _ _ b).0))))
 
     -- what it does
     abbrev new : List (Node S V) → Net
-    new N = partedAt r R T (i - 1) (a - 1) (downsIn N) (arcs r.n W xs)
+    new N = parted_at r R T (i - 1) (a - 1) (downs_in N) (arcs r.n W xs)
 
-    part-made : ((x : S) → R.same x x ≡ true) → partCode r R T W i a xs ≡ 0
-        → Proper r.n W (new (layer r.n W (i - 1) xs)) × (relabelled r R T W (partedOne r R T ((i - 1) * W) W (a - 1) (countAt ((i - 1) * W + W) W xs) xs) ≡ relaid r R T W xs (new (layer r.n W (i - 1) xs)))
+    part-made : ((x : S) → R.same x x ≡ true) → part_code r R T W i a xs ≡ 0
+        → Proper r.n W (new (layer r.n W (i - 1) xs)) × (relabelled r R T W (parted_one r R T ((i - 1) * W) W (a - 1) (node_count ((i - 1) * W + W) W xs) xs) ≡ relaid r R T W xs (new (layer r.n W (i - 1) xs)))
     part-made self e =
         let q = part-clear e in
         let low = q.0.low in
         let high = q.0.high in
-        let m = countAt ((i - 1) * W + W) W xs in
+        let m = node_count ((i - 1) * W + W) W xs in
         let Ls = arcs r.n W xs in
         let k = known-shaped r R T W xs some fit s (i - 1) (omega arith) in
         let back : a ≡ suc (a - 1) = omega (arith, q.1) in
         let us = standing (part ((i - 1) * W) W xs) in
         let em : m ≡ length (get_or Ls (suc (i - 1)) []) = count_long r.n W xs (i - 1) (omega arith) in
         let apart : agreeing r R T _ ≡ false = sym (known_alike r R T W (i - 1) Ls xs k (a - 1)) ∙ ap (λ (t : ℕ). alike r R T ((i - 1) * W) W t xs) (sym back) ∙ q.3 in
-        let ys = partedOne r R T ((i - 1) * W) W (a - 1) m xs in
-        let p : Proper r.n W (new us) = proper-parted-at r R T W some self (i - 1) (a - 1) (downsIn us) Ls (omega (arith, em, q.1, q.2)) (omega (arith, em, q.4)) apart k.proper in
+        let ys = parted_one r R T ((i - 1) * W) W (a - 1) m xs in
+        let p : Proper r.n W (new us) = proper-parted-at r R T W some self (i - 1) (a - 1) (downs_in us) Ls (omega (arith, em, q.1, q.2)) (omega (arith, em, q.4)) apart k.proper in
         let made : relabelled r R T W ys ≡ relaid r R T W xs (new us) =
         relaid-same r R T W xs ys (new us) p (known-parted r R T W (i - 1) Ls xs k (a - 1) m em (omega (arith, q.1, q.2)) q.4) (known-tail r R T W (i - 1) Ls xs k (a - 1) m q.4) in
         subst (λ (N : List (Node S V)). Proper r.n W (new N) × (relabelled r R T W ys ≡ relaid r R T W xs (new N))) (sym (layer-at W r.n (i - 1) xs (omega arith))) (p, made)
 
-    pub part-words : ((x : S) → R.same x x ≡ true) → partSteps r R T W i a xs ≡ parted r R T W i a xs
-    unfolding partSteps parted split
-    part-words self = same_code (partCode r R T W i a xs) (partAnswer r R T W i a xs) _ _ xs part-answer (λ e. (part-made self e).1)
+    pub part-words : ((x : S) → R.same x x ≡ true) → part_steps r R T W i a xs ≡ parted r R T W i a xs
+    unfolding part_steps parted split
+    part-words self = same_code (part_code r R T W i a xs) (part_answer r R T W i a xs) _ _ xs part-answer (λ e. (part-made self e).1)
 
     -- the shape stays
-    pub part-shaped : ((x : S) → R.same x x ≡ true) → Shaped r.n W (partSteps r R T W i a xs)
-    unfolding partSteps
-    part-shaped self = cond_both (eqb (partCode r R T W i a xs) 0) _ xs (Shaped r.n W)
-        (λ e. let q = part-made self (eqb-true (partCode r R T W i a xs) 0 e) in subst (Shaped r.n W) (sym q.1) (relaid-shaped r R T W some xs (new (layer r.n W (i - 1) xs)) q.0))
+    pub part-shaped : ((x : S) → R.same x x ≡ true) → Shaped r.n W (part_steps r R T W i a xs)
+    unfolding part_steps
+    part-shaped self = cond_both (eqb (part_code r R T W i a xs) 0) _ xs (Shaped r.n W)
+        (λ e. let q = part-made self (eqb-true (part_code r R T W i a xs) 0 e) in subst (Shaped r.n W) (sym q.1) (relaid-shaped r R T W some xs (new (layer r.n W (i - 1) xs)) q.0))
         (λ e. s)
 
     -- and no finish gets late
-    pub part-timely : ((x : S) → R.same x x ≡ true) → Timely r.n W xs → Timely r.n W (partSteps r R T W i a xs)
-    unfolding partSteps
-    part-timely self t = cond_both (eqb (partCode r R T W i a xs) 0) _ xs (Timely r.n W)
-        (λ e. let q = part-made self (eqb-true (partCode r R T W i a xs) 0 e) in subst (Timely r.n W) (sym q.1) (relaid-timely r R T W xs (new (layer r.n W (i - 1) xs)) q.0.deep))
+    pub part-timely : ((x : S) → R.same x x ≡ true) → Timely r.n W xs → Timely r.n W (part_steps r R T W i a xs)
+    unfolding part_steps
+    part-timely self t = cond_both (eqb (part_code r R T W i a xs) 0) _ xs (Timely r.n W)
+        (λ e. let q = part-made self (eqb-true (part_code r R T W i a xs) 0 e) in subst (Timely r.n W) (sym q.1) (relaid-timely r R T W xs (new (layer r.n W (i - 1) xs)) q.0.deep))
         (λ e. t)
 
 -- the clause
 pub part-said : {S V A : Type 0} (r : Round) (R : RuleSense S) (self : (x : S) → R.same x x ≡ true) (T : TallySense V) (W i a : ℕ) (xs ys : List (Node S V)) (o : Result A Refusal)
-    → MatchResult o (λ _. partCode r R T W i a xs ≡ 0) (λ e. partCode r R T W i a xs ≡ number_of e) → ys ≡ partSteps r R T W i a xs → PartDone r R T W xs i a o ys
+    → MatchResult o (λ _. part_code r R T W i a xs ≡ 0) (λ e. part_code r R T W i a xs ≡ number_of e) → ys ≡ part_steps r R T W i a xs → PartDone r R T W xs i a o ys
 part-said r R self T W i a xs ys o said made s =
     let same = part-answer r R T W i a xs s.some s.few s.fit s.shaped in
     (MatchResult-weaker o said (λ x e. sym same ∙ e) (λ x e. sym same ∙ e), made ∙ part-words r R T W i a xs s.some s.few s.fit s.shaped self)

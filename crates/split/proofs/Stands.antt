@@ -5,7 +5,7 @@ use Rattle.std.proofs.lemmas.List.{length-take}
 use Rattle.layers.specs.declared.node.Node.{Node}
 use Rattle.layers.specs.Records.{standing}
 use Rattle.layers.proofs.Shaped.{standing-short}
-use Rattle.split.specs.Steps.{countAt}
+use Rattle.split.specs.Steps.{node_count}
 
 one-more : {X : Type 0} (b : Bool) (x : X) (n : ℕ) (ys : List X) → n ≡ length ys → cond b (1 + n) 0 ≡ length (cond b (x ∷ ys) [])
 one-more true x n ys e = omega (arith, e)
@@ -16,5 +16,5 @@ standing-counted [] = refl
 standing-counted (x ∷ xs) = one-more (not (eqb x.label.down.lasts 0)) x _ (standing xs) (standing-counted xs)
 
 -- at most w
-pub count_most : {S V : Type 0} (at w : ℕ) (xs : List (Node S V)) → countAt at w xs ≤ w
+pub count_most : {S V : Type 0} (at w : ℕ) (xs : List (Node S V)) → node_count at w xs ≤ w
 count_most at w xs = omega (arith, standing-short (take w (drop at xs)), length-take w (drop at xs))

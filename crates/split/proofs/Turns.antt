@@ -5,7 +5,7 @@ use Rattle.round.specs.declared.table.Round.{Round}
 use Rattle.rules.specs.Rules.{RuleSense}
 use Rattle.tallies.specs.Tallies.{TallySense}
 use Rattle.layers.specs.declared.node.Node.{Node}
-use Rattle.split.specs.Steps.{nextCount, alike, partedOne, nextRecords, partsFrom}
+use Rattle.split.specs.Steps.{next_count, alike, parted_one, next_records, parts_from}
 
 pub and-swap : (a b : Bool) → (a && b) ≡ (b && a)
 and-swap true true = refl
@@ -20,10 +20,10 @@ said r R T at w a xs e f = ap (λ (t : ℕ). alike r R T at w t xs) (sym (add-on
 module _ {S V : Type 0} (r : Round) (R : RuleSense S) (T : TallySense V) (at w a m : ℕ) (xs : List (Node S V)) where
   -- ---- one node
   abbrev pub Next : Option ℕ → List (Node S V) → Type 0
-  Next o ys = (o ≡ nextCount (alike r R T at w (suc a) xs) (leb w m) m) × (ys ≡ nextRecords r R T at w a m xs)
+  Next o ys = (o ≡ next_count (alike r R T at w (suc a) xs) (leb w m) m) × (ys ≡ next_records r R T at w a m xs)
 
-  both : (p q : Bool) → alike r R T at w (suc a) xs ≡ p → leb w m ≡ q → Next (nextCount p q m) (cond p xs (cond q xs (partedOne r R T at w a m xs)))
-  both p q e f = (ap₂ (λ p q. nextCount p q m) (sym e) (sym f), ap₂ (λ p q. cond p xs (cond q xs (partedOne r R T at w a m xs))) (sym e) (sym f))
+  both : (p q : Bool) → alike r R T at w (suc a) xs ≡ p → leb w m ≡ q → Next (next_count p q m) (cond p xs (cond q xs (parted_one r R T at w a m xs)))
+  both p q e f = (ap₂ (λ p q. next_count p q m) (sym e) (sym f), ap₂ (λ p q. cond p xs (cond q xs (parted_one r R T at w a m xs))) (sym e) (sym f))
 
   pub next-alike : alike r R T at w (suc a) xs ≡ true → Next (Some m) xs
   next-alike e = go (leb w m) refl
@@ -34,44 +34,44 @@ module _ {S V : Type 0} (r : Round) (R : RuleSense S) (T : TallySense V) (at w a
   pub next-full : alike r R T at w (suc a) xs ≡ false → w ≤ m → Next None xs
   next-full e h = both false true e (le-leb w m h)
 
-  pub next-parted : alike r R T at w (suc a) xs ≡ false → m < w → Next (Some (m + 1)) (partedOne r R T at w a m xs)
+  pub next-parted : alike r R T at w (suc a) xs ≡ false → m < w → Next (Some (m + 1)) (parted_one r R T at w a m xs)
   next-parted e h = let n = both false false e (lt-leb w m h) in (ap Some (add-one m) ∙ n.0, n.1)
 
   -- ---- one turn
-  pub parts-end : (k : ℕ) → m ≤ a → (false, xs) ≡ partsFrom r R T at w k a m xs
-  unfolding partsFrom
+  pub parts-end : (k : ℕ) → m ≤ a → (false, xs) ≡ parts_from r R T at w k a m xs
+  unfolding parts_from
   parts-end zero h = refl
-  parts-end (suc k) h = ap (λ q. cond q (false, xs) (cond (alike r R T at w (suc a) xs) (partsFrom r R T at w k (suc a) m xs) (cond (leb w m) (true, xs) (partsFrom r R T at w k (suc a) (suc m) (partedOne r R T at w a m xs))))) (sym (le-leb m a h))
+  parts-end (suc k) h = ap (λ q. cond q (false, xs) (cond (alike r R T at w (suc a) xs) (parts_from r R T at w k (suc a) m xs) (cond (leb w m) (true, xs) (parts_from r R T at w k (suc a) (suc m) (parted_one r R T at w a m xs))))) (sym (le-leb m a h))
 
   abbrev Turn : ℕ → Bool × List (Node S V)
-  Turn k = cond (alike r R T at w (suc a) xs) (partsFrom r R T at w k (suc a) m xs) (cond (leb w m) (true, xs) (partsFrom r R T at w k (suc a) (suc m) (partedOne r R T at w a m xs)))
+  Turn k = cond (alike r R T at w (suc a) xs) (parts_from r R T at w k (suc a) m xs) (cond (leb w m) (true, xs) (parts_from r R T at w k (suc a) (suc m) (parted_one r R T at w a m xs)))
 
-  turn : (k : ℕ) → a < m → Turn k ≡ partsFrom r R T at w (suc k) a m xs
-  unfolding partsFrom
+  turn : (k : ℕ) → a < m → Turn k ≡ parts_from r R T at w (suc k) a m xs
+  unfolding parts_from
   turn k h = ap (λ q. cond q (false, xs) (Turn k)) (sym (lt-leb m a h))
 
-  pub parts-full : (k : ℕ) (ys : List (Node S V)) → a < m → Next None ys → (true, ys) ≡ partsFrom r R T at w (suc k) a m xs
+  pub parts-full : (k : ℕ) (ys : List (Node S V)) → a < m → Next None ys → (true, ys) ≡ parts_from r R T at w (suc k) a m xs
   parts-full k ys h n = go (alike r R T at w (suc a) xs) (leb w m) n.0 n.1 ∙ turn k h
     where
-      go : (p q : Bool) → None ≡ nextCount p q m → ys ≡ cond p xs (cond q xs (partedOne r R T at w a m xs))
-          → (true, ys) ≡ cond p (partsFrom r R T at w k (suc a) m xs) (cond q (true, xs) (partsFrom r R T at w k (suc a) (suc m) (partedOne r R T at w a m xs)))
+      go : (p q : Bool) → None ≡ next_count p q m → ys ≡ cond p xs (cond q xs (parted_one r R T at w a m xs))
+          → (true, ys) ≡ cond p (parts_from r R T at w k (suc a) m xs) (cond q (true, xs) (parts_from r R T at w k (suc a) (suc m) (parted_one r R T at w a m xs)))
       go true q e f = absurd (grind arith)
       go false true e f = ap (λ ys. (true, ys)) f
       go false false e f = absurd (grind arith)
 
-  pub parts_more : (k l : ℕ) (ys : List (Node S V)) → a < m → Next (Some l) ys → partsFrom r R T at w k (suc a) l ys ≡ partsFrom r R T at w (suc k) a m xs
+  pub parts_more : (k l : ℕ) (ys : List (Node S V)) → a < m → Next (Some l) ys → parts_from r R T at w k (suc a) l ys ≡ parts_from r R T at w (suc k) a m xs
   parts_more k l ys h n = go (alike r R T at w (suc a) xs) (leb w m) n.0 n.1 ∙ turn k h
     where
-      go : (p q : Bool) → Some l ≡ nextCount p q m → ys ≡ cond p xs (cond q xs (partedOne r R T at w a m xs))
-          → partsFrom r R T at w k (suc a) l ys ≡ cond p (partsFrom r R T at w k (suc a) m xs) (cond q (true, xs) (partsFrom r R T at w k (suc a) (suc m) (partedOne r R T at w a m xs)))
-      go true q e f = let same : l ≡ m = grind arith in ap₂ (λ l ys. partsFrom r R T at w k (suc a) l ys) same f
+      go : (p q : Bool) → Some l ≡ next_count p q m → ys ≡ cond p xs (cond q xs (parted_one r R T at w a m xs))
+          → parts_from r R T at w k (suc a) l ys ≡ cond p (parts_from r R T at w k (suc a) m xs) (cond q (true, xs) (parts_from r R T at w k (suc a) (suc m) (parted_one r R T at w a m xs)))
+      go true q e f = let same : l ≡ m = grind arith in ap₂ (λ l ys. parts_from r R T at w k (suc a) l ys) same f
       go false true e f = absurd (grind arith)
-      go false false e f = let same : l ≡ suc m = grind arith in ap₂ (λ l ys. partsFrom r R T at w k (suc a) l ys) same f
+      go false false e f = let same : l ≡ suc m = grind arith in ap₂ (λ l ys. parts_from r R T at w k (suc a) l ys) same f
 
   pub next-most : (l : ℕ) (ys : List (Node S V)) → m ≤ w → Next (Some l) ys → l ≤ w
   next-most l ys h n = go (alike r R T at w (suc a) xs) (leb w m) refl n.0
     where
-      go : (p q : Bool) → leb w m ≡ q → Some l ≡ nextCount p q m → l ≤ w
+      go : (p q : Bool) → leb w m ≡ q → Some l ≡ next_count p q m → l ≤ w
       go true q f e = let same : l ≡ m = grind arith in omega arith
       go false true f e = absurd (grind arith)
       go false false f e = let same : l ≡ suc m = grind arith in omega (arith, leb-false w m f)

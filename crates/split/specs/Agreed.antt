@@ -11,8 +11,8 @@ use Rattle.split.specs.declared.source.Source.{Source}
 use Rattle.split.specs.declared.source.Arrived.{Arrived}
 
 -- when the work at an arrival would end
-abbrev pub finishOf : {S V : Type 0} → Round → Source S V → ℕ
-finishOf r s = finish r s.label.finish (leg r s.label.lasts s.door) s.door
+abbrev pub finish_of : {S V : Type 0} → Round → Source S V → ℕ
+finish_of r s = finish r s.label.finish (leg r s.label.lasts s.door) s.door
 
 -- ---- arrivals
 module _ {S V : Type 0} (r : Round) (rule : RuleSense S) (tally : TallySense V) where
@@ -21,25 +21,25 @@ module _ {S V : Type 0} (r : Round) (rule : RuleSense S) (tally : TallySense V) 
   unfolding arrive
   brought s = arrive r rule tally s.label s.door
 
-  abbrev pub broughtFirst : Option (Source S V) → Option (Down S V)
-  broughtFirst None = None
-  broughtFirst (Some s) = Some (brought s)
+  abbrev pub brought_first : Option (Source S V) → Option (Down S V)
+  brought_first None = None
+  brought_first (Some s) = Some (brought s)
 
   abbrev pub seen : Arrived S V → Option (Down S V) × Bool
-  seen a = (broughtFirst a.first, a.agreed)
+  seen a = (brought_first a.first, a.agreed)
 
   -- with one arrival more
-  abbrev pub nextFirst : Option (Down S V) → Down S V → Option (Down S V)
-  nextFirst None y = Some y
-  nextFirst (Some x) y = Some x
+  abbrev pub next_first : Option (Down S V) → Down S V → Option (Down S V)
+  next_first None y = Some y
+  next_first (Some x) y = Some x
 
-  abbrev pub nextAgreed : Option (Down S V) → Bool → Down S V → Bool
-  nextAgreed None b y = b
-  nextAgreed (Some x) b y = b && agree r rule tally x y
+  abbrev pub next_agreed : Option (Down S V) → Bool → Down S V → Bool
+  next_agreed None b y = b
+  next_agreed (Some x) b y = b && agree r rule tally x y
 
   abbrev pub met : Option (Down S V) × Bool → Down S V → Option (Down S V) × Bool
-  met p y = (nextFirst p.0 y, nextAgreed p.0 p.1 y)
+  met p y = (next_first p.0 y, next_agreed p.0 p.1 y)
 
   -- ---- part: the in-arc by j from a node with the label u stays if it agrees with the first, which comes from s
-  abbrev pub keptBy : Source S V → Label S V → ℕ → Bool
-  keptBy s u j = agree r rule tally (brought s) (arrive r rule tally u.down j)
+  abbrev pub kept_by : Source S V → Label S V → ℕ → Bool
+  kept_by s u j = agree r rule tally (brought s) (arrive r rule tally u.down j)

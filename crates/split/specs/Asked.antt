@@ -4,12 +4,12 @@ use Rattle.round.specs.declared.table.Round.{Round}
 use Rattle.rules.specs.Rules.{RuleSense}
 use Rattle.tallies.specs.Tallies.{TallySense}
 use Rattle.layers.specs.declared.node.Node.{Node}
-use Rattle.layers.specs.Labels.{headO}
+use Rattle.layers.specs.Labels.{first_arrival}
 use Rattle.labels.specs.Passes.{part, arrivals}
 use Rattle.split.specs.declared.source.Source.{Source}
 use Rattle.split.specs.declared.source.Arrived.{Arrived}
 use Rattle.split.specs.Agreed.{brought}
-use Rattle.split.specs.Steps.{groupCode, countAt, clashAt, alike, partCode, joinCode}
+use Rattle.split.specs.Steps.{group_code, node_count, clash_at, alike, part_code, join_code}
 
 -- s is the first of the arrivals, some differ from it, and there is room
 pub record FirstKnown {S V : Type 0} (got : Arrived S V) (full : Bool) (s : Source S V) : Type 0 where
@@ -18,9 +18,9 @@ pub record FirstKnown {S V : Type 0} (got : Arrived S V) (full : Bool) (s : Sour
   pub room : full ≡ false
 
 -- the refusal of a node with these arrivals
-abbrev pub gotCode : {S V : Type 0} → Option (Source S V) → Bool → Bool → ℕ
-gotCode None agreed full = 23
-gotCode (Some x) agreed full = groupCode agreed full
+abbrev pub got_code : {S V : Type 0} → Option (Source S V) → Bool → Bool → ℕ
+got_code None agreed full = 23
+got_code (Some x) agreed full = group_code agreed full
 
 -- layer i of a list of that length lies between the first node and the end
 pub record Placed (n w long i : ℕ) : Type 0 where
@@ -33,23 +33,23 @@ pub record Placed (n w long i : ℕ) : Type 0 where
 module _ {S V : Type 0} (r : Round) (R : RuleSense S) (T : TallySense V) where
   -- s brings the first arrival at node t out of the w records at `at`, some differ from it, and m nodes leave room for one more
   pub record FirstInto (at w t : ℕ) (xs : List (Node S V)) (m : ℕ) (s : Source S V) : Type 0 where
-    pub first : Some (brought r R T s) ≡ headO r R T (arrivals r R T t (part at w xs))
+    pub first : Some (brought r R T s) ≡ first_arrival r R T (arrivals r R T t (part at w xs))
     pub differ : alike r R T at w t xs ≡ false
     pub room : m < w
 
   -- node a of layer i can be parted, and s brings the first arrival
   pub record MayPart (w i a : ℕ) (xs : List (Node S V)) (s : Source S V) : Type 0 where
-    pub clear : partCode r R T w i a xs ≡ 0
+    pub clear : part_code r R T w i a xs ≡ 0
     pub placed : Placed r.n w (length xs) i
     pub low : 1 ≤ a
-    pub high : a ≤ countAt ((i - 1) * w + w) w xs
-    pub into : FirstInto ((i - 1) * w) w a xs (countAt ((i - 1) * w + w) w xs) s
+    pub high : a ≤ node_count ((i - 1) * w + w) w xs
+    pub into : FirstInto ((i - 1) * w) w a xs (node_count ((i - 1) * w + w) w xs) s
 
 -- nodes a and b of layer i can be joined
 pub record MayJoin {S V : Type 0} (n : ℕ) (z : Node S V) (w i a b : ℕ) (xs : List (Node S V)) : Type 0 where
-  pub clear : joinCode n z w i a b xs ≡ 0
+  pub clear : join_code n z w i a b xs ≡ 0
   pub placed : Placed n w (length xs) i
   pub low : 1 ≤ min a b
   pub apart : min a b < max a b
-  pub high : max a b ≤ countAt ((i - 1) * w + w) w xs
-  pub calm : clashAt z ((i - 1) * w + w) a b xs ≡ false
+  pub high : max a b ≤ node_count ((i - 1) * w + w) w xs
+  pub calm : clash_at z ((i - 1) * w + w) a b xs ≡ false

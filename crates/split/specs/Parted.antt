@@ -7,14 +7,14 @@ use Rattle.layers.specs.Targets.{redirected}
 
 module _ {S V : Type 0} (stays : Label S V → ℕ → Bool) where
   -- the arc of u by door j to place b, where the node at place a is parted and the new one stands at m
-  unfoldable pub partedTo : ℕ → ℕ → Node S V → ℕ → ℕ → ℕ
-  partedTo a m u j b = cond (b == a && not (stays u.label j)) (suc m) (suc b)
+  unfoldable pub parted_to : ℕ → ℕ → Node S V → ℕ → ℕ → ℕ
+  parted_to a m u j b = cond (b == a && not (stays u.label j)) (suc m) (suc b)
 
-  unfoldable pub partedNode : ℕ → ℕ → Node S V → Node S V
-  unfolding partedTo redirected
-  partedNode a m u = redirected (partedTo a m u) u
+  unfoldable pub parted_node : ℕ → ℕ → Node S V → Node S V
+  unfolding parted_to redirected
+  parted_node a m u = redirected (parted_to a m u) u
 
   -- of the list from the layer before theirs on, w records to a layer: that layer has the in-arcs
-  unfoldable pub partedSecond : ℕ → ℕ → ℕ → List (Node S V) → Node S V → List (Node S V)
-  unfolding partedNode
-  partedSecond w a m xs z = map (partedNode a m) (take w xs) ++ slice_set (drop w xs) m (slice_index_or (drop w xs) a z)
+  unfoldable pub parted_second : ℕ → ℕ → ℕ → List (Node S V) → Node S V → List (Node S V)
+  unfolding parted_node
+  parted_second w a m xs z = map (parted_node a m) (take w xs) ++ slice_set (drop w xs) m (slice_index_or (drop w xs) a z)

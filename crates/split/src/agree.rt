@@ -2,10 +2,10 @@
 ghost use Rattle.std.specs.Prelude.{◌≡◌, ◌+◌, ◌-◌, ◌<◌, ◌≤◌, ◌++◌, length, take, drop, fold};
 ghost use Rattle.tallies.specs.Tallies.{TallySense};
 ghost use Rattle.layers.specs.declared.node.Node.{Node as ANode};
-ghost use Rattle.layers.specs.Labels.{agree, agreeing, headO};
-ghost use Rattle.labels.specs.Passes.{part, byDoor, fromNode, arrivals};
-ghost use Rattle.split.specs.Agreed.{finishOf, brought, broughtFirst, seen, met, keptBy};
-ghost use Rattle.split.specs.Parted.{partedSecond};
+ghost use Rattle.layers.specs.Labels.{agree, agreeing, first_arrival};
+ghost use Rattle.labels.specs.Passes.{part, by_door, from_node, arrivals};
+ghost use Rattle.split.specs.Agreed.{finish_of, brought, brought_first, seen, met, kept_by};
+ghost use Rattle.split.specs.Parted.{parted_second};
 
 use crate::part::{Test, part};
 use crate::source::{Arrived, Source};
@@ -17,7 +17,7 @@ use tallies::tally::Tally;
 
 // When the work at the arrival would end, in u64 since any finish may stand.
 fn finish_of<S: Copy, V: Copy>(round: &Round, x: &Source<S, V>) -> u64
-    ensures { result ≡ finishOf round.now x.now }
+    ensures { result ≡ finish_of round.now x.now }
 {
     let leg = leg_from(round, x.label.lasts, x.door);
     round.finish(x.label.finish, leg, x.door)
@@ -75,7 +75,7 @@ fn meet_node<R: Rule, V: Copy>(
     u: &Node<R::State, V>,
     t: u8,
 ) -> Arrived<R::State, V>
-    ensures { (s : TallySense V) → seen round.now (R.Rule.sense rule.now) s result ≡ fold (met round.now (R.Rule.sense rule.now) s) (seen round.now (R.Rule.sense rule.now) s got) (fromNode round.now (R.Rule.sense rule.now) s t u.now) }
+    ensures { (s : TallySense V) → seen round.now (R.Rule.sense rule.now) s result ≡ fold (met round.now (R.Rule.sense rule.now) s) (seen round.now (R.Rule.sense rule.now) s got) (from_node round.now (R.Rule.sense rule.now) s t u.now) }
 {
     if u.label.down.lasts == 0 {
         return got;
@@ -100,7 +100,7 @@ fn look_at<R: Rule, V: Copy>(
     us: &[Node<R::State, V>],
     t: u8,
 ) -> Arrived<R::State, V>
-    ensures first { (s : TallySense V) → broughtFirst round.now (R.Rule.sense rule.now) s result.first ≡ headO round.now (R.Rule.sense rule.now) s (arrivals round.now (R.Rule.sense rule.now) s t us.now) }
+    ensures first { (s : TallySense V) → brought_first round.now (R.Rule.sense rule.now) s result.first ≡ first_arrival round.now (R.Rule.sense rule.now) s (arrivals round.now (R.Rule.sense rule.now) s t us.now) }
     ensures agreed { (s : TallySense V) → result.agreed ≡ agreeing round.now (R.Rule.sense rule.now) s (arrivals round.now (R.Rule.sense rule.now) s t us.now) }
 {
     let mut all = Arrived {
@@ -123,7 +123,7 @@ pub(crate) fn look_in<R: Rule, V: Copy>(
     t: u8,
 ) -> Arrived<R::State, V>
     requires { at + w ≤ length nodes.now }
-    ensures first { (s : TallySense V) → broughtFirst round.now (R.Rule.sense rule.now) s result.first ≡ headO round.now (R.Rule.sense rule.now) s (arrivals round.now (R.Rule.sense rule.now) s t (part at w nodes.now)) }
+    ensures first { (s : TallySense V) → brought_first round.now (R.Rule.sense rule.now) s result.first ≡ first_arrival round.now (R.Rule.sense rule.now) s (arrivals round.now (R.Rule.sense rule.now) s t (part at w nodes.now)) }
     ensures agreed { (s : TallySense V) → result.agreed ≡ agreeing round.now (R.Rule.sense rule.now) s (arrivals round.now (R.Rule.sense rule.now) s t (part at w nodes.now)) }
 {
     let end = at + w;
@@ -144,7 +144,7 @@ impl<'a, R: Rule, T: Tally> Test for ByFirst<'a, R, T, R::State, T::Value> {
 
     type Value = T::Value;
 
-    ghost keeps = { λ b. keptBy b.round.now (R.Rule.sense b.rule.now) (T.Tally.sense b.tally.now) b.first };
+    ghost keeps = { λ b. kept_by b.round.now (R.Rule.sense b.rule.now) (T.Tally.sense b.tally.now) b.first };
 
     fn stays(&self, u: &Label<R::State, T::Value>, j: usize) -> bool {
         let y = Source {
@@ -173,7 +173,7 @@ pub(crate) fn part_by_first<'a, R: Rule, T: Tally>(
     requires one_le_a { 1 ≤ a }
     requires a_le_count { a ≤ count }
     requires count_lt_w { count < w }
-    ensures { (z : ANode (R.State) (T.Value)) → nodes.new ≡ take at nodes.old ++ partedSecond (keptBy round.now (R.Rule.sense rule.now) (T.Tally.sense tally.now) first) w (a - 1) count (drop at nodes.old) z }
+    ensures { (z : ANode (R.State) (T.Value)) → nodes.new ≡ take at nodes.old ++ parted_second (kept_by round.now (R.Rule.sense rule.now) (T.Tally.sense tally.now) first) w (a - 1) count (drop at nodes.old) z }
 {
     let test = ByFirst {
         round,

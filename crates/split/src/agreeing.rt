@@ -2,7 +2,7 @@
 ghost use Rattle.std.specs.Prelude.{◌≡◌, ◌+◌, ◌*◌, ◌≤◌, length};
 ghost use Rattle.tallies.specs.Tallies.{TallySense};
 ghost use Rattle.labels.specs.Passes.{part};
-ghost use Rattle.split.specs.Steps.{countAt, agreedTo, agreedSteps};
+ghost use Rattle.split.specs.Steps.{node_count, agreed_to, agreed_steps};
 ghost use Rattle.split.specs.Words.{AgreedDone};
 
 use crate::agree::look_in;
@@ -22,7 +22,7 @@ fn layer_agreed<R: Rule, V: Copy>(
 ) -> bool
     requires w_in_bounds { at + w + w ≤ length nodes.now }
     requires w_bound { w ≤ 128 }
-    ensures { (s : TallySense V) → result ≡ agreedTo round.now (R.Rule.sense rule.now) s (countAt (at + w) w nodes.now) (part at w nodes.now) }
+    ensures { (s : TallySense V) → result ≡ agreed_to round.now (R.Rule.sense rule.now) s (node_count (at + w) w nodes.now) (part at w nodes.now) }
 {
     let count = count_in(nodes, at + w, w);
     let mut all = true;
@@ -40,7 +40,7 @@ pub fn agreed<R: Rule, V: Copy>(
     nodes: &[Node<R::State, V>],
     width: usize,
 ) -> bool
-    ensures steps { (s : TallySense V) → result ≡ agreedSteps round.now (R.Rule.sense rule.now) s width nodes.now }
+    ensures steps { (s : TallySense V) → result ≡ agreed_steps round.now (R.Rule.sense rule.now) s width nodes.now }
     ensures words { (s : TallySense V) → AgreedDone round.now (R.Rule.sense rule.now) s width nodes.now result }
 {
     if !has_room(round, width, nodes.len()) {

@@ -1,8 +1,8 @@
 // Joining two nodes of a layer.
 ghost use Rattle.std.specs.Prelude.{◌≡◌, ℕ, ◌+◌, ◌-◌, ◌<◌, ◌≤◌, [], ◌∷◌, ◌++◌, map, length, take, drop};
-ghost use Rattle.layers.specs.Flow.{clash, pickT, dropAt};
-ghost use Rattle.split.specs.Joined.{movedTo, movedNode, joinedNode, joinedLayer, joinedSecond};
-ghost use Rattle.layers.specs.Targets.{targets, atDoor};
+ghost use Rattle.layers.specs.Flow.{clash, either_target, without_at};
+ghost use Rattle.split.specs.Joined.{moved_to, moved_node, joined_node, joined_layer, joined_second};
+ghost use Rattle.layers.specs.Targets.{targets, at_door};
 
 use layers::node::{Arcs, Node};
 
@@ -21,7 +21,7 @@ pub(crate) fn clashes<S: Copy, V: Copy>(x: &Node<S, V>, y: &Node<S, V>) -> bool
 fn moved_to(lo: u8, hi: u8, t: u8) -> u8
     requires one_le_lo { 1 ≤ lo }
     requires lo_lt_hi { lo < hi }
-    ensures { (j : ℕ) → result ≡ atDoor (movedTo (lo - 1) (hi - 1)) j t }
+    ensures { (j : ℕ) → result ≡ at_door (moved_to (lo - 1) (hi - 1)) j t }
 {
     if t == hi {
         lo
@@ -35,7 +35,7 @@ fn moved_to(lo: u8, hi: u8, t: u8) -> u8
 fn move_node<S: Copy, V: Copy>(x: &Node<S, V>, lo: u8, hi: u8) -> Node<S, V>
     requires one_le_lo { 1 ≤ lo }
     requires lo_lt_hi { lo < hi }
-    ensures { result ≡ movedNode (lo - 1) (hi - 1) x.now }
+    ensures { result ≡ moved_node (lo - 1) (hi - 1) x.now }
 {
     let to = x.arcs.to.map(|t| moved_to(lo, hi, t));
     Node {
@@ -47,7 +47,7 @@ fn move_node<S: Copy, V: Copy>(x: &Node<S, V>, lo: u8, hi: u8) -> Node<S, V>
 fn move_layer<S: Copy, V: Copy>(us: &mut [Node<S, V>], lo: u8, hi: u8)
     requires one_le_lo { 1 ≤ lo }
     requires lo_lt_hi { lo < hi }
-    ensures { us.new ≡ map (movedNode (lo - 1) (hi - 1)) us.old }
+    ensures { us.new ≡ map (moved_node (lo - 1) (hi - 1)) us.old }
 {
     for x in us.iter_mut() {
         *x = move_node(x, lo, hi);
@@ -56,7 +56,7 @@ fn move_layer<S: Copy, V: Copy>(us: &mut [Node<S, V>], lo: u8, hi: u8)
 
 // A node with the out-arcs of both.
 fn both<S: Copy, V: Copy>(x: &Node<S, V>, y: &Node<S, V>) -> Node<S, V>
-    ensures { result ≡ joinedNode x.now y.now }
+    ensures { result ≡ joined_node x.now y.now }
 {
     let mut to = [0u8; 16];
     for k in 0..16 {
@@ -75,7 +75,7 @@ fn both<S: Copy, V: Copy>(x: &Node<S, V>, y: &Node<S, V>) -> Node<S, V>
 // Takes out the record at `at`: the later ones move down, and the last place is blank.
 fn take_out<S: Copy, V: Copy>(us: &mut [Node<S, V>], at: usize, blank: &Node<S, V>)
     requires { at < length us.old }
-    ensures { us.new ≡ dropAt at us.old ++ blank.now ∷ [] }
+    ensures { us.new ≡ without_at at us.old ++ blank.now ∷ [] }
 {
     let last = us.len() - 1;
     us.copy_within(at + 1.., at);
@@ -87,7 +87,7 @@ fn join_layer<S: Copy, V: Copy>(us: &mut [Node<S, V>], lo: usize, hi: usize, bla
     requires one_le_lo { 1 ≤ lo }
     requires lo_lt_hi { lo < hi }
     requires hi_in_bounds { hi ≤ length us.old }
-    ensures { us.new ≡ joinedLayer (lo - 1) (hi - 1) us.old blank.now }
+    ensures { us.new ≡ joined_layer (lo - 1) (hi - 1) us.old blank.now }
 {
     let x = us[lo - 1];
     let y = us[hi - 1];
@@ -107,7 +107,7 @@ fn join_second<S: Copy, V: Copy>(
     requires one_le_lo { 1 ≤ lo }
     requires lo_lt_hi { lo < hi }
     requires hi_le_w { hi ≤ w }
-    ensures { nodes.new ≡ joinedSecond w (lo - 1) (hi - 1) nodes.old blank.now }
+    ensures { nodes.new ≡ joined_second w (lo - 1) (hi - 1) nodes.old blank.now }
 {
     let (us, rest) = nodes.split_at_mut(w);
     move_layer(us, lo, hi);
@@ -127,7 +127,7 @@ pub(crate) fn join<S: Copy, V: Copy>(
     requires one_le_lo { 1 ≤ lo }
     requires lo_lt_hi { lo < hi }
     requires hi_le_w { hi ≤ w }
-    ensures { nodes.new ≡ take at nodes.old ++ joinedSecond w (lo - 1) (hi - 1) (drop at nodes.old) blank.now }
+    ensures { nodes.new ≡ take at nodes.old ++ joined_second w (lo - 1) (hi - 1) (drop at nodes.old) blank.now }
 {
     let rest = &mut nodes[at..];
     join_second(rest, w, lo, hi, blank);

@@ -2,8 +2,8 @@
 ghost use Rattle.std.specs.Prelude.{◌≡◌, ℕ, ◌+◌, ◌-◌, ◌<◌, ◌≤◌, Bool, ◌++◌, map, length, take, drop, slice_index};
 ghost use Rattle.layers.specs.declared.node.Label.{Label as ALabel};
 ghost use Rattle.layers.specs.declared.node.Node.{Node as ANode};
-ghost use Rattle.split.specs.Parted.{partedTo, partedNode, partedSecond};
-ghost use Rattle.layers.specs.Targets.{atDoor};
+ghost use Rattle.split.specs.Parted.{parted_to, parted_node, parted_second};
+ghost use Rattle.layers.specs.Targets.{at_door};
 
 use layers::node::{Arcs, Label, Node};
 
@@ -25,7 +25,7 @@ fn part_door<K: Test>(test: &K, u: &Node<K::State, K::Value>, k: usize, a: u8, n
     requires k_bound { k < 16 }
     requires one_le_a { 1 ≤ a }
     requires one_le_new { 1 ≤ new }
-    ensures { result ≡ atDoor (partedTo (K.Test.keeps test.now) (a - 1) (new - 1) u.now) (k + 1) (slice_index u.now.arcs.to k) }
+    ensures { result ≡ at_door (parted_to (K.Test.keeps test.now) (a - 1) (new - 1) u.now) (k + 1) (slice_index u.now.arcs.to k) }
 {
     let t = u.arcs.to[k];
     if t != a {
@@ -42,7 +42,7 @@ fn part_node<K: Test>(
 ) -> Node<K::State, K::Value>
     requires one_le_a { 1 ≤ a }
     requires one_le_new { 1 ≤ new }
-    ensures { result ≡ partedNode (K.Test.keeps test.now) (a - 1) (new - 1) x.now }
+    ensures { result ≡ parted_node (K.Test.keeps test.now) (a - 1) (new - 1) x.now }
 {
     let mut to = [0u8; 16];
     for k in 0..16 {
@@ -57,7 +57,7 @@ fn part_node<K: Test>(
 fn part_layer<K: Test>(test: &K, us: &mut [Node<K::State, K::Value>], a: u8, new: u8)
     requires one_le_a { 1 ≤ a }
     requires one_le_new { 1 ≤ new }
-    ensures { us.new ≡ map (partedNode (K.Test.keeps test.now) (a - 1) (new - 1)) us.old }
+    ensures { us.new ≡ map (parted_node (K.Test.keeps test.now) (a - 1) (new - 1)) us.old }
 {
     for x in us.iter_mut() {
         *x = part_node(test, x, a, new);
@@ -77,7 +77,7 @@ fn part_second<K: Test>(
     requires one_le_a { 1 ≤ a }
     requires a_le_count { a ≤ count }
     requires count_lt_w { count < w }
-    ensures { (z : ANode (K.State) (K.Value)) → nodes.new ≡ partedSecond (K.Test.keeps test.now) w (a - 1) count nodes.old z }
+    ensures { (z : ANode (K.State) (K.Value)) → nodes.new ≡ parted_second (K.Test.keeps test.now) w (a - 1) count nodes.old z }
 {
     let (us, vs) = nodes.split_at_mut(w);
     part_layer(test, us, a, count + 1);
@@ -98,7 +98,7 @@ pub(crate) fn part<K: Test>(
     requires one_le_a { 1 ≤ a }
     requires a_le_count { a ≤ count }
     requires count_lt_w { count < w }
-    ensures { (z : ANode (K.State) (K.Value)) → nodes.new ≡ take at nodes.old ++ partedSecond (K.Test.keeps test.now) w (a - 1) count (drop at nodes.old) z }
+    ensures { (z : ANode (K.State) (K.Value)) → nodes.new ≡ take at nodes.old ++ parted_second (K.Test.keeps test.now) w (a - 1) count (drop at nodes.old) z }
 {
     let rest = &mut nodes[at..];
     part_second(test, rest, w, a, count);

@@ -1,12 +1,12 @@
 // Parting a node: the in-arcs that differ from the first go to a new last node of its layer.
 ghost use Rattle.std.specs.Prelude.{◌≡◌, suc, ◌+◌, ◌-◌, ◌<◌, ◌≤◌, length, Some, MatchResult, nat_le};
 ghost use Rattle.tallies.specs.Tallies.{TallySense};
-ghost use Rattle.layers.specs.Labels.{headO};
+ghost use Rattle.layers.specs.Labels.{first_arrival};
 ghost use Rattle.layers.specs.Refusals.{number_of};
 ghost use Rattle.labels.specs.Passes.{part, arrivals};
 ghost use Rattle.split.specs.Agreed.{brought};
-ghost use Rattle.split.specs.Steps.{countAt, groupCode, alike, partedOne, partCode, partSteps, nextCount, nextRecords, partsFrom, layerSteps};
-ghost use Rattle.split.specs.Asked.{gotCode, FirstKnown, FirstInto, MayPart};
+ghost use Rattle.split.specs.Steps.{node_count, group_code, alike, parted_one, part_code, part_steps, next_count, next_records, parts_from, layer_steps};
+ghost use Rattle.split.specs.Asked.{got_code, FirstKnown, FirstInto, MayPart};
 ghost use Rattle.split.specs.Words.{PartDone, LayerDone};
 
 use crate::agree::{look_in, part_by_first};
@@ -22,7 +22,7 @@ use tallies::tally::Tally;
 
 // The first in-arc of a node that can be parted.
 fn check_group<S: Copy, V: Copy>(got: Arrived<S, V>, full: bool) -> Result<Source<S, V>, Refusal>
-    ensures { MatchResult result (FirstKnown got full) (λ e. gotCode got.first got.agreed full ≡ number_of e) }
+    ensures { MatchResult result (FirstKnown got full) (λ e. got_code got.first got.agreed full ≡ number_of e) }
 {
     let Arrived { first, agreed } = got;
     match first {
@@ -50,7 +50,7 @@ fn check_into<R: Rule, V: Copy>(
     count: usize,
 ) -> Result<Source<R::State, V>, Refusal>
     requires { at + w ≤ length nodes.now }
-    ensures { (s : TallySense V) → MatchResult result (FirstInto round.now (R.Rule.sense rule.now) s at w t nodes.now count) (λ e. groupCode (alike round.now (R.Rule.sense rule.now) s at w t nodes.now) (nat_le w count) ≡ number_of e) }
+    ensures { (s : TallySense V) → MatchResult result (FirstInto round.now (R.Rule.sense rule.now) s at w t nodes.now count) (λ e. group_code (alike round.now (R.Rule.sense rule.now) s at w t nodes.now) (nat_le w count) ≡ number_of e) }
 {
     let got = look_in(round, rule, nodes, at, w, t);
     check_group(got, count >= w)
@@ -65,7 +65,7 @@ fn check_part<R: Rule, V: Copy>(
     layer: usize,
     node: usize,
 ) -> Result<Source<R::State, V>, Refusal>
-    ensures { (s : TallySense V) → MatchResult result (MayPart round.now (R.Rule.sense rule.now) s width layer node nodes.now) (λ e. partCode round.now (R.Rule.sense rule.now) s width layer node nodes.now ≡ number_of e) }
+    ensures { (s : TallySense V) → MatchResult result (MayPart round.now (R.Rule.sense rule.now) s width layer node nodes.now) (λ e. part_code round.now (R.Rule.sense rule.now) s width layer node nodes.now ≡ number_of e) }
 {
     check_place(round.n, width, nodes.len(), layer)?;
     let at = (layer - 1) * width;
@@ -91,8 +91,8 @@ fn part_node<R: Rule, T: Tally>(
     requires one_le_a { 1 ≤ a }
     requires a_le_count { a ≤ count }
     requires count_lt_w { count < w }
-    requires is_first { Some (brought round.now (R.Rule.sense rule.now) (T.Tally.sense tally.now) first) ≡ headO round.now (R.Rule.sense rule.now) (T.Tally.sense tally.now) (arrivals round.now (R.Rule.sense rule.now) (T.Tally.sense tally.now) a (part at w nodes.old)) }
-    ensures { nodes.new ≡ partedOne round.now (R.Rule.sense rule.now) (T.Tally.sense tally.now) at w (a - 1) count nodes.old }
+    requires is_first { Some (brought round.now (R.Rule.sense rule.now) (T.Tally.sense tally.now) first) ≡ first_arrival round.now (R.Rule.sense rule.now) (T.Tally.sense tally.now) (arrivals round.now (R.Rule.sense rule.now) (T.Tally.sense tally.now) a (part at w nodes.old)) }
+    ensures { nodes.new ≡ parted_one round.now (R.Rule.sense rule.now) (T.Tally.sense tally.now) at w (a - 1) count nodes.old }
 {
     part_by_first(
         round,
@@ -118,8 +118,8 @@ pub fn part<R: Rule, T: Tally>(
     layer: usize,
     node: usize,
 ) -> Result<(), Refusal>
-    ensures answer { MatchResult result (λ _. partCode round.now (R.Rule.sense rule.now) (T.Tally.sense tally.now) width layer node nodes.old ≡ 0) (λ e. partCode round.now (R.Rule.sense rule.now) (T.Tally.sense tally.now) width layer node nodes.old ≡ number_of e) }
-    ensures steps { nodes.new ≡ partSteps round.now (R.Rule.sense rule.now) (T.Tally.sense tally.now) width layer node nodes.old }
+    ensures answer { MatchResult result (λ _. part_code round.now (R.Rule.sense rule.now) (T.Tally.sense tally.now) width layer node nodes.old ≡ 0) (λ e. part_code round.now (R.Rule.sense rule.now) (T.Tally.sense tally.now) width layer node nodes.old ≡ number_of e) }
+    ensures steps { nodes.new ≡ part_steps round.now (R.Rule.sense rule.now) (T.Tally.sense tally.now) width layer node nodes.old }
     ensures words { PartDone round.now (R.Rule.sense rule.now) (T.Tally.sense tally.now) width nodes.old layer node result nodes.new }
 {
     let first = check_part(round, rule, nodes, width, layer, node)?;
@@ -146,8 +146,8 @@ fn part_next<R: Rule, T: Tally>(
     requires w_bound { w ≤ 128 }
     requires a_lt_count { a < count }
     requires count_le_w { count ≤ w }
-    ensures answer { result ≡ nextCount (alike round.now (R.Rule.sense rule.now) (T.Tally.sense tally.now) at w (suc a) nodes.old) (nat_le w count) count }
-    ensures records { nodes.new ≡ nextRecords round.now (R.Rule.sense rule.now) (T.Tally.sense tally.now) at w a count nodes.old }
+    ensures answer { result ≡ next_count (alike round.now (R.Rule.sense rule.now) (T.Tally.sense tally.now) at w (suc a) nodes.old) (nat_le w count) count }
+    ensures records { nodes.new ≡ next_records round.now (R.Rule.sense rule.now) (T.Tally.sense tally.now) at w a count nodes.old }
 {
     let Arrived { first, agreed } = look_in(round, rule, nodes, at, w, a as u8 + 1);
     if agreed {
@@ -176,7 +176,7 @@ fn part_from<R: Rule, T: Tally>(
 ) -> bool
     requires w_in_bounds { at + w + w < length nodes.old }
     requires w_bound { w ≤ 128 }
-    ensures { (result, nodes.new) ≡ partsFrom round.now (R.Rule.sense rule.now) (T.Tally.sense tally.now) at w w 0 (countAt (at + w) w nodes.old) nodes.old }
+    ensures { (result, nodes.new) ≡ parts_from round.now (R.Rule.sense rule.now) (T.Tally.sense tally.now) at w w 0 (node_count (at + w) w nodes.old) nodes.old }
 {
     let mut count = count_in(nodes, at + w, w);
     for a in 0..w {
@@ -202,7 +202,7 @@ pub fn part_layer<R: Rule, T: Tally>(
     width: usize,
     layer: usize,
 ) -> bool
-    ensures steps { (result, nodes.new) ≡ layerSteps round.now (R.Rule.sense rule.now) (T.Tally.sense tally.now) width layer nodes.old }
+    ensures steps { (result, nodes.new) ≡ layer_steps round.now (R.Rule.sense rule.now) (T.Tally.sense tally.now) width layer nodes.old }
     ensures words { LayerDone round.now (R.Rule.sense rule.now) (T.Tally.sense tally.now) width nodes.old layer result nodes.new }
 {
     if check_place(round.n, width, nodes.len(), layer).is_err() {

@@ -1,7 +1,7 @@
 // How many nodes of a layer are in use.
 ghost use Rattle.std.specs.Prelude.{◌≡◌, ◌+◌, ◌≤◌, length};
 ghost use Rattle.layers.specs.Records.{standing};
-ghost use Rattle.split.specs.Steps.{countAt};
+ghost use Rattle.split.specs.Steps.{node_count};
 
 use layers::node::Node;
 
@@ -15,7 +15,7 @@ fn count_nodes<S: Copy, V: Copy>(us: &[Node<S, V>]) -> usize
 // The same of the w records at `at`.
 pub(crate) fn count_in<S: Copy, V: Copy>(nodes: &[Node<S, V>], at: usize, w: usize) -> usize
     requires { at + w ≤ length nodes.now }
-    ensures { result ≡ countAt at w nodes.now }
+    ensures { result ≡ node_count at w nodes.now }
 {
     let end = at + w;
     count_nodes(&nodes[at..end])

@@ -1,13 +1,13 @@
 -- Late doors: how many doors are late, and the minutes by which they are.
 use Rattle.std.specs.Prelude.{Bool, cond, ◌&&◌, ◌||◌, List, ℕ, ◌+◌, ◌-◌, min, leb, ltb, eqb}
-use Rattle.doors.specs.Orders.{isDoor}
+use Rattle.doors.specs.Orders.{is_door}
 use Rattle.round.specs.declared.door.Door.{Door}
 use Rattle.round.specs.Tables.{at}
 use Rattle.tallies.specs.Tallies.{TallySense}
 
 -- by how many minutes door j is late, if its work ends at finish; a number that is no door of the round is never late
-abbrev pub lateBy : ℕ → List Door → ℕ → ℕ → ℕ
-lateBy n doors j finish = cond (isDoor n j) (finish - (at doors j).due) 0
+abbrev pub late_by : ℕ → List Door → ℕ → ℕ → ℕ
+late_by n doors j finish = cond (is_door n j) (finish - (at doors j).due) 0
 
 -- one more door, late by m minutes, or on time where m is 0; a number that would pass 1,000,000 stays there
 abbrev pub counts : ℕ × ℕ → ℕ → ℕ × ℕ
@@ -17,5 +17,5 @@ counts v m = cond (ltb 0 m) (min (v.0 + 1) 1000000, min (v.1 + m) 1000000) v
 abbrev pub lex : ℕ × ℕ → ℕ × ℕ → Bool
 lex a b = ltb a.0 b.0 || (eqb a.0 b.0 && leb a.1 b.1)
 
-abbrev pub lateSense : ℕ → List Door → TallySense (ℕ × ℕ)
-lateSense n doors = record { start = (0, 0); step = λ v j leg finish. counts v (lateBy n doors j finish); notAbove = lex; lesser = λ a b. cond (lex a b) a b }
+abbrev pub late_sense : ℕ → List Door → TallySense (ℕ × ℕ)
+late_sense n doors = record { start = (0, 0); step = λ v j leg finish. counts v (late_by n doors j finish); not_above = lex; lesser = λ a b. cond (lex a b) a b }

@@ -7,23 +7,23 @@ use Rattle.round.specs.Clock.{latest}
 pub record TallySense (V : Type 0) : Type 0 where
   pub start : V
   pub step : V → ℕ → ℕ → ℕ → V
-  pub notAbove : V → V → Bool
+  pub not_above : V → V → Bool
   pub lesser : V → V → V
 
 -- The laws, for rounds of n doors: Allows k says which values are allowed after k doors.
 pub record TallyLaws {V : Type 0} (n : ℕ) (T : TallySense V) (Allows : ℕ → V → Type 0) : Type 0 where
   -- not-above is a total order on all values
-  pub order-self : (a : V) → T.notAbove a a ≡ true
-  pub order-chain : (a b c : V) → T.notAbove a b ≡ true → T.notAbove b c ≡ true → T.notAbove a c ≡ true
-  pub order_same : (a b : V) → T.notAbove a b ≡ true → T.notAbove b a ≡ true → a ≡ b
-  pub order-total : (a b : V) → T.notAbove a b ≡ false → T.notAbove b a ≡ true
+  pub order_self : (a : V) → T.not_above a a ≡ true
+  pub order_chain : (a b c : V) → T.not_above a b ≡ true → T.not_above b c ≡ true → T.not_above a c ≡ true
+  pub order_same : (a b : V) → T.not_above a b ≡ true → T.not_above b a ≡ true → a ≡ b
+  pub order_total : (a b : V) → T.not_above a b ≡ false → T.not_above b a ≡ true
   -- lesser(a, b) is a if a is not above b, else b
-  pub lesser-is : (a b : V) → T.lesser a b ≡ cond (T.notAbove a b) a b
+  pub lesser_is : (a b : V) → T.lesser a b ≡ cond (T.not_above a b) a b
   -- start is allowed after 0 doors, and a step leads from k doors to k + 1
-  pub start-allowed : Allows 0 T.start
-  pub step-allowed : (k : ℕ) (v : V) (j leg finish : ℕ) → k < 16 → Door n j → leg ≤ 999 → finish ≤ latest 16 → Allows k v → Allows (suc k) (T.step v j leg finish)
+  pub start_allowed : Allows 0 T.start
+  pub step_allowed : (k : ℕ) (v : V) (j leg finish : ℕ) → k < 16 → Door n j → leg ≤ 999 → finish ≤ latest 16 → Allows k v → Allows (suc k) (T.step v j leg finish)
   -- on those values a step never falls when value, leg or finish rises
-  pub step-rises : (k : ℕ) (v v' : V) (j leg leg' finish finish' : ℕ) → k < 16 → Door n j → leg ≤ leg' → leg' ≤ 999 → finish ≤ finish' → finish' ≤ latest 16
-      → Allows k v → Allows k v' → T.notAbove v v' ≡ true → T.notAbove (T.step v j leg finish) (T.step v' j leg' finish') ≡ true
+  pub step_rises : (k : ℕ) (v v' : V) (j leg leg' finish finish' : ℕ) → k < 16 → Door n j → leg ≤ leg' → leg' ≤ 999 → finish ≤ finish' → finish' ≤ latest 16
+      → Allows k v → Allows k v' → T.not_above v v' ≡ true → T.not_above (T.step v j leg finish) (T.step v' j leg' finish') ≡ true
   -- on those values v is not above its step
-  pub step-above : (k : ℕ) (v : V) (j leg finish : ℕ) → k < 16 → Door n j → leg ≤ 999 → finish ≤ latest 16 → Allows k v → T.notAbove v (T.step v j leg finish) ≡ true
+  pub step_above : (k : ℕ) (v : V) (j leg finish : ℕ) → k < 16 → Door n j → leg ≤ 999 → finish ≤ latest 16 → Allows k v → T.not_above v (T.step v j leg finish) ≡ true

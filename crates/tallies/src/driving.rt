@@ -1,6 +1,6 @@
 // The minutes driven, from the yard to the last door.
 ghost use Rattle.std.specs.Prelude.{◌*◌, ◌≤◌};
-ghost use Rattle.tallies.specs.Driving.{drivingSense};
+ghost use Rattle.tallies.specs.Driving.{driving_sense};
 ghost use Rattle.std.proofs.Common.{rules};
 
 use crate::tally::Tally;
@@ -16,7 +16,7 @@ impl Tally for Driving {
 
     ghost serves = { λ t n. Unit {0} };
 
-    ghost sense = { λ t. drivingSense };
+    ghost sense = { λ t. driving_sense };
 
     ghost allows = { λ t k v. v ≤ 999 * k };
 

@@ -23,7 +23,7 @@ pub trait Tally {
         ensures { result ≡ (sense self.now).step v j leg finish };
 
     fn not_above(&self, a: Self::Value, b: Self::Value) -> bool
-        ensures { result ≡ (sense self.now).notAbove a b };
+        ensures { result ≡ (sense self.now).not_above a b };
 
     fn lesser(&self, a: Self::Value, b: Self::Value) -> Self::Value
         ensures { result ≡ (sense self.now).lesser a b };

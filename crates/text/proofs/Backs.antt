@@ -15,13 +15,13 @@ use Rattle.round.specs.declared.door.Door as door
 use Rattle.text.specs.declared.line.Head as head
 use Rattle.text.specs.declared.line.Pair as pair
 use Rattle.text.specs.Number.{plain, positive, minus}
-use Rattle.text.specs.Fields.{number_in, changeIn, dashIn}
+use Rattle.text.specs.Fields.{number_in, change_in, dash_in}
 use Rattle.text.specs.Pieces.{pieces}
-use Rattle.text.specs.Lines.{and_then, legIn, rowFrom}
-use Rattle.text.specs.Steps.{lineStep}
-use Rattle.text.specs.Reading.{readLines, readText, atEnd}
-use Rattle.text.specs.Drafts.{unread, with_head, withDoor, with_row, withPair}
-use Rattle.text.specs.Form.{Content, headFields, doorFields, doorsFields, legFields, rowFields, rowsFields, pairFields, records, joined, written, DoorFits, Each, LegsFit, RowsFit, PairFits, Fits, fillRow, addDoors, addRows, addPairs, roundOf, HasForm}
+use Rattle.text.specs.Lines.{and_then, leg_in, row_from}
+use Rattle.text.specs.Steps.{line_step}
+use Rattle.text.specs.Reading.{read_lines, read_text, at_end}
+use Rattle.text.specs.Drafts.{unread, with_head, with_door, with_row, with_pair}
+use Rattle.text.specs.Form.{Content, head_fields, door_fields, doors_fields, leg_fields, row_fields, rows_fields, pair_fields, records, joined, written, DoorFits, Each, LegsFit, RowsFit, PairFits, Fits, fill_row, add_doors, add_rows, add_pairs, round_of, HasForm}
 use Rattle.text.proofs.Numbers.{own, digit-place}
 use Rattle.text.proofs.Tokens.{minus-no-plain}
 use Rattle.text.proofs.Sound.{never}
@@ -49,7 +49,7 @@ positive-from (b ∷ f) d l z = rw (ne_eqb b 48 z) d
 positive-decimal : (v : ℕ) → 0 < v → v ≤ 9999 → positive (decimal v) ≡ true
 positive-decimal v p l = positive-from (decimal v) (digits_decimal own v (omega arith)) (decimal_nonempty v (omega arith)) (λ e. omega (arith, first_decimal v p (omega arith)))
 
-pub change-back : (z : ℤ) (line k : ℕ) → negsuc 98 ≤ℤ z → z ≤ℤ pos 99 → changeIn (signed_decimal z) line k ≡ Ok z
+pub change-back : (z : ℤ) (line k : ℕ) → negsuc 98 ≤ℤ z → z ≤ℤ pos 99 → change_in (signed_decimal z) line k ≡ Ok z
 change-back (pos v) line k l h =
     let small : v ≤ 99 = omega (arith, ints) in
     rw (plain-decimal v (omega arith), digits_value-decimal own v (omega arith), le-leb v 99 small)
@@ -88,18 +88,18 @@ pub record Clean (fs : List (List ℕ)) : Type 0 where
 -- one step for each line
 abbrev pub Go : List (List (List ℕ)) → ℕ → Stage → Draft → Draft → Type 0
 Go [] line s d e = (s ≡ Pairs) × (d ≡ e)
-Go (fs ∷ fss) line s d e = (t : Stage) × (u : Draft) × Clean fs × (lineStep s d line fs ≡ Ok (t, u)) × Go fss (line + 1) t u e
+Go (fs ∷ fss) line s d e = (t : Stage) × (u : Draft) × Clean fs × (line_step s d line fs ≡ Ok (t, u)) × Go fss (line + 1) t u e
 
-read-on : (fs : List (List ℕ)) (ps : List (List ℕ)) (line : ℕ) (s : Stage) (d : Draft) (t : Stage) (u : Draft) → 0 < length ps → Clean fs → lineStep s d line fs ≡ Ok (t, u) → readLines (joined 9 fs ∷ ps) line s d ≡ readLines ps (line + 1) t u
+read-on : (fs : List (List ℕ)) (ps : List (List ℕ)) (line : ℕ) (s : Stage) (d : Draft) (t : Stage) (u : Draft) → 0 < length ps → Clean fs → line_step s d line fs ≡ Ok (t, u) → read_lines (joined 9 fs ∷ ps) line s d ≡ read_lines ps (line + 1) t u
 read-on fs [] line s d t u l c h = absurd (omega arith)
 read-on fs (p ∷ ps) line s d t u l c h =
-    ap (λ z. and_then (lineStep s d line z) (λ y. readLines (p ∷ ps) (line + 1) y.0 y.1)) (pieces-joined 9 fs c.some c.tabs)
-    ∙ ap (λ r. and_then r (λ y. readLines (p ∷ ps) (line + 1) y.0 y.1)) h
+    ap (λ z. and_then (line_step s d line z) (λ y. read_lines (p ∷ ps) (line + 1) y.0 y.1)) (pieces-joined 9 fs c.some c.tabs)
+    ∙ ap (λ r. and_then r (λ y. read_lines (p ∷ ps) (line + 1) y.0 y.1)) h
 
-pub go-reads : (fss : List (List (List ℕ))) (line : ℕ) (s : Stage) (d e : Draft) → Go fss line s d e → readLines (pieces 10 (written fss)) line s d ≡ Ok e
-go-reads [] line s d e g = ap (λ t. atEnd t d line) g.0 ∙ ap Ok g.1
+pub go-reads : (fss : List (List (List ℕ))) (line : ℕ) (s : Stage) (d e : Draft) → Go fss line s d e → read_lines (pieces 10 (written fss)) line s d ≡ Ok e
+go-reads [] line s d e g = ap (λ t. at_end t d line) g.0 ∙ ap Ok g.1
 go-reads (fs ∷ fss) line s d e g =
-    ap (λ ps. readLines ps line s d) (pieces_more 10 (joined 9 fs) (written fss) (lacks-joined 10 9 fs (λ z. omega arith) g.2.feeds))
+    ap (λ ps. read_lines ps line s d) (pieces_more 10 (joined 9 fs) (written fss) (lacks-joined 10 9 fs (λ z. omega arith) g.2.feeds))
     ∙ read-on fs (pieces 10 (written fss)) line s d g.0 g.1 (some-piece 10 (written fss)) g.2 g.3
     ∙ go-reads fss (line + 1) g.0 g.1 e g.4
 
@@ -107,11 +107,11 @@ go-reads (fs ∷ fss) line s d e g =
 then_is : {A B : Type 0} (r : Result A Refusal) (a : A) (k : A → Result B Refusal) → r ≡ Ok a → and_then r k ≡ k a
 then_is r a k e = ap (λ z. and_then z k) e
 
-head-back : (d : Draft) (h : head.Head) (line : ℕ) → 1 ≤ h.n → h.n ≤ 16 → h.load ≤ h.limit → h.limit ≤ 999 → lineStep Head d line (headFields h) ≡ Ok (Doors 1, with_head d h)
+head-back : (d : Draft) (h : head.Head) (line : ℕ) → 1 ≤ h.n → h.n ≤ 16 → h.load ≤ h.cap → h.cap ≤ 999 → line_step Head d line (head_fields h) ≡ Ok (Doors 1, with_head d h)
 head-back d h line a b c e =
-    rw (number-back 1 16 h.n line 2 a b (omega arith), number-back 0 999 h.load line 3 (omega arith) (omega arith) (omega arith), number-back h.load 999 h.limit line 4 c e (omega arith))
+    rw (number-back 1 16 h.n line 2 a b (omega arith), number-back 0 999 h.load line 3 (omega arith) (omega arith) (omega arith), number-back h.load 999 h.cap line 4 c e (omega arith))
 
-door-back : (k : ℕ) (d : Draft) (x : door.Door) (line : ℕ) → 1 ≤ k → k ≤ d.n → d.n ≤ 16 → DoorFits x → lineStep (Doors k) d line (doorFields k x) ≡ Ok (cond (ltb k d.n) (Doors (k + 1)) (Drives 0), withDoor d k x)
+door-back : (k : ℕ) (d : Draft) (x : door.Door) (line : ℕ) → 1 ≤ k → k ≤ d.n → d.n ≤ 16 → DoorFits x → line_step (Doors k) d line (door_fields k x) ≡ Ok (cond (ltb k d.n) (Doors (k + 1)) (Drives 0), with_door d k x)
 door-back k d x line a b c f =
     rw (
       number-back 1 d.n k line 2 a b (omega arith),
@@ -123,7 +123,7 @@ door-back k d x line a b c f =
       change-back x.change line 7 f.low f.high,
     )
 
-pair-back : (d : Draft) (p : pair.Pair) (line : ℕ) → d.n ≤ 16 → PairFits d.n p → lineStep Pairs d line (pairFields p) ≡ Ok (Pairs, withPair d p)
+pair-back : (d : Draft) (p : pair.Pair) (line : ℕ) → d.n ≤ 16 → PairFits d.n p → line_step Pairs d line (pair_fields p) ≡ Ok (Pairs, with_pair d p)
 pair-back d p line l f =
     rw (
       number-back 1 d.n p.first line 2 f.first f.most (omega arith),
@@ -131,36 +131,36 @@ pair-back d p line l f =
       ne_eqb p.first p.then f.apart,
     )
 
-leg-by : (b : Bool) (line k v : ℕ) → (b ≡ true → v ≡ 0) → v ≤ 999 → cond b (dashIn (cond b (45 ∷ []) (decimal v)) line k) (number_in 0 999 (cond b (45 ∷ []) (decimal v)) line k) ≡ Ok v
+leg-by : (b : Bool) (line k v : ℕ) → (b ≡ true → v ≡ 0) → v ≤ 999 → cond b (dash_in (cond b (45 ∷ []) (decimal v)) line k) (number_in 0 999 (cond b (45 ∷ []) (decimal v)) line k) ≡ Ok v
 leg-by true line k v z l = ap Ok (sym (z refl))
 leg-by false line k v z l = number-back 0 999 v line k (omega arith) l (omega arith)
 
-leg-back : (i j line v : ℕ) (fs : List (List ℕ)) → get_or fs (j + 2 - 1) [] ≡ cond (eqb i j) (45 ∷ []) (decimal v) → v ≤ 999 → (i ≡ j → v ≡ 0) → legIn i j line fs ≡ Ok v
+leg-back : (i j line v : ℕ) (fs : List (List ℕ)) → get_or fs (j + 2 - 1) [] ≡ cond (eqb i j) (45 ∷ []) (decimal v) → v ≤ 999 → (i ≡ j → v ≡ 0) → leg_in i j line fs ≡ Ok v
 leg-back i j line v fs e l z =
-    ap (λ f. cond (eqb i j) (dashIn f line (j + 2)) (number_in 0 999 f line (j + 2))) e ∙ leg-by (eqb i j) line (j + 2) v (λ t. z (eqb-true i j t)) l
+    ap (λ f. cond (eqb i j) (dash_in f line (j + 2)) (number_in 0 999 f line (j + 2))) e ∙ leg-by (eqb i j) line (j + 2) v (λ t. z (eqb-true i j t)) l
 
 drop-one : {A : Type 0} (xs : List A) (n : ℕ) (y : A) (ys : List A) → drop n xs ≡ y ∷ ys → drop (n + 1) xs ≡ ys
 drop-one xs n y ys e = sym (drop-drop 1 n xs) ∙ ap (λ t. drop 1 t) e
 
-row_back : (vs : List ℕ) (i j line : ℕ) (fs : List (List ℕ)) (row : List ℕ) → drop (j + 1) fs ≡ legFields i j vs → LegsFit i j vs → rowFrom (length vs) i j line fs row ≡ Ok (fillRow j vs row)
+row_back : (vs : List ℕ) (i j line : ℕ) (fs : List (List ℕ)) (row : List ℕ) → drop (j + 1) fs ≡ leg_fields i j vs → LegsFit i j vs → row_from (length vs) i j line fs row ≡ Ok (fill_row j vs row)
 row_back [] i j line fs row e f = refl
 row_back (v ∷ vs) i j line fs row e f =
     let place : j + 2 - 1 ≡ j + 1 + 0 = omega arith in
     let first = ap (λ k. get_or fs k []) place ∙ sym (get_or-drop (j + 1) fs 0 []) ∙ ap (λ t. get_or t 0 []) e in
     let rest = drop-one fs (j + 1) _ _ e in
-    then_is (legIn i j line fs) v (λ leg. rowFrom (length vs) i (j + 1) line fs (set row j leg)) (leg-back i j line v fs first f.0 f.1)
+    then_is (leg_in i j line fs) v (λ leg. row_from (length vs) i (j + 1) line fs (set row j leg)) (leg-back i j line v fs first f.0 f.1)
     ∙ row_back vs i (j + 1) line fs (set row j v) rest f.2
 
-length-legs : (i j : ℕ) (vs : List ℕ) → length (legFields i j vs) ≡ length vs
+length-legs : (i j : ℕ) (vs : List ℕ) → length (leg_fields i j vs) ≡ length vs
 length-legs i j [] = refl
 length-legs i j (v ∷ vs) = ap suc (length-legs i (j + 1) vs)
 
-drive-back : (k : ℕ) (d : Draft) (vs : List ℕ) (line : ℕ) → k ≤ d.n → d.n ≤ 16 → length vs ≡ d.n → LegsFit k 1 vs → lineStep (Drives k) d line (rowFields k vs) ≡ Ok (cond (ltb k d.n) (Drives (k + 1)) Pairs, with_row d k (fillRow 1 vs (replicate 17 0)))
+drive-back : (k : ℕ) (d : Draft) (vs : List ℕ) (line : ℕ) → k ≤ d.n → d.n ≤ 16 → length vs ≡ d.n → LegsFit k 1 vs → line_step (Drives k) d line (row_fields k vs) ≡ Ok (cond (ltb k d.n) (Drives (k + 1)) Pairs, with_row d k (fill_row 1 vs (replicate 17 0)))
 drive-back k d vs line a b m f =
-    let many : length (rowFields k vs) ≡ d.n + 2 = omega (arith, length-legs k 1 vs) in
-    let row : rowFrom d.n k 1 line (rowFields k vs) (replicate 17 0) ≡ Ok (fillRow 1 vs (replicate 17 0)) =
-    ap (λ n. rowFrom n k 1 line (rowFields k vs) (replicate 17 0)) (sym m) ∙ row_back vs k 1 line (rowFields k vs) (replicate 17 0) refl f in
-    rw (eq-eqb (length (rowFields k vs)) (d.n + 2) many, number-back 0 d.n k line 2 (omega arith) a (omega arith), eq-eqb k k refl, row)
+    let many : length (row_fields k vs) ≡ d.n + 2 = omega (arith, length-legs k 1 vs) in
+    let row : row_from d.n k 1 line (row_fields k vs) (replicate 17 0) ≡ Ok (fill_row 1 vs (replicate 17 0)) =
+    ap (λ n. row_from n k 1 line (row_fields k vs) (replicate 17 0)) (sym m) ∙ row_back vs k 1 line (row_fields k vs) (replicate 17 0) refl f in
+    rw (eq-eqb (length (row_fields k vs)) (d.n + 2) many, number-back 0 d.n k line 2 (omega arith) a (omega arith), eq-eqb k k refl, row)
 
 -- what the fields of a line are
 clean-decimal : (v : ℕ) → v ≤ 9999 → Lacks 9 (decimal v) × Lacks 10 (decimal v)
@@ -186,18 +186,18 @@ lacks-drive s l = ((λ e. omega arith), ((λ e. omega arith), ((λ e. omega arit
 lacks-first : (s : ℕ) → s < 45 → Lacks s (codes "first")
 lacks-first s l = ((λ e. omega arith), ((λ e. omega arith), ((λ e. omega arith), ((λ e. omega arith), ((λ e. omega arith), tt)))))
 
-head-clean : (h : head.Head) → h.n ≤ 16 → h.load ≤ h.limit → h.limit ≤ 999 → Clean (headFields h)
+head-clean : (h : head.Head) → h.n ≤ 16 → h.load ≤ h.cap → h.cap ≤ 999 → Clean (head_fields h)
 head-clean h a b c =
     let n = clean-decimal h.n (omega arith) in
     let s = clean-decimal h.load (omega arith) in
-    let t = clean-decimal h.limit (omega arith) in
+    let t = clean-decimal h.cap (omega arith) in
     record {
       some = omega arith;
       tabs = (lacks-round 9 (omega arith), (n.0, (s.0, (t.0, tt))));
       feeds = (lacks-round 10 (omega arith), (n.1, (s.1, (t.1, tt))));
     }
 
-door-clean : (k : ℕ) (x : door.Door) → k ≤ 16 → DoorFits x → Clean (doorFields k x)
+door-clean : (k : ℕ) (x : door.Door) → k ≤ 16 → DoorFits x → Clean (door_fields k x)
 door-clean k x l f =
     let n = clean-decimal k (omega arith) in
     let o = clean-decimal x.opens f.opens in
@@ -210,7 +210,7 @@ door-clean k x l f =
       feeds = (lacks-door 10 (omega arith), (n.1, (o.1, (c.1, (d.1, (w.1, (lacks-signed 10 x.change (omega arith) f.low f.high, tt)))))));
     }
 
-pair-clean : (n : ℕ) (p : pair.Pair) → n ≤ 16 → PairFits n p → Clean (pairFields p)
+pair-clean : (n : ℕ) (p : pair.Pair) → n ≤ 16 → PairFits n p → Clean (pair_fields p)
 pair-clean n p l f =
     let a = clean-decimal p.first (omega (arith, f.most)) in
     let b = clean-decimal p.then (omega (arith, f.last)) in
@@ -220,12 +220,12 @@ pair-clean n p l f =
       feeds = (lacks-first 10 (omega arith), (a.1, (b.1, tt)));
     }
 
-legs-clean : (s i j : ℕ) (vs : List ℕ) → s < 45 → LegsFit i j vs → Each (Lacks s) (legFields i j vs)
+legs-clean : (s i j : ℕ) (vs : List ℕ) → s < 45 → LegsFit i j vs → Each (Lacks s) (leg_fields i j vs)
 legs-clean s i j [] b f = tt
 legs-clean s i j (v ∷ vs) b f =
     (leg-clean s (eqb i j) v b f.0, legs-clean s i (j + 1) vs b f.2)
 
-row-clean : (k : ℕ) (vs : List ℕ) → k ≤ 16 → LegsFit k 1 vs → Clean (rowFields k vs)
+row-clean : (k : ℕ) (vs : List ℕ) → k ≤ 16 → LegsFit k 1 vs → Clean (row_fields k vs)
 row-clean k vs l f =
     let n = clean-decimal k (omega arith) in
     record {
@@ -234,46 +234,46 @@ row-clean k vs l f =
       feeds = (lacks-drive 10 (omega arith), (n.1, legs-clean 10 k 1 vs (omega arith) f));
     }
 
-go-pairs : (qs : List pair.Pair) (line : ℕ) (d : Draft) → d.n ≤ 16 → Each (PairFits d.n) qs → Go (map pairFields qs) line Pairs d (addPairs d qs)
+go-pairs : (qs : List pair.Pair) (line : ℕ) (d : Draft) → d.n ≤ 16 → Each (PairFits d.n) qs → Go (map pair_fields qs) line Pairs d (add_pairs d qs)
 go-pairs [] line d l f = (refl, refl)
-go-pairs (p ∷ qs) line d l f = (Pairs, withPair d p, pair-clean d.n p l f.0, pair-back d p line l f.0, go-pairs qs (line + 1) (withPair d p) l f.1)
+go-pairs (p ∷ qs) line d l f = (Pairs, with_pair d p, pair-clean d.n p l f.0, pair-back d p line l f.0, go-pairs qs (line + 1) (with_pair d p) l f.1)
 
-go-rows : (rs : List (List ℕ)) (qs : List pair.Pair) (k line : ℕ) (d : Draft) → d.n ≤ 16 → k ≤ d.n → length rs + k ≡ d.n + 1 → RowsFit d.n k rs → Each (PairFits d.n) qs → Go (rowsFields k rs ++ map pairFields qs) line (Drives k) d (addPairs (addRows k d rs) qs)
+go-rows : (rs : List (List ℕ)) (qs : List pair.Pair) (k line : ℕ) (d : Draft) → d.n ≤ 16 → k ≤ d.n → length rs + k ≡ d.n + 1 → RowsFit d.n k rs → Each (PairFits d.n) qs → Go (rows_fields k rs ++ map pair_fields qs) line (Drives k) d (add_pairs (add_rows k d rs) qs)
 go-rows [] qs k line d l m c f g = absurd (omega arith)
 go-rows (r ∷ []) qs k line d l m c f g =
-    let u = with_row d k (fillRow 1 r (replicate 17 0)) in
+    let u = with_row d k (fill_row 1 r (replicate 17 0)) in
     let t = le-ltb k d.n (omega arith) in
     (Pairs, u, row-clean k r (omega arith) f.1, drive-back k d r line m l f.0 f.1 ∙ ap (λ b. Ok (cond b (Drives (k + 1)) Pairs, u)) t, go-pairs qs (line + 1) u l g)
 go-rows (r ∷ x ∷ rs) qs k line d l m c f g =
-    let u = with_row d k (fillRow 1 r (replicate 17 0)) in
+    let u = with_row d k (fill_row 1 r (replicate 17 0)) in
     let t = lt-ltb k d.n (omega arith) in
     (Drives (k + 1), u, row-clean k r (omega arith) f.1, drive-back k d r line m l f.0 f.1 ∙ ap (λ b. Ok (cond b (Drives (k + 1)) Pairs, u)) t, go-rows (x ∷ rs) qs (k + 1) (line + 1) u l (omega arith) (omega arith) f.2 g)
 
-go-doors : (xs : List door.Door) (rs : List (List ℕ)) (qs : List pair.Pair) (k line : ℕ) (d : Draft) → d.n ≤ 16 → 1 ≤ k → k ≤ d.n → length xs + k ≡ d.n + 1 → Each DoorFits xs → length rs ≡ d.n + 1 → RowsFit d.n 0 rs → Each (PairFits d.n) qs → Go (doorsFields k xs ++ (rowsFields 0 rs ++ map pairFields qs)) line (Doors k) d (addPairs (addRows 0 (addDoors k d xs) rs) qs)
+go-doors : (xs : List door.Door) (rs : List (List ℕ)) (qs : List pair.Pair) (k line : ℕ) (d : Draft) → d.n ≤ 16 → 1 ≤ k → k ≤ d.n → length xs + k ≡ d.n + 1 → Each DoorFits xs → length rs ≡ d.n + 1 → RowsFit d.n 0 rs → Each (PairFits d.n) qs → Go (doors_fields k xs ++ (rows_fields 0 rs ++ map pair_fields qs)) line (Doors k) d (add_pairs (add_rows 0 (add_doors k d xs) rs) qs)
 go-doors [] rs qs k line d l o m c f e g h = absurd (omega arith)
 go-doors (x ∷ []) rs qs k line d l o m c f e g h =
-    let u = withDoor d k x in
+    let u = with_door d k x in
     let t = le-ltb k d.n (omega arith) in
     (Drives 0, u, door-clean k x (omega arith) f.0, door-back k d x line o m l f.0 ∙ ap (λ b. Ok (cond b (Doors (k + 1)) (Drives 0), u)) t, go-rows rs qs 0 (line + 1) u l (omega arith) (omega arith) g h)
 go-doors (x ∷ y ∷ xs) rs qs k line d l o m c f e g h =
-    let u = withDoor d k x in
+    let u = with_door d k x in
     let t = lt-ltb k d.n (omega arith) in
     (Doors (k + 1), u, door-clean k x (omega arith) f.0, door-back k d x line o m l f.0 ∙ ap (λ b. Ok (cond b (Doors (k + 1)) (Drives 0), u)) t, go-doors (y ∷ xs) rs qs (k + 1) (line + 1) u l (omega arith) (omega arith) (omega arith) f.1 e g h)
 
-go_all : (c : Content) → Fits c → Go (records c) 1 Head unread (roundOf c)
+go_all : (c : Content) → Fits c → Go (records c) 1 Head unread (round_of c)
 go_all c f = (
   Doors 1,
   with_head unread c.head,
-  head-clean c.head f.most f.load f.limit,
-  head-back unread c.head 1 f.one f.most f.load f.limit,
+  head-clean c.head f.most f.load f.cap,
+  head-back unread c.head 1 f.one f.most f.load f.cap,
   go-doors c.doors c.rows c.pairs 1 2 (with_head unread c.head) f.most (omega arith) f.one (omega (arith, f.many)) f.doors f.places f.rows f.pairs,
 )
 
 -- a text of the form is accepted, and gives the round of that form
-pub form-accepted : (text : List ℕ) (d : Draft) → HasForm text d → readText text ≡ Ok d
+pub form-accepted : (text : List ℕ) (d : Draft) → HasForm text d → read_text text ≡ Ok d
 form-accepted text d h =
-    ap readText (sym h.same) ∙ go-reads (records h.content) 1 Head unread (roundOf h.content) (go_all h.content h.fits) ∙ ap Ok h.round
+    ap read_text (sym h.same) ∙ go-reads (records h.content) 1 Head unread (round_of h.content) (go_all h.content h.fits) ∙ ap Ok h.round
 
 -- a refused text has not the form
-pub refused-form : (text : List ℕ) (r : Refusal) → Err r ≡ readText text → (d : Draft) → HasForm text d → ⊥
+pub refused-form : (text : List ℕ) (r : Refusal) → Err r ≡ read_text text → (d : Draft) → HasForm text d → ⊥
 refused-form text r e d h = never r d (e ∙ form-accepted text d h)

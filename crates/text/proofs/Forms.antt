@@ -14,12 +14,12 @@ use Rattle.text.specs.declared.line.Head as head
 use Rattle.text.specs.declared.line.Pair as pair
 use Rattle.text.specs.Number.{dash}
 use Rattle.text.specs.Pieces.{pieces, onto}
-use Rattle.text.specs.Kinds.{named, isRound, isDoor, isDrive, isFirst}
-use Rattle.text.specs.Lines.{head_of, doorDue, legIn, rowFrom, rowDue, pair_of}
-use Rattle.text.specs.Steps.{lineStep, headStep, doorStep, driveStep, pairStep}
-use Rattle.text.specs.Reading.{readLines, readText, atEnd}
-use Rattle.text.specs.Drafts.{unread, with_head, withDoor, with_row, withPair}
-use Rattle.text.specs.Form.{headFields, doorFields, doorsFields, legFields, rowFields, rowsFields, pairFields, joined, written, DoorFits, Each, LegsFit, RowsFit, PairFits, fillRow, addDoors, addRows, addPairs, HasForm}
+use Rattle.text.specs.Kinds.{named, is_round, is_door, is_drive, is_first}
+use Rattle.text.specs.Lines.{head_of, door_due, leg_in, row_from, row_due, pair_of}
+use Rattle.text.specs.Steps.{line_step, head_step, door_step, drive_step, pair_step}
+use Rattle.text.specs.Reading.{read_lines, read_text, at_end}
+use Rattle.text.specs.Drafts.{unread, with_head, with_door, with_row, with_pair}
+use Rattle.text.specs.Form.{head_fields, door_fields, doors_fields, leg_fields, row_fields, rows_fields, pair_fields, joined, written, DoorFits, Each, LegsFit, RowsFit, PairFits, fill_row, add_doors, add_rows, add_pairs, HasForm}
 use Rattle.text.proofs.Pieces.{some-piece}
 use Rattle.text.proofs.Sound.{never, ok_same, then_ok, cond-ok, HeadSays, DueSays, PairSays, RowSays, number-says, head_ok, due-ok, pair_ok, row_ok, round-ok, door-kind-ok, drive-kind-ok, first-kind-ok}
 
@@ -134,23 +134,23 @@ picked4 false false false true e = refl
 picked4 false false false false e = absurd (omega (arith, ap code e))
 
 pub named-round : (f : List ℕ) → named f ≡ Round → f ≡ codes "round"
-named-round f e = word5 f 114 111 117 110 100 (picked1 (isRound f) (isDoor f) (isDrive f) (isFirst f) e)
+named-round f e = word5 f 114 111 117 110 100 (picked1 (is_round f) (is_door f) (is_drive f) (is_first f) e)
 
 pub named-door : (f : List ℕ) → named f ≡ Door → f ≡ codes "door"
-named-door f e = word4 f 100 111 111 114 (picked2 (isRound f) (isDoor f) (isDrive f) (isFirst f) e)
+named-door f e = word4 f 100 111 111 114 (picked2 (is_round f) (is_door f) (is_drive f) (is_first f) e)
 
 pub named-drive : (f : List ℕ) → named f ≡ Drive → f ≡ codes "drive"
-named-drive f e = word5 f 100 114 105 118 101 (picked3 (isRound f) (isDoor f) (isDrive f) (isFirst f) e)
+named-drive f e = word5 f 100 114 105 118 101 (picked3 (is_round f) (is_door f) (is_drive f) (is_first f) e)
 
 pub named-first : (f : List ℕ) → named f ≡ First → f ≡ codes "first"
-named-first f e = word5 f 102 105 114 115 116 (picked4 (isRound f) (isDoor f) (isDrive f) (isFirst f) e)
+named-first f e = word5 f 102 105 114 115 116 (picked4 (is_round f) (is_door f) (is_drive f) (is_first f) e)
 
 -- the lines by their fields, one step for each
 abbrev pub Run : List (List (List ℕ)) → Stage → Draft → Draft → Type 0
 Run [] s d e = (s ≡ Pairs) × (d ≡ e)
-Run (fs ∷ fss) s d e = (line : ℕ) × (t : Stage) × (u : Draft) × (lineStep s d line fs ≡ Ok (t, u)) × Run fss t u e
+Run (fs ∷ fss) s d e = (line : ℕ) × (t : Stage) × (u : Draft) × (line_step s d line fs ≡ Ok (t, u)) × Run fss t u e
 
-end-run : (line : ℕ) (s : Stage) (d e : Draft) → atEnd s d line ≡ Ok e → (s ≡ Pairs) × (d ≡ e)
+end-run : (line : ℕ) (s : Stage) (d e : Draft) → at_end s d line ≡ Ok e → (s ≡ Pairs) × (d ≡ e)
 end-run line Head d e h = absurd (never _ e h)
 end-run line (Doors k) d e h = absurd (never _ e h)
 end-run line (Drives k) d e h = absurd (never _ e h)
@@ -160,13 +160,13 @@ no_length : (p : List ℕ) → length p ≡ 0 → [] ≡ p
 no_length [] e = refl
 no_length (b ∷ p) e = absurd (omega arith)
 
-pub run-lines : (ps : List (List ℕ)) (line : ℕ) (s : Stage) (d e : Draft) → 0 < length ps → readLines ps line s d ≡ Ok e → (fss : List (List (List ℕ))) × (written fss ≡ joined 10 ps) × Run fss s d e
+pub run-lines : (ps : List (List ℕ)) (line : ℕ) (s : Stage) (d e : Draft) → 0 < length ps → read_lines ps line s d ≡ Ok e → (fss : List (List (List ℕ))) × (written fss ≡ joined 10 ps) × Run fss s d e
 run-lines [] line s d e l h = absurd (omega arith)
 run-lines (p ∷ []) line s d e l h =
-    let a = cond-ok (eqb (length p) 0) (atEnd s d line) (Unended line) e h in
+    let a = cond-ok (eqb (length p) 0) (at_end s d line) (Unended line) e h in
     ([], no_length p (eqb-true (length p) 0 a.0), end-run line s d e a.1)
 run-lines (p ∷ q ∷ ps) line s d e l h =
-    let a = then_ok (lineStep s d line (pieces 9 p)) _ e h in
+    let a = then_ok (line_step s d line (pieces 9 p)) _ e h in
     let r = run-lines (q ∷ ps) (line + 1) a.0.0 a.0.1 e (omega arith) a.2 in (
       pieces 9 p ∷ r.0,
       ap (λ t. t ++ (10 ∷ written r.0)) (join-pieces 9 p) ∙ ap (λ t. p ++ (10 ∷ t)) r.1,
@@ -174,7 +174,7 @@ run-lines (p ∷ q ∷ ps) line s d e l h =
     )
 
 -- a pair line
-pair_line : (n : ℕ) (fs : List (List ℕ)) (p : pair.Pair) → named (get_or fs 0 []) ≡ First → PairSays n fs p → (pairFields p ≡ fs) × PairFits n p
+pair_line : (n : ℕ) (fs : List (List ℕ)) (p : pair.Pair) → named (get_or fs 0 []) ≡ First → PairSays n fs p → (pair_fields p ≡ fs) × PairFits n p
 pair_line n fs p k y =
     let l = of3 [] fs y.fields in
     let w = named-first (get_or fs 0 []) k in
@@ -182,14 +182,14 @@ pair_line n fs p k y =
     let b = y.then.text in
     (cc, record { first = y.first.from; most = y.first.to; then = y.then.from; last = y.then.to; apart = y.apart })
 
-pub pairs-form : (fss : List (List (List ℕ))) (d e : Draft) → d.n ≤ 16 → Run fss Pairs d e → (qs : List pair.Pair) × (map pairFields qs ≡ fss) × (addPairs d qs ≡ e) × Each (PairFits d.n) qs
+pub pairs-form : (fss : List (List (List ℕ))) (d e : Draft) → d.n ≤ 16 → Run fss Pairs d e → (qs : List pair.Pair) × (map pair_fields qs ≡ fss) × (add_pairs d qs ≡ e) × Each (PairFits d.n) qs
 pairs-form [] d e l r = ([], refl, r.1, tt)
 pairs-form (fs ∷ fss) d e l r =
-    let q = first-kind-ok (named (get_or fs 0 [])) (pairStep d r.0 fs) (NotDue r.0) (r.1, r.2) r.3 in
+    let q = first-kind-ok (named (get_or fs 0 [])) (pair_step d r.0 fs) (NotDue r.0) (r.1, r.2) r.3 in
     let a = then_ok (pair_of d.n r.0 fs) _ (r.1, r.2) q.1 in
     let y = pair_line d.n fs a.0 q.0 (pair_ok d.n r.0 fs a.0 l a.1) in
-    let z = subst (λ (z : Stage × Draft). Run fss z.0 z.1 e) (sym (ok_same (Pairs, withPair d a.0) (r.1, r.2) a.2)) r.4 in
-    let i = pairs-form fss (withPair d a.0) e l z in
+    let z = subst (λ (z : Stage × Draft). Run fss z.0 z.1 e) (sym (ok_same (Pairs, with_pair d a.0) (r.1, r.2) a.2)) r.4 in
+    let i = pairs-form fss (with_pair d a.0) e l z in
     (a.0 ∷ i.0, (λ t. y.0 t ∷ i.1 t), i.2, (y.1, i.3))
 
 -- a drive line
@@ -198,7 +198,7 @@ dash-is [] e = absurd (both_ways false refl e)
 dash-is (b ∷ []) e = ap (λ t. t ∷ []) (sym (eqb-true b 45 e))
 dash-is (b ∷ c ∷ f) e = absurd (both_ways false refl e)
 
-leg-form : (i j line : ℕ) (fs : List (List ℕ)) (v : ℕ) → legIn i j line fs ≡ Ok v → (cond (eqb i j) (45 ∷ []) (decimal v) ≡ get_or fs (j + 2 - 1) []) × (v ≤ 999) × (i ≡ j → v ≡ 0)
+leg-form : (i j line : ℕ) (fs : List (List ℕ)) (v : ℕ) → leg_in i j line fs ≡ Ok v → (cond (eqb i j) (45 ∷ []) (decimal v) ≡ get_or fs (j + 2 - 1) []) × (v ≤ 999) × (i ≡ j → v ≡ 0)
 leg-form i j line fs v e =
     ⊎_elim
     (λ t.
@@ -210,10 +210,10 @@ leg-form i j line fs v e =
     (rw t q.text, q.to, λ same. absurd (eqb-false i j t same)))
     (cases_Bool (eqb i j))
 
-row-form : (m i j line : ℕ) (fs : List (List ℕ)) (row out : List ℕ) → length fs ≡ j + 1 + m → rowFrom m i j line fs row ≡ Ok out → (vs : List ℕ) × (length vs ≡ m) × (legFields i j vs ≡ drop (j + 1) fs) × (fillRow j vs row ≡ out) × LegsFit i j vs
+row-form : (m i j line : ℕ) (fs : List (List ℕ)) (row out : List ℕ) → length fs ≡ j + 1 + m → row_from m i j line fs row ≡ Ok out → (vs : List ℕ) × (length vs ≡ m) × (leg_fields i j vs ≡ drop (j + 1) fs) × (fill_row j vs row ≡ out) × LegsFit i j vs
 row-form zero i j line fs row out l e = ([], refl, sym (drop_all (j + 1) fs (omega arith)), ok_same _ _ e, tt)
 row-form (suc m) i j line fs row out l e =
-    let a = then_ok (legIn i j line fs) (λ leg. rowFrom m i (j + 1) line fs (set row j leg)) out e in
+    let a = then_ok (leg_in i j line fs) (λ leg. row_from m i (j + 1) line fs (set row j leg)) out e in
     let f = leg-form i j line fs a.0 a.1 in
     let h = row-form m i (j + 1) line fs (set row j a.0) out (omega arith) a.2 in
     let place : j + 2 - 1 ≡ j + 1 = omega arith in
@@ -244,7 +244,7 @@ two-more [] l = absurd (omega arith)
 two-more (a ∷ []) l = absurd (omega arith)
 two-more (a ∷ b ∷ fs) l = refl
 
-row_line : (n k line : ℕ) (fs : List (List ℕ)) (row : List ℕ) → named (get_or fs 0 []) ≡ Drive → RowSays n k line fs row → (vs : List ℕ) × (rowFields k vs ≡ fs) × (fillRow 1 vs (replicate 17 0) ≡ row) × (length vs ≡ n) × LegsFit k 1 vs
+row_line : (n k line : ℕ) (fs : List (List ℕ)) (row : List ℕ) → named (get_or fs 0 []) ≡ Drive → RowSays n k line fs row → (vs : List ℕ) × (row_fields k vs ≡ fs) × (fill_row 1 vs (replicate 17 0) ≡ row) × (length vs ≡ n) × LegsFit k 1 vs
 row_line n k line fs row e y =
     let many = y.fields in
     let r = row-form n k 1 line fs (replicate 17 0) row (omega arith) y.rest in
@@ -254,14 +254,14 @@ row_line n k line fs row e y =
     let t = two-more fs (omega arith) in
     (r.0, cc, r.3, r.1, r.4)
 
-same_row : (k : ℕ) (d : Draft) (row out : List ℕ) (rs : List (List ℕ)) (qs : List pair.Pair) (e : Draft) → out ≡ row → addPairs (addRows (k + 1) (with_row d k row) rs) qs ≡ e → addPairs (addRows (k + 1) (with_row d k out) rs) qs ≡ e
-same_row k d row out rs qs e p q = ap (λ r. addPairs (addRows (k + 1) (with_row d k r) rs) qs) p ∙ q
+same_row : (k : ℕ) (d : Draft) (row out : List ℕ) (rs : List (List ℕ)) (qs : List pair.Pair) (e : Draft) → out ≡ row → add_pairs (add_rows (k + 1) (with_row d k row) rs) qs ≡ e → add_pairs (add_rows (k + 1) (with_row d k out) rs) qs ≡ e
+same_row k d row out rs qs e p q = ap (λ r. add_pairs (add_rows (k + 1) (with_row d k r) rs) qs) p ∙ q
 
-pub drives-form : (fss : List (List (List ℕ))) (k : ℕ) (d e : Draft) → d.n ≤ 16 → k ≤ d.n → Run fss (Drives k) d e → (rs : List (List ℕ)) × (qs : List pair.Pair) × (rowsFields k rs ++ map pairFields qs ≡ fss) × (addPairs (addRows k d rs) qs ≡ e) × (length rs + k ≡ d.n + 1) × RowsFit d.n k rs × Each (PairFits d.n) qs
+pub drives-form : (fss : List (List (List ℕ))) (k : ℕ) (d e : Draft) → d.n ≤ 16 → k ≤ d.n → Run fss (Drives k) d e → (rs : List (List ℕ)) × (qs : List pair.Pair) × (rows_fields k rs ++ map pair_fields qs ≡ fss) × (add_pairs (add_rows k d rs) qs ≡ e) × (length rs + k ≡ d.n + 1) × RowsFit d.n k rs × Each (PairFits d.n) qs
 drives-form [] k d e l m r = absurd (stages k r.0)
 drives-form (fs ∷ fss) k d e l m r =
-    let q = drive-kind-ok (named (get_or fs 0 [])) (driveStep k d r.0 fs) (NotDue r.0) (r.1, r.2) r.3 in
-    let a = then_ok (rowDue d.n k r.0 fs) _ (r.1, r.2) q.1 in
+    let q = drive-kind-ok (named (get_or fs 0 [])) (drive_step k d r.0 fs) (NotDue r.0) (r.1, r.2) r.3 in
+    let a = then_ok (row_due d.n k r.0 fs) _ (r.1, r.2) q.1 in
     let y = row_line d.n k r.0 fs a.0 q.0 (row_ok d.n k r.0 fs a.0 l a.1) in
     let z = subst (λ (z : Stage × Draft). Run fss z.0 z.1 e) (sym (ok_same (cond (ltb k d.n) (Drives (k + 1)) Pairs, with_row d k a.0) (r.1, r.2) a.2)) r.4 in
     ⊎_elim
@@ -273,7 +273,7 @@ drives-form (fs ∷ fss) k d e l m r =
     (y.0 ∷ [], i.0, (λ x. y.1 x ∷ i.1 x), same_row k d _ _ [] i.0 e y.2 i.2, omega (arith, ltb-false k d.n t), (y.3, y.4, tt), i.3))
     (cases_Bool (ltb k d.n))
 
-door-line : (n k : ℕ) (fs : List (List ℕ)) (x : door.Door) → named (get_or fs 0 []) ≡ Door → DueSays n k fs x → (doorFields k x ≡ fs) × DoorFits x
+door-line : (n k : ℕ) (fs : List (List ℕ)) (x : door.Door) → named (get_or fs 0 []) ≡ Door → DueSays n k fs x → (door_fields k x ≡ fs) × DoorFits x
 door-line n k fs x e y =
     let l = of7 [] fs y.fields in
     let w = named-door (get_or fs 0 []) e in
@@ -286,29 +286,29 @@ door-line n k fs x e y =
     let s = y.rest in
     (cc, record { opens = s.opens.to; closes = s.closes.to; due = s.due.to; some = s.work.from; work = s.work.to; low = s.change.low; high = s.change.high })
 
-pub doors-form : (fss : List (List (List ℕ))) (k : ℕ) (d e : Draft) → d.n ≤ 16 → k ≤ d.n → Run fss (Doors k) d e → (xs : List door.Door) × (rs : List (List ℕ)) × (qs : List pair.Pair) × (doorsFields k xs ++ (rowsFields 0 rs ++ map pairFields qs) ≡ fss) × (addPairs (addRows 0 (addDoors k d xs) rs) qs ≡ e) × (length xs + k ≡ d.n + 1) × Each DoorFits xs × (length rs ≡ d.n + 1) × RowsFit d.n 0 rs × Each (PairFits d.n) qs
+pub doors-form : (fss : List (List (List ℕ))) (k : ℕ) (d e : Draft) → d.n ≤ 16 → k ≤ d.n → Run fss (Doors k) d e → (xs : List door.Door) × (rs : List (List ℕ)) × (qs : List pair.Pair) × (doors_fields k xs ++ (rows_fields 0 rs ++ map pair_fields qs) ≡ fss) × (add_pairs (add_rows 0 (add_doors k d xs) rs) qs ≡ e) × (length xs + k ≡ d.n + 1) × Each DoorFits xs × (length rs ≡ d.n + 1) × RowsFit d.n 0 rs × Each (PairFits d.n) qs
 doors-form [] k d e l m r = absurd (stages-doors k r.0)
 doors-form (fs ∷ fss) k d e l m r =
-    let q = door-kind-ok (named (get_or fs 0 [])) (doorStep k d r.0 fs) (NotDue r.0) (r.1, r.2) r.3 in
-    let a = then_ok (doorDue d.n k r.0 fs) _ (r.1, r.2) q.1 in
+    let q = door-kind-ok (named (get_or fs 0 [])) (door_step k d r.0 fs) (NotDue r.0) (r.1, r.2) r.3 in
+    let a = then_ok (door_due d.n k r.0 fs) _ (r.1, r.2) q.1 in
     let y = door-line d.n k fs a.0 q.0 (due-ok d.n k r.0 fs a.0 l a.1) in
-    let z = subst (λ (z : Stage × Draft). Run fss z.0 z.1 e) (sym (ok_same (cond (ltb k d.n) (Doors (k + 1)) (Drives 0), withDoor d k a.0) (r.1, r.2) a.2)) r.4 in
+    let z = subst (λ (z : Stage × Draft). Run fss z.0 z.1 e) (sym (ok_same (cond (ltb k d.n) (Doors (k + 1)) (Drives 0), with_door d k a.0) (r.1, r.2) a.2)) r.4 in
     ⊎_elim
     (λ t.
-    let i = doors-form fss (k + 1) (withDoor d k a.0) e l (omega (arith, ltb-true k d.n t)) (subst (λ (b : Bool). Run fss (cond b (Doors (k + 1)) (Drives 0)) (withDoor d k a.0) e) t z) in
+    let i = doors-form fss (k + 1) (with_door d k a.0) e l (omega (arith, ltb-true k d.n t)) (subst (λ (b : Bool). Run fss (cond b (Doors (k + 1)) (Drives 0)) (with_door d k a.0) e) t z) in
     (a.0 ∷ i.0, i.1, i.2, (λ x. y.0 x ∷ i.3 x), i.4, omega (arith, i.5), (y.1, i.6), i.7, i.8, i.9))
     (λ t.
-    let i = drives-form fss 0 (withDoor d k a.0) e l (omega arith) (subst (λ (b : Bool). Run fss (cond b (Doors (k + 1)) (Drives 0)) (withDoor d k a.0) e) t z) in
+    let i = drives-form fss 0 (with_door d k a.0) e l (omega arith) (subst (λ (b : Bool). Run fss (cond b (Doors (k + 1)) (Drives 0)) (with_door d k a.0) e) t z) in
     (a.0 ∷ [], i.0, i.1, (λ x. y.0 x ∷ i.2 x), i.3, omega (arith, ltb-false k d.n t), (y.1, tt), omega (arith, i.4), i.5, i.6))
     (cases_Bool (ltb k d.n))
 
-head-line : (fs : List (List ℕ)) (h : head.Head) → named (get_or fs 0 []) ≡ Round → HeadSays fs h → headFields h ≡ fs
+head-line : (fs : List (List ℕ)) (h : head.Head) → named (get_or fs 0 []) ≡ Round → HeadSays fs h → head_fields h ≡ fs
 head-line fs h e y =
     let l = of4 [] fs y.fields in
     let w = named-round (get_or fs 0 []) e in
     let a = y.count.text in
     let b = y.load.text in
-    let c = y.limit.text in
+    let c = y.cap.text in
     cc
 
 same-written : (fs gs : List (List ℕ)) (fss gss : List (List (List ℕ))) → fs ≡ gs → fss ≡ gss → written (fs ∷ fss) ≡ written (gs ∷ gss)
@@ -317,7 +317,7 @@ same-written fs gs fss gss p q = ap written (λ x. p x ∷ q x)
 run-form : (fss : List (List (List ℕ))) (e : Draft) → Run fss Head unread e → HasForm (written fss) e
 run-form [] e r = absurd (stages-head r.0)
 run-form (fs ∷ fss) e r =
-    let q = round-ok (named (get_or fs 0 [])) (headStep unread r.0 fs) (NotDue r.0) (r.1, r.2) r.3 in
+    let q = round-ok (named (get_or fs 0 [])) (head_step unread r.0 fs) (NotDue r.0) (r.1, r.2) r.3 in
     let a = then_ok (head_of r.0 fs) _ (r.1, r.2) q.1 in
     let y = head_ok r.0 fs a.0 a.1 in
     let same = head-line fs a.0 q.0 y in
@@ -328,20 +328,20 @@ run-form (fs ∷ fss) e r =
       fits = record {
         one = y.count.from;
         most = y.count.to;
-        load = y.limit.from;
-        limit = y.limit.to;
+        load = y.cap.from;
+        cap = y.cap.to;
         many = omega (arith, i.5);
         doors = i.6;
         places = i.7;
         rows = i.8;
         pairs = i.9;
       };
-      same = same-written (headFields a.0) fs (doorsFields 1 i.0 ++ (rowsFields 0 i.1 ++ map pairFields i.2)) fss same i.3;
+      same = same-written (head_fields a.0) fs (doors_fields 1 i.0 ++ (rows_fields 0 i.1 ++ map pair_fields i.2)) fss same i.3;
       round = i.4;
     }
 
 -- an accepted text has the form, and gives the round of that form
-pub accepted-form : (text : List ℕ) (d : Draft) → readText text ≡ Ok d → HasForm text d
+pub accepted-form : (text : List ℕ) (d : Draft) → read_text text ≡ Ok d → HasForm text d
 accepted-form text d h =
     let r = run-lines (pieces 10 text) 1 Head unread d (some-piece 10 text) h in
     subst (λ t. HasForm t d) (r.1 ∙ join-pieces 10 text) (run-form r.0 d r.2)

@@ -18,15 +18,15 @@ use Rattle.text.specs.declared.stage.Stage.TheVariants.{Head, Doors, Drives, Pai
 use Rattle.text.specs.declared.draft.Draft.{Draft}
 use Rattle.round.specs.declared.door.Door as door
 use Rattle.text.specs.Number.{plain, positive, minus, dash}
-use Rattle.text.specs.Fields.{number_in, changeIn}
-use Rattle.text.specs.Lines.{and_then, head_of, doorOf, doorDue, legIn, rowFrom, rowDue, pair_of}
-use Rattle.text.specs.Steps.{lineStep, headStep, doorStep, driveStep, pairStep, ifRound, ifDoor, ifDrive, ifFirst}
+use Rattle.text.specs.Fields.{number_in, change_in}
+use Rattle.text.specs.Lines.{and_then, head_of, door_of, door_due, leg_in, row_from, row_due, pair_of}
+use Rattle.text.specs.Steps.{line_step, head_step, door_step, drive_step, pair_step, if_round, if_door, if_drive, if_first}
 use Rattle.text.specs.Kinds.{named}
 use Rattle.text.specs.declared.line.Head as head
 use Rattle.text.specs.declared.line.Pair as pair
 use Rattle.text.specs.Pieces.{pieces}
-use Rattle.text.specs.Reading.{readLines, readText, atEnd}
-use Rattle.text.specs.Drafts.{unread, withDoor, with_row, withPair}
+use Rattle.text.specs.Reading.{read_lines, read_text, at_end}
+use Rattle.text.specs.Drafts.{unread, with_door, with_row, with_pair}
 use Rattle.round.specs.Tables.{blank, at}
 
 -- a refusal is no value
@@ -131,7 +131,7 @@ minus-case (b ∷ f) e l =
     let d = decimal-digits_value own f p.0 p.1 (λ z. absurd (p.2 z)) (omega arith) in
     rw (eqb-true b 45 q.0) (minus-says f (digits_value 10 f) d (λ z. p.2 (ap (λ t. get_or t 0 0) (sym d ∙ ap decimal z ∙ decimal_digit 0 (omega arith)))) l)
 
-pub change-says : (f : List ℕ) (line k : ℕ) (z : ℤ) → changeIn f line k ≡ Ok z → Changes f z
+pub change-says : (f : List ℕ) (line k : ℕ) (z : ℤ) → change_in f line k ≡ Ok z → Changes f z
 change-says f line k z e =
     ⊎_elim
     (λ t.
@@ -152,13 +152,13 @@ pub record DoorSays (fs : List (List ℕ)) (d : door.Door) : Type 0 where
   pub work : Says 1 999 (get_or fs 5 []) d.work
   pub change : Changes (get_or fs 6 []) d.change
 
-pub door-ok : (line : ℕ) (fs : List (List ℕ)) (d : door.Door) → doorOf line fs ≡ Ok d → DoorSays fs d
+pub door-ok : (line : ℕ) (fs : List (List ℕ)) (d : door.Door) → door_of line fs ≡ Ok d → DoorSays fs d
 door-ok line fs d e =
     let a = then-number 0 9999 (get_or fs 2 []) line 3 _ d (omega arith) e in
     let b = then-number 0 9999 (get_or fs 3 []) line 4 _ d (omega arith) a.2 in
     let c = then-number 0 9999 (get_or fs 4 []) line 5 _ d (omega arith) b.2 in
     let w = then-number 1 999 (get_or fs 5 []) line 6 _ d (omega arith) c.2 in
-    let x = then_ok (changeIn (get_or fs 6 []) line 7) _ d w.2 in
+    let x = then_ok (change_in (get_or fs 6 []) line 7) _ d w.2 in
     let z = change-says (get_or fs 6 []) line 7 x.0 x.1 in
     subst (DoorSays fs) (ok_same _ _ x.2)
     (record { opens = a.1; closes = b.1; due = c.1; work = w.1; change = z })
@@ -181,7 +181,7 @@ pub record FairRow (i : ℕ) (row : List ℕ) : Type 0 where
   pub small : (k : ℕ) → get_or row k 0 ≤ 999
   pub own : (k : ℕ) → i ≡ k → get_or row k 0 ≡ 0
 
-leg-fair : (i j line : ℕ) (fs : List (List ℕ)) (v : ℕ) → legIn i j line fs ≡ Ok v → (v ≤ 999) × (i ≡ j → v ≡ 0)
+leg-fair : (i j line : ℕ) (fs : List (List ℕ)) (v : ℕ) → leg_in i j line fs ≡ Ok v → (v ≤ 999) × (i ≡ j → v ≡ 0)
 leg-fair i j line fs v e =
     ⊎_elim
     (λ t.
@@ -193,10 +193,10 @@ leg-fair i j line fs v e =
     (q.to, λ same. absurd (eqb-false i j t same)))
     (cases_Bool (eqb i j))
 
-row-fair : (m i j line : ℕ) (fs : List (List ℕ)) (row out : List ℕ) → FairRow i row → rowFrom m i j line fs row ≡ Ok out → FairRow i out
+row-fair : (m i j line : ℕ) (fs : List (List ℕ)) (row out : List ℕ) → FairRow i row → row_from m i j line fs row ≡ Ok out → FairRow i out
 row-fair zero i j line fs row out h e = subst (FairRow i) (ok_same _ _ e) h
 row-fair (suc m) i j line fs row out h e =
-    let a = then_ok (legIn i j line fs) (λ leg. rowFrom m i (j + 1) line fs (set row j leg)) out e in
+    let a = then_ok (leg_in i j line fs) (λ leg. row_from m i (j + 1) line fs (set row j leg)) out e in
     let f = leg-fair i j line fs a.0 a.1 in
     row-fair m i (j + 1) line fs (set row j a.0) out
     (record {
@@ -221,8 +221,8 @@ pub record Ranged (d : Draft) : Type 0 where
 pub record Headed (d : Draft) : Type 0 where
   pub one : 1 ≤ d.n
   pub most : d.n ≤ 16
-  pub within : d.load ≤ d.limit
-  pub small : d.limit ≤ 999
+  pub within : d.load ≤ d.cap
+  pub small : d.cap ≤ 999
 
 -- the doors below m have work
 abbrev pub Worked : ℕ → Draft → Type 0
@@ -246,28 +246,28 @@ Sound (Doors k) d = During k d
 Sound (Drives k) d = Whole d × (k ≤ d.n)
 Sound Pairs d = Whole d
 
-pub round-ok : {A : Type 0} (k : Kind) (r : Result A Refusal) (x : Refusal) (b : A) → ifRound k r (Err x) ≡ Ok b → (k ≡ Round) × (r ≡ Ok b)
+pub round-ok : {A : Type 0} (k : Kind) (r : Result A Refusal) (x : Refusal) (b : A) → if_round k r (Err x) ≡ Ok b → (k ≡ Round) × (r ≡ Ok b)
 round-ok Round r x b e = (refl, e)
 round-ok Door r x b e = absurd (never x b e)
 round-ok Drive r x b e = absurd (never x b e)
 round-ok First r x b e = absurd (never x b e)
 round-ok Other r x b e = absurd (never x b e)
 
-pub door-kind-ok : {A : Type 0} (k : Kind) (r : Result A Refusal) (x : Refusal) (b : A) → ifDoor k r (Err x) ≡ Ok b → (k ≡ Door) × (r ≡ Ok b)
+pub door-kind-ok : {A : Type 0} (k : Kind) (r : Result A Refusal) (x : Refusal) (b : A) → if_door k r (Err x) ≡ Ok b → (k ≡ Door) × (r ≡ Ok b)
 door-kind-ok Round r x b e = absurd (never x b e)
 door-kind-ok Door r x b e = (refl, e)
 door-kind-ok Drive r x b e = absurd (never x b e)
 door-kind-ok First r x b e = absurd (never x b e)
 door-kind-ok Other r x b e = absurd (never x b e)
 
-pub drive-kind-ok : {A : Type 0} (k : Kind) (r : Result A Refusal) (x : Refusal) (b : A) → ifDrive k r (Err x) ≡ Ok b → (k ≡ Drive) × (r ≡ Ok b)
+pub drive-kind-ok : {A : Type 0} (k : Kind) (r : Result A Refusal) (x : Refusal) (b : A) → if_drive k r (Err x) ≡ Ok b → (k ≡ Drive) × (r ≡ Ok b)
 drive-kind-ok Round r x b e = absurd (never x b e)
 drive-kind-ok Door r x b e = absurd (never x b e)
 drive-kind-ok Drive r x b e = (refl, e)
 drive-kind-ok First r x b e = absurd (never x b e)
 drive-kind-ok Other r x b e = absurd (never x b e)
 
-pub first-kind-ok : {A : Type 0} (k : Kind) (r : Result A Refusal) (x : Refusal) (b : A) → ifFirst k r (Err x) ≡ Ok b → (k ≡ First) × (r ≡ Ok b)
+pub first-kind-ok : {A : Type 0} (k : Kind) (r : Result A Refusal) (x : Refusal) (b : A) → if_first k r (Err x) ≡ Ok b → (k ≡ First) × (r ≡ Ok b)
 first-kind-ok Round r x b e = absurd (never x b e)
 first-kind-ok Door r x b e = absurd (never x b e)
 first-kind-ok Drive r x b e = absurd (never x b e)
@@ -278,7 +278,7 @@ pub record HeadSays (fs : List (List ℕ)) (h : head.Head) : Type 0 where
   pub fields : length fs ≡ 4
   pub count : Says 1 16 (get_or fs 1 []) h.n
   pub load : Says 0 999 (get_or fs 2 []) h.load
-  pub limit : Says h.load 999 (get_or fs 3 []) h.limit
+  pub cap : Says h.load 999 (get_or fs 3 []) h.cap
 
 pub head_ok : (line : ℕ) (fs : List (List ℕ)) (h : head.Head) → head_of line fs ≡ Ok h → HeadSays fs h
 head_ok line fs h e =
@@ -286,18 +286,18 @@ head_ok line fs h e =
     let a = then-number 1 16 (get_or fs 1 []) line 2 _ h (omega arith) o.1 in
     let b = then-number 0 999 (get_or fs 2 []) line 3 _ h (omega arith) a.2 in
     let c = then-number b.0 999 (get_or fs 3 []) line 4 _ h (omega arith) b.2 in
-    subst (HeadSays fs) (ok_same _ _ c.2) (record { fields = eqb-true _ 4 o.0; count = a.1; load = b.1; limit = c.1 })
+    subst (HeadSays fs) (ok_same _ _ c.2) (record { fields = eqb-true _ 4 o.0; count = a.1; load = b.1; cap = c.1 })
 
 pub record DueSays (n k : ℕ) (fs : List (List ℕ)) (d : door.Door) : Type 0 where
   pub fields : length fs ≡ 7
   pub number : Says 1 n (get_or fs 1 []) k
   pub rest : DoorSays fs d
 
-pub due-ok : (n k line : ℕ) (fs : List (List ℕ)) (d : door.Door) → n ≤ 16 → doorDue n k line fs ≡ Ok d → DueSays n k fs d
+pub due-ok : (n k line : ℕ) (fs : List (List ℕ)) (d : door.Door) → n ≤ 16 → door_due n k line fs ≡ Ok d → DueSays n k fs d
 due-ok n k line fs d l e =
     let o = cond-ok (eqb (length fs) 7) _ (FieldCount line) d e in
     let a = then-number 1 n (get_or fs 1 []) line 2 _ d (omega arith) o.1 in
-    let b = cond-ok (eqb a.0 k) (doorOf line fs) (OutOfTurn line 2) d a.2 in
+    let b = cond-ok (eqb a.0 k) (door_of line fs) (OutOfTurn line 2) d a.2 in
     record {
       fields = eqb-true _ 7 o.0;
       number = subst (Says 1 n (get_or fs 1 [])) (eqb-true a.0 k b.0) a.1;
@@ -344,13 +344,13 @@ pair_ok n line fs p l e =
 pub record RowSays (n k line : ℕ) (fs : List (List ℕ)) (row : List ℕ) : Type 0 where
   pub fields : length fs ≡ n + 2
   pub number : Says 0 n (get_or fs 1 []) k
-  pub rest : rowFrom n k 1 line fs (replicate 17 0) ≡ Ok row
+  pub rest : row_from n k 1 line fs (replicate 17 0) ≡ Ok row
 
-pub row_ok : (n k line : ℕ) (fs : List (List ℕ)) (row : List ℕ) → n ≤ 16 → rowDue n k line fs ≡ Ok row → RowSays n k line fs row
+pub row_ok : (n k line : ℕ) (fs : List (List ℕ)) (row : List ℕ) → n ≤ 16 → row_due n k line fs ≡ Ok row → RowSays n k line fs row
 row_ok n k line fs row l e =
     let o = cond-ok (eqb (length fs) (n + 2)) _ (FieldCount line) row e in
     let a = then-number 0 n (get_or fs 1 []) line 2 _ row (omega arith) o.1 in
-    let b = cond-ok (eqb a.0 k) (rowFrom n k 1 line fs (replicate 17 0)) (OutOfTurn line 2) row a.2 in
+    let b = cond-ok (eqb a.0 k) (row_from n k 1 line fs (replicate 17 0)) (OutOfTurn line 2) row a.2 in
     record { fields = eqb-true _ (n + 2) o.0; number = subst (Says 0 n (get_or fs 1 [])) (eqb-true a.0 k b.0) a.1; rest = b.1 }
 
 -- the pair of stage and draft
@@ -374,37 +374,37 @@ next-drive k d w l =
     (λ t. rw t w)
     (cases_Bool (ltb k d.n))
 
-pub sound-step : (s : Stage) (d : Draft) (line : ℕ) (fs : List (List ℕ)) (t : Stage) (e : Draft) → lineStep s d line fs ≡ Ok (t, e) → Sound s d → Sound t e
+pub sound-step : (s : Stage) (d : Draft) (line : ℕ) (fs : List (List ℕ)) (t : Stage) (e : Draft) → line_step s d line fs ≡ Ok (t, e) → Sound s d → Sound t e
 sound-step Head d line fs t e h s =
-    let q = round-ok (named (get_or fs 0 [])) (headStep d line fs) (NotDue line) (t, e) h in
+    let q = round-ok (named (get_or fs 0 [])) (head_step d line fs) (NotDue line) (t, e) h in
     let a = then_ok (head_of line fs) _ (t, e) q.1 in
     let y = head_ok line fs a.0 a.1 in
     let r = subst Ranged (sym s) ranged-unread in
     subst Both (ok_same _ _ a.2)
     (record {
-      head = record { one = y.count.from; most = y.count.to; within = y.limit.from; small = y.limit.to };
+      head = record { one = y.count.from; most = y.count.to; within = y.cap.from; small = y.cap.to };
       ranged = record { doors = r.doors; rows = r.rows };
       within = y.count.from;
       worked = λ k m one. absurd (omega arith);
       room = ap (λ z. length z.doors) s;
     })
 sound-step (Doors k) d line fs t e h s =
-    let q = door-kind-ok (named (get_or fs 0 [])) (doorStep k d line fs) (NotDue line) (t, e) h in
-    let a = then_ok (doorDue d.n k line fs) _ (t, e) q.1 in
+    let q = door-kind-ok (named (get_or fs 0 [])) (door_step k d line fs) (NotDue line) (t, e) h in
+    let a = then_ok (door_due d.n k line fs) _ (t, e) q.1 in
     let y = due-ok d.n k line fs a.0 s.head.most a.1 in
     let hd = s.head in
     let at_most = s.within in
     let room = s.room in
-    let worked : Worked (k + 1) (withDoor d k a.0) =
+    let worked : Worked (k + 1) (with_door d k a.0) =
     set_below (λ j (x : door.Door). 1 ≤ j → 1 ≤ x.work) blank d.doors k a.0 (omega (arith, hd.most)) (λ _. y.rest.work.from) s.worked in
     subst Both (ok_same _ _ a.2)
-    (next-door k (withDoor d k a.0)
+    (next-door k (with_door d k a.0)
     (record { one = hd.one; most = hd.most; within = hd.within; small = hd.small })
     (record { doors = set_all Fair blank d.doors k a.0 (door-fair fs a.0 y.rest) s.ranged.doors; rows = s.ranged.rows })
     worked s.within (length-set d.doors k a.0 ∙ s.room))
 sound-step (Drives k) d line fs t e h s =
-    let q = drive-kind-ok (named (get_or fs 0 [])) (driveStep k d line fs) (NotDue line) (t, e) h in
-    let a = then_ok (rowDue d.n k line fs) _ (t, e) q.1 in
+    let q = drive-kind-ok (named (get_or fs 0 [])) (drive_step k d line fs) (NotDue line) (t, e) h in
+    let a = then_ok (row_due d.n k line fs) _ (t, e) q.1 in
     let hd = s.0.head in
     let y = row_ok d.n k line fs a.0 hd.most a.1 in
     let f = row-fair d.n k 1 line fs (replicate 17 0) a.0 (blank-row k) y.rest in
@@ -416,28 +416,28 @@ sound-step (Drives k) d line fs t e h s =
     s.0.worked)
     s.1)
 sound-step Pairs d line fs t e h s =
-    let q = first-kind-ok (named (get_or fs 0 [])) (pairStep d line fs) (NotDue line) (t, e) h in
+    let q = first-kind-ok (named (get_or fs 0 [])) (pair_step d line fs) (NotDue line) (t, e) h in
     let a = then_ok (pair_of d.n line fs) _ (t, e) q.1 in
     let hd = s.head in
     subst Both (ok_same _ _ a.2)
-    (whole_of (withPair d a.0)
+    (whole_of (with_pair d a.0)
     (record { one = hd.one; most = hd.most; within = hd.within; small = hd.small })
     (record { doors = s.ranged.doors; rows = s.ranged.rows })
     s.worked)
 
-end_whole : (line : ℕ) (s : Stage) (d e : Draft) → atEnd s d line ≡ Ok e → Sound s d → Whole e
+end_whole : (line : ℕ) (s : Stage) (d e : Draft) → at_end s d line ≡ Ok e → Sound s d → Whole e
 end_whole line Head d e h s = absurd (never _ e h)
 end_whole line (Doors k) d e h s = absurd (never _ e h)
 end_whole line (Drives k) d e h s = absurd (never _ e h)
 end_whole line Pairs d e h s = subst Whole (ok_same _ _ h) s
 
-lines-whole : (ps : List (List ℕ)) (line : ℕ) (s : Stage) (d e : Draft) → readLines ps line s d ≡ Ok e → Sound s d → Whole e
+lines-whole : (ps : List (List ℕ)) (line : ℕ) (s : Stage) (d e : Draft) → read_lines ps line s d ≡ Ok e → Sound s d → Whole e
 lines-whole [] line s d e h w = end_whole line s d e h w
-lines-whole (p ∷ []) line s d e h w = end_whole line s d e (cond-ok (eqb (length p) 0) (atEnd s d line) (Unended line) e h).1 w
+lines-whole (p ∷ []) line s d e h w = end_whole line s d e (cond-ok (eqb (length p) 0) (at_end s d line) (Unended line) e h).1 w
 lines-whole (p ∷ q ∷ ps) line s d e h w =
-    let a = then_ok (lineStep s d line (pieces 9 p)) _ e h in
+    let a = then_ok (line_step s d line (pieces 9 p)) _ e h in
     lines-whole (q ∷ ps) (line + 1) a.0.0 a.0.1 e a.2 (sound-step s d line (pieces 9 p) a.0.0 a.0.1 a.1 w)
 
 -- an accepted text gives a lawful round
-pub text-whole : (text : List ℕ) (d : Draft) → readText text ≡ Ok d → Whole d
+pub text-whole : (text : List ℕ) (d : Draft) → read_text text ≡ Ok d → Whole d
 text-whole text d h = lines-whole (pieces 10 text) 1 Head unread d h refl

@@ -5,7 +5,7 @@ use Rattle.std.proofs.lemmas.Bool.{cases_Bool, cases_eq, and_parts, cond-true, c
 use Rattle.text.specs.declared.kind.Kind.{Kind}
 use Rattle.text.specs.declared.kind.Kind.TheVariants.{Round, Door, Drive, First, Other}
 use Rattle.text.specs.Pieces.{pieces, onto}
-use Rattle.text.specs.Kinds.{named, started, endedBy, startsRound, startsDoor, startsDrive, startsFirst}
+use Rattle.text.specs.Kinds.{named, started, ended_by, starts_round, starts_door, starts_drive, starts_first}
 use Rattle.text.proofs.Pieces.{Lacks, pieces_more, pieces-last}
 use Rattle.text.proofs.Forms.{named-round, named-door, named-drive, named-first}
 
@@ -73,7 +73,7 @@ onto-round : (b : ℕ) (ps : List (List ℕ)) → named (get_or (onto 114 (onto 
 onto-round b [] = longer-round b [] _ refl
 onto-round b (p ∷ ps) = longer-round b p _ refl
 
-then-round : (r : List ℕ) → endedBy Round r ≡ named (name (codes "round" ++ r))
+then-round : (r : List ℕ) → ended_by Round r ≡ named (name (codes "round" ++ r))
 then-round [] = refl
 then-round (b ∷ r) = ⊎_elim (λ t. rw t) (λ t. rw t (sym (onto-round b (pieces 9 r)))) (cases_Bool (eqb b 9))
 
@@ -89,7 +89,7 @@ onto-door : (b : ℕ) (ps : List (List ℕ)) → named (get_or (onto 100 (onto 1
 onto-door b [] = longer-door b [] _ refl
 onto-door b (p ∷ ps) = longer-door b p _ refl
 
-then-door : (r : List ℕ) → endedBy Door r ≡ named (name (codes "door" ++ r))
+then-door : (r : List ℕ) → ended_by Door r ≡ named (name (codes "door" ++ r))
 then-door [] = refl
 then-door (b ∷ r) = ⊎_elim (λ t. rw t) (λ t. rw t (sym (onto-door b (pieces 9 r)))) (cases_Bool (eqb b 9))
 
@@ -105,7 +105,7 @@ onto-drive : (b : ℕ) (ps : List (List ℕ)) → named (get_or (onto 100 (onto 
 onto-drive b [] = longer-drive b [] _ refl
 onto-drive b (p ∷ ps) = longer-drive b p _ refl
 
-then-drive : (r : List ℕ) → endedBy Drive r ≡ named (name (codes "drive" ++ r))
+then-drive : (r : List ℕ) → ended_by Drive r ≡ named (name (codes "drive" ++ r))
 then-drive [] = refl
 then-drive (b ∷ r) = ⊎_elim (λ t. rw t) (λ t. rw t (sym (onto-drive b (pieces 9 r)))) (cases_Bool (eqb b 9))
 
@@ -121,29 +121,29 @@ onto-first : (b : ℕ) (ps : List (List ℕ)) → named (get_or (onto 102 (onto 
 onto-first b [] = longer-first b [] _ refl
 onto-first b (p ∷ ps) = longer-first b p _ refl
 
-then-first : (r : List ℕ) → endedBy First r ≡ named (name (codes "first" ++ r))
+then-first : (r : List ℕ) → ended_by First r ≡ named (name (codes "first" ++ r))
 then-first [] = refl
 then-first (b ∷ r) = ⊎_elim (λ t. rw t) (λ t. rw t (sym (onto-first b (pieces 9 r)))) (cases_Bool (eqb b 9))
 
 -- a line that starts with no kind's word
 record None (f : List ℕ) : Type 0 where
-  round : startsRound f ≡ false
-  door : startsDoor f ≡ false
-  drive : startsDrive f ≡ false
-  first : startsFirst f ≡ false
+  round : starts_round f ≡ false
+  door : starts_door f ≡ false
+  drive : starts_drive f ≡ false
+  first : starts_first f ≡ false
 
 whole-other : (line : List ℕ) → None line → (k : Kind) → named line ≡ k → k ≡ Other
-whole-other line n Round e = absurd (both_ways _ n.round (ap startsRound (named-round line e)))
-whole-other line n Door e = absurd (both_ways _ n.door (ap startsDoor (named-door line e)))
-whole-other line n Drive e = absurd (both_ways _ n.drive (ap startsDrive (named-drive line e)))
-whole-other line n First e = absurd (both_ways _ n.first (ap startsFirst (named-first line e)))
+whole-other line n Round e = absurd (both_ways _ n.round (ap starts_round (named-round line e)))
+whole-other line n Door e = absurd (both_ways _ n.door (ap starts_door (named-door line e)))
+whole-other line n Drive e = absurd (both_ways _ n.drive (ap starts_drive (named-drive line e)))
+whole-other line n First e = absurd (both_ways _ n.first (ap starts_first (named-first line e)))
 whole-other line n Other e = refl
 
 front-other : (p r : List ℕ) → None (p ++ (9 ∷ r)) → (k : Kind) → named p ≡ k → k ≡ Other
-front-other p r n Round e = absurd (both_ways _ n.round (ap (λ t. startsRound (t ++ (9 ∷ r))) (named-round p e) ∙ le-leb 5 _ (omega arith)))
-front-other p r n Door e = absurd (both_ways _ n.door (ap (λ t. startsDoor (t ++ (9 ∷ r))) (named-door p e) ∙ le-leb 4 _ (omega arith)))
-front-other p r n Drive e = absurd (both_ways _ n.drive (ap (λ t. startsDrive (t ++ (9 ∷ r))) (named-drive p e) ∙ le-leb 5 _ (omega arith)))
-front-other p r n First e = absurd (both_ways _ n.first (ap (λ t. startsFirst (t ++ (9 ∷ r))) (named-first p e) ∙ le-leb 5 _ (omega arith)))
+front-other p r n Round e = absurd (both_ways _ n.round (ap (λ t. starts_round (t ++ (9 ∷ r))) (named-round p e) ∙ le-leb 5 _ (omega arith)))
+front-other p r n Door e = absurd (both_ways _ n.door (ap (λ t. starts_door (t ++ (9 ∷ r))) (named-door p e) ∙ le-leb 4 _ (omega arith)))
+front-other p r n Drive e = absurd (both_ways _ n.drive (ap (λ t. starts_drive (t ++ (9 ∷ r))) (named-drive p e) ∙ le-leb 5 _ (omega arith)))
+front-other p r n First e = absurd (both_ways _ n.first (ap (λ t. starts_first (t ++ (9 ∷ r))) (named-first p e) ∙ le-leb 5 _ (omega arith)))
 front-other p r n Other e = refl
 
 none_other : (line : List ℕ) → None line → Other ≡ named (name line)
@@ -164,4 +164,4 @@ started-name line =
     (λ b. cond-false _ _ _ b ∙ ⊎_elim (λ t. cond-true _ _ _ t ∙ then-drive (drop 5 line) ∙ sym (ap (λ l. named (name l)) (five line 100 114 105 118 101 t)))
     (λ c. cond-false _ _ _ c ∙ ⊎_elim (λ t. cond-true _ _ _ t ∙ then-first (drop 5 line) ∙ sym (ap (λ l. named (name l)) (five line 102 105 114 115 116 t)))
     (λ d. cond-false _ _ _ d ∙ none_other line (record { round = a; door = b; drive = c; first = d }))
-    (cases_Bool (startsFirst line))) (cases_Bool (startsDrive line))) (cases_Bool (startsDoor line))) (cases_Bool (startsRound line))
+    (cases_Bool (starts_first line))) (cases_Bool (starts_drive line))) (cases_Bool (starts_door line))) (cases_Bool (starts_round line))

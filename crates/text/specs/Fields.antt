@@ -13,8 +13,8 @@ number_in low high bs line field =
     (Err (NotNumber line field))
 
 -- a number from -99 to 99
-abbrev pub changeIn : List ℕ → ℕ → ℕ → Result ℤ Refusal
-changeIn bs line field =
+abbrev pub change_in : List ℕ → ℕ → ℕ → Result ℤ Refusal
+change_in bs line field =
     cond (plain bs)
     (cond (nat_le (digits_value 10 bs) 99) (Ok (pos (digits_value 10 bs))) (Err (OutOfRange line field)))
     (cond (minus bs)
@@ -22,5 +22,5 @@ changeIn bs line field =
     (Err (NotNumber line field)))
 
 -- a "-", which stands for 0 minutes
-abbrev pub dashIn : List ℕ → ℕ → ℕ → Result ℕ Refusal
-dashIn bs line field = cond (dash bs) (Ok 0) (Err (NotNumber line field))
+abbrev pub dash_in : List ℕ → ℕ → ℕ → Result ℕ Refusal
+dash_in bs line field = cond (dash bs) (Ok 0) (Err (NotNumber line field))

@@ -5,7 +5,7 @@ use Rattle.round.specs.declared.door.Door.{Door}
 use Rattle.text.specs.declared.draft.Draft.{Draft}
 use Rattle.text.specs.declared.line.Head.{Head}
 use Rattle.text.specs.declared.line.Pair.{Pair}
-use Rattle.text.specs.Drafts.{unread, with_head, withDoor, with_row, withPair}
+use Rattle.text.specs.Drafts.{unread, with_head, with_door, with_row, with_pair}
 
 -- what a text says: its doors from 1, the drives from each place from the yard, and its pairs, in order
 pub record Content : Type 0 where
@@ -15,40 +15,40 @@ pub record Content : Type 0 where
   pub pairs : List Pair
 
 -- the fields of the round line
-abbrev pub headFields : Head → List (List ℕ)
-headFields h = codes "round" ∷ decimal h.n ∷ decimal h.load ∷ decimal h.limit ∷ []
+abbrev pub head_fields : Head → List (List ℕ)
+head_fields h = codes "round" ∷ decimal h.n ∷ decimal h.load ∷ decimal h.cap ∷ []
 
 -- the fields of the line of door k
-abbrev pub doorFields : ℕ → Door → List (List ℕ)
-doorFields k x =
+abbrev pub door_fields : ℕ → Door → List (List ℕ)
+door_fields k x =
     codes "door" ∷ decimal k ∷ decimal x.opens ∷ decimal x.closes ∷ decimal x.due ∷ decimal x.work ∷ signed_decimal x.change ∷ []
 
 -- the lines of the doors from k on
-abbrev pub doorsFields : ℕ → List Door → List (List (List ℕ))
-doorsFields k [] = []
-doorsFields k (x ∷ xs) = doorFields k x ∷ doorsFields (k + 1) xs
+abbrev pub doors_fields : ℕ → List Door → List (List (List ℕ))
+doors_fields k [] = []
+doors_fields k (x ∷ xs) = door_fields k x ∷ doors_fields (k + 1) xs
 
 -- the drives from i to the doors from j on, "-" for the door itself
-abbrev pub legFields : ℕ → ℕ → List ℕ → List (List ℕ)
-legFields i j [] = []
-legFields i j (v ∷ vs) = cond (i == j) (45 ∷ []) (decimal v) ∷ legFields i (j + 1) vs
+abbrev pub leg_fields : ℕ → ℕ → List ℕ → List (List ℕ)
+leg_fields i j [] = []
+leg_fields i j (v ∷ vs) = cond (i == j) (45 ∷ []) (decimal v) ∷ leg_fields i (j + 1) vs
 
 -- the fields of the drive line of place i
-abbrev pub rowFields : ℕ → List ℕ → List (List ℕ)
-rowFields i vs = codes "drive" ∷ decimal i ∷ legFields i 1 vs
+abbrev pub row_fields : ℕ → List ℕ → List (List ℕ)
+row_fields i vs = codes "drive" ∷ decimal i ∷ leg_fields i 1 vs
 
 -- the drive lines of the places from i on
-abbrev pub rowsFields : ℕ → List (List ℕ) → List (List (List ℕ))
-rowsFields i [] = []
-rowsFields i (r ∷ rs) = rowFields i r ∷ rowsFields (i + 1) rs
+abbrev pub rows_fields : ℕ → List (List ℕ) → List (List (List ℕ))
+rows_fields i [] = []
+rows_fields i (r ∷ rs) = row_fields i r ∷ rows_fields (i + 1) rs
 
 -- the fields of the line of a pair
-abbrev pub pairFields : Pair → List (List ℕ)
-pairFields p = codes "first" ∷ decimal p.first ∷ decimal p.then ∷ []
+abbrev pub pair_fields : Pair → List (List ℕ)
+pair_fields p = codes "first" ∷ decimal p.first ∷ decimal p.then ∷ []
 
 -- the lines of a text, by their fields
 abbrev pub records : Content → List (List (List ℕ))
-records c = headFields c.head ∷ (doorsFields 1 c.doors ++ (rowsFields 0 c.rows ++ map pairFields c.pairs))
+records c = head_fields c.head ∷ (doors_fields 1 c.doors ++ (rows_fields 0 c.rows ++ map pair_fields c.pairs))
 
 -- pieces with the separator s between them
 abbrev pub joined : ℕ → List (List ℕ) → List ℕ
@@ -102,8 +102,8 @@ pub record PairFits (n : ℕ) (p : Pair) : Type 0 where
 pub record Fits (c : Content) : Type 0 where
   pub one : 1 ≤ c.head.n
   pub most : c.head.n ≤ 16
-  pub load : c.head.load ≤ c.head.limit
-  pub limit : c.head.limit ≤ 999
+  pub load : c.head.load ≤ c.head.cap
+  pub cap : c.head.cap ≤ 999
   pub many : length c.doors ≡ c.head.n
   pub doors : Each DoorFits c.doors
   pub places : length c.rows ≡ c.head.n + 1
@@ -111,32 +111,32 @@ pub record Fits (c : Content) : Type 0 where
   pub pairs : Each (PairFits c.head.n) c.pairs
 
 -- the drives to the doors from j on, each at the place of its door
-abbrev pub fillRow : ℕ → List ℕ → List ℕ → List ℕ
-fillRow j [] row = row
-fillRow j (v ∷ vs) row = fillRow (j + 1) vs (slice_set row j v)
+abbrev pub fill_row : ℕ → List ℕ → List ℕ → List ℕ
+fill_row j [] row = row
+fill_row j (v ∷ vs) row = fill_row (j + 1) vs (slice_set row j v)
 
 -- the doors from k on
-abbrev pub addDoors : ℕ → Draft → List Door → Draft
-addDoors k d [] = d
-addDoors k d (x ∷ xs) = addDoors (k + 1) (withDoor d k x) xs
+abbrev pub add_doors : ℕ → Draft → List Door → Draft
+add_doors k d [] = d
+add_doors k d (x ∷ xs) = add_doors (k + 1) (with_door d k x) xs
 
 -- the drives from the places from i on
-abbrev pub addRows : ℕ → Draft → List (List ℕ) → Draft
-addRows i d [] = d
-addRows i d (r ∷ rs) = addRows (i + 1) (with_row d i (fillRow 1 r (replicate 17 0))) rs
+abbrev pub add_rows : ℕ → Draft → List (List ℕ) → Draft
+add_rows i d [] = d
+add_rows i d (r ∷ rs) = add_rows (i + 1) (with_row d i (fill_row 1 r (replicate 17 0))) rs
 
 -- the pairs, one after another
-abbrev pub addPairs : Draft → List Pair → Draft
-addPairs d [] = d
-addPairs d (p ∷ ps) = addPairs (withPair d p) ps
+abbrev pub add_pairs : Draft → List Pair → Draft
+add_pairs d [] = d
+add_pairs d (p ∷ ps) = add_pairs (with_pair d p) ps
 
 -- the round that it makes; what no line fills is 0
-abbrev pub roundOf : Content → Draft
-roundOf c = addPairs (addRows 0 (addDoors 1 (with_head unread c.head) c.doors) c.rows) c.pairs
+abbrev pub round_of : Content → Draft
+round_of c = add_pairs (add_rows 0 (add_doors 1 (with_head unread c.head) c.doors) c.rows) c.pairs
 
 -- the text is that of some content in range, and d is its round
 pub record HasForm (text : List ℕ) (d : Draft) : Type 0 where
   pub content : Content
   pub fits : Fits content
   pub same : text_of content ≡ text
-  pub round : roundOf content ≡ d
+  pub round : round_of content ≡ d

@@ -5,7 +5,7 @@ use Rattle.text.specs.declared.refusal.Refusal.{Refusal}
 use Rattle.text.specs.declared.refusal.Refusal.TheVariants.{FieldCount, OutOfTurn}
 use Rattle.text.specs.declared.line.Head.{Head}
 use Rattle.text.specs.declared.line.Pair.{Pair}
-use Rattle.text.specs.Fields.{number_in, changeIn, dashIn}
+use Rattle.text.specs.Fields.{number_in, change_in, dash_in}
 
 -- go on with the value, or keep the refusal
 abbrev pub and_then : {A B : Type 0} → Result A Refusal → (A → Result B Refusal) → Result B Refusal
@@ -28,41 +28,41 @@ head_of line fs =
     counted 4 line fs
     (and_then (number_in 1 16 (slice_index_or fs 1 []) line 2) (λ n.
     and_then (number_in 0 999 (slice_index_or fs 2 []) line 3) (λ load.
-    and_then (number_in load 999 (slice_index_or fs 3 []) line 4) (λ limit.
-    Ok (record { n = n; load = load; limit = limit })))))
+    and_then (number_in load 999 (slice_index_or fs 3 []) line 4) (λ cap.
+    Ok (record { n = n; load = load; cap = cap })))))
 
 -- the fields of a door line after the door's number
-abbrev pub doorOf : ℕ → List (List ℕ) → Result Door Refusal
-doorOf line fs =
+abbrev pub door_of : ℕ → List (List ℕ) → Result Door Refusal
+door_of line fs =
     and_then (number_in 0 9999 (slice_index_or fs 2 []) line 3) (λ opens.
     and_then (number_in 0 9999 (slice_index_or fs 3 []) line 4) (λ closes.
     and_then (number_in 0 9999 (slice_index_or fs 4 []) line 5) (λ due.
     and_then (number_in 1 999 (slice_index_or fs 5 []) line 6) (λ work.
-    and_then (changeIn (slice_index_or fs 6 []) line 7) (λ change.
+    and_then (change_in (slice_index_or fs 6 []) line 7) (λ change.
     Ok (record { opens = opens; closes = closes; due = due; work = work; change = change }))))))
 
 -- a door line, where the door `due` of n is the next
-abbrev pub doorDue : ℕ → ℕ → ℕ → List (List ℕ) → Result Door Refusal
-doorDue n due line fs =
+abbrev pub door_due : ℕ → ℕ → ℕ → List (List ℕ) → Result Door Refusal
+door_due n due line fs =
     counted 7 line fs
     (and_then (number_in 1 n (slice_index_or fs 1 []) line 2) (λ number.
-    cond (number == due) (doorOf line fs) (Err (OutOfTurn line 2))))
+    cond (number == due) (door_of line fs) (Err (OutOfTurn line 2))))
 
 -- the drive from i to door j, in field j + 2: "-" where they are the same
-abbrev pub legIn : ℕ → ℕ → ℕ → List (List ℕ) → Result ℕ Refusal
-legIn i j line fs = cond (i == j) (dashIn (slice_index_or fs (j + 2 - 1) []) line (j + 2)) (number_in 0 999 (slice_index_or fs (j + 2 - 1) []) line (j + 2))
+abbrev pub leg_in : ℕ → ℕ → ℕ → List (List ℕ) → Result ℕ Refusal
+leg_in i j line fs = cond (i == j) (dash_in (slice_index_or fs (j + 2 - 1) []) line (j + 2)) (number_in 0 999 (slice_index_or fs (j + 2 - 1) []) line (j + 2))
 
 -- the drives from i to the m doors from j on, into a row
-abbrev pub rowFrom : ℕ → ℕ → ℕ → ℕ → List (List ℕ) → List ℕ → Result (List ℕ) Refusal
-rowFrom zero i j line fs row = Ok row
-rowFrom (suc m) i j line fs row = and_then (legIn i j line fs) (λ leg. rowFrom m i (j + 1) line fs (slice_set row j leg))
+abbrev pub row_from : ℕ → ℕ → ℕ → ℕ → List (List ℕ) → List ℕ → Result (List ℕ) Refusal
+row_from zero i j line fs row = Ok row
+row_from (suc m) i j line fs row = and_then (leg_in i j line fs) (λ leg. row_from m i (j + 1) line fs (slice_set row j leg))
 
 -- a drive line, where the place `due` is the next
-abbrev pub rowDue : ℕ → ℕ → ℕ → List (List ℕ) → Result (List ℕ) Refusal
-rowDue n due line fs =
+abbrev pub row_due : ℕ → ℕ → ℕ → List (List ℕ) → Result (List ℕ) Refusal
+row_due n due line fs =
     counted (n + 2) line fs
     (and_then (number_in 0 n (slice_index_or fs 1 []) line 2) (λ from.
-    cond (from == due) (rowFrom n due 1 line fs (replicate 17 0)) (Err (OutOfTurn line 2))))
+    cond (from == due) (row_from n due 1 line fs (replicate 17 0)) (Err (OutOfTurn line 2))))
 
 -- a line of a pair: two doors, not the same
 abbrev pub pair_of : ℕ → ℕ → List (List ℕ) → Result Pair Refusal

@@ -4,17 +4,17 @@ use Rattle.round.specs.declared.table.Round.{Round}
 use Rattle.text.specs.declared.refusal.Refusal.{Refusal}
 use Rattle.text.specs.declared.refusal.Refusal.TheVariants.{TooLong}
 use Rattle.text.specs.declared.draft.Draft.{Draft}
-use Rattle.text.specs.Reading.{readText}
+use Rattle.text.specs.Reading.{read_text}
 use Rattle.text.specs.Form.{HasForm}
 
 -- what a round holds
 abbrev pub contents : Round → Draft
-contents r = record { n = r.n; load = r.load; limit = r.limit; doors = r.doors; drives = r.drives; ahead = r.ahead }
+contents r = record { n = r.n; load = r.load; cap = r.cap; doors = r.doors; drives = r.drives; ahead = r.ahead }
 
 -- an accepted text is written whole, and a refusal alters nothing
 abbrev pub Reads : {A : Type 0} → Result A Refusal → Round → Round → List ℕ → Type 0
-Reads (Ok u) was is text = readText text ≡ Ok (contents is)
-Reads (Err e) was is text = (readText text ≡ Err e) × (is ≡ was)
+Reads (Ok u) was is text = read_text text ≡ Ok (contents is)
+Reads (Err e) was is text = (read_text text ≡ Err e) × (is ≡ was)
 
 -- a text is accepted exactly if it has the form of a round's text
 abbrev pub Accepts : {A : Type 0} → Result A Refusal → Round → List ℕ → Type 0

@@ -8,8 +8,8 @@ use Rattle.text.specs.declared.stage.Stage.{Stage}
 use Rattle.text.specs.declared.stage.Stage.TheVariants.{Head, Doors, Drives, Pairs}
 use Rattle.text.specs.declared.draft.Draft.{Draft}
 use Rattle.text.specs.Kinds.{named}
-use Rattle.text.specs.Lines.{and_then, head_of, doorDue, rowDue, pair_of}
-use Rattle.text.specs.Drafts.{with_head, withDoor, with_row, withPair}
+use Rattle.text.specs.Lines.{and_then, head_of, door_due, row_due, pair_of}
+use Rattle.text.specs.Drafts.{with_head, with_door, with_row, with_pair}
 
 -- what a stage asks of the draft
 abbrev pub Ready : Stage → Draft → Type 0
@@ -28,57 +28,57 @@ went (Ok s) d = Ok (s, d)
 went (Err e) d = Err e
 
 -- the round line: door 1 is the next
-abbrev pub headStep : Draft → ℕ → List (List ℕ) → Next
-headStep d line fs = and_then (head_of line fs) (λ h. Ok (Doors 1, with_head d h))
+abbrev pub head_step : Draft → ℕ → List (List ℕ) → Next
+head_step d line fs = and_then (head_of line fs) (λ h. Ok (Doors 1, with_head d h))
 
 -- the line of door k; after the last door the drives from the yard are next
-abbrev pub doorStep : ℕ → Draft → ℕ → List (List ℕ) → Next
-doorStep k d line fs = and_then (doorDue d.n k line fs) (λ door. Ok (cond (nat_lt k d.n) (Doors (k + 1)) (Drives 0), withDoor d k door))
+abbrev pub door_step : ℕ → Draft → ℕ → List (List ℕ) → Next
+door_step k d line fs = and_then (door_due d.n k line fs) (λ door. Ok (cond (nat_lt k d.n) (Doors (k + 1)) (Drives 0), with_door d k door))
 
 -- the drives from place k; after the last place pairs may come
-abbrev pub driveStep : ℕ → Draft → ℕ → List (List ℕ) → Next
-driveStep k d line fs = and_then (rowDue d.n k line fs) (λ row. Ok (cond (nat_lt k d.n) (Drives (k + 1)) Pairs, with_row d k row))
+abbrev pub drive_step : ℕ → Draft → ℕ → List (List ℕ) → Next
+drive_step k d line fs = and_then (row_due d.n k line fs) (λ row. Ok (cond (nat_lt k d.n) (Drives (k + 1)) Pairs, with_row d k row))
 
 -- one pair; another may follow
-abbrev pub pairStep : Draft → ℕ → List (List ℕ) → Next
-pairStep d line fs = and_then (pair_of d.n line fs) (λ p. Ok (Pairs, withPair d p))
+abbrev pub pair_step : Draft → ℕ → List (List ℕ) → Next
+pair_step d line fs = and_then (pair_of d.n line fs) (λ p. Ok (Pairs, with_pair d p))
 
 -- a if the kind is `round`, else b; and so for each other kind
-abbrev pub ifRound : {A : Type 0} → Kind → A → A → A
-ifRound Round a b = a
-ifRound Door a b = b
-ifRound Drive a b = b
-ifRound First a b = b
-ifRound Other a b = b
+abbrev pub if_round : {A : Type 0} → Kind → A → A → A
+if_round Round a b = a
+if_round Door a b = b
+if_round Drive a b = b
+if_round First a b = b
+if_round Other a b = b
 
-abbrev pub ifDoor : {A : Type 0} → Kind → A → A → A
-ifDoor Round a b = b
-ifDoor Door a b = a
-ifDoor Drive a b = b
-ifDoor First a b = b
-ifDoor Other a b = b
+abbrev pub if_door : {A : Type 0} → Kind → A → A → A
+if_door Round a b = b
+if_door Door a b = a
+if_door Drive a b = b
+if_door First a b = b
+if_door Other a b = b
 
-abbrev pub ifDrive : {A : Type 0} → Kind → A → A → A
-ifDrive Round a b = b
-ifDrive Door a b = b
-ifDrive Drive a b = a
-ifDrive First a b = b
-ifDrive Other a b = b
+abbrev pub if_drive : {A : Type 0} → Kind → A → A → A
+if_drive Round a b = b
+if_drive Door a b = b
+if_drive Drive a b = a
+if_drive First a b = b
+if_drive Other a b = b
 
-abbrev pub ifFirst : {A : Type 0} → Kind → A → A → A
-ifFirst Round a b = b
-ifFirst Door a b = b
-ifFirst Drive a b = b
-ifFirst First a b = a
-ifFirst Other a b = b
+abbrev pub if_first : {A : Type 0} → Kind → A → A → A
+if_first Round a b = b
+if_first Door a b = b
+if_first Drive a b = b
+if_first First a b = a
+if_first Other a b = b
 
 -- a line of that kind, which has to be the one that is due
-abbrev pub kindStep : Stage → Kind → Draft → ℕ → List (List ℕ) → Next
-kindStep Head k d line fs = ifRound k (headStep d line fs) (Err (NotDue line))
-kindStep (Doors i) k d line fs = ifDoor k (doorStep i d line fs) (Err (NotDue line))
-kindStep (Drives i) k d line fs = ifDrive k (driveStep i d line fs) (Err (NotDue line))
-kindStep Pairs k d line fs = ifFirst k (pairStep d line fs) (Err (NotDue line))
+abbrev pub kind_step : Stage → Kind → Draft → ℕ → List (List ℕ) → Next
+kind_step Head k d line fs = if_round k (head_step d line fs) (Err (NotDue line))
+kind_step (Doors i) k d line fs = if_door k (door_step i d line fs) (Err (NotDue line))
+kind_step (Drives i) k d line fs = if_drive k (drive_step i d line fs) (Err (NotDue line))
+kind_step Pairs k d line fs = if_first k (pair_step d line fs) (Err (NotDue line))
 
 -- a line with those fields
-abbrev pub lineStep : Stage → Draft → ℕ → List (List ℕ) → Next
-lineStep s d line fs = kindStep s (named (slice_index_or fs 0 [])) d line fs
+abbrev pub line_step : Stage → Draft → ℕ → List (List ℕ) → Next
+line_step s d line fs = kind_step s (named (slice_index_or fs 0 [])) d line fs

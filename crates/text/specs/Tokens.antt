@@ -6,8 +6,8 @@ use Rattle.text.specs.declared.token.Token.TheVariants.{Number, Negative, Dash, 
 use Rattle.text.specs.Number.{plain, minus, dash}
 
 -- by the form of the field's bytes, at line l and field f
-abbrev pub tokenOf : Bor (List ℕ) → ℕ → ℕ → Token
-tokenOf b l f =
+abbrev pub token_of : Bor (List ℕ) → ℕ → ℕ → Token
+token_of b l f =
     cond (dash b.now) (Dash b l f) (cond (minus b.now) (Negative b l f) (cond (plain b.now) (Number b l f) (Word b l f)))
 
 -- the bytes of a token, its line and its field

@@ -1,6 +1,6 @@
 // A round while its text is read: plain tables, which need not be lawful yet.
 ghost use Rattle.std.specs.Prelude.{◌≡◌, ◌≤◌};
-ghost use Rattle.text.specs.Drafts.{unread, with_head, withDoor, with_row, withPair};
+ghost use Rattle.text.specs.Drafts.{unread, with_head, with_door, with_row, with_pair};
 
 use crate::line::{Head, Pair};
 use doors::{DoorSet, with};
@@ -11,7 +11,7 @@ use round::door::{BLANK, Door};
 pub(crate) struct Draft {
     pub(crate) n: u16,
     pub(crate) load: u16,
-    pub(crate) limit: u16,
+    pub(crate) cap: u16,
     pub(crate) doors: [Door; 17],
     pub(crate) drives: [[u16; 17]; 17],
     pub(crate) ahead: [DoorSet; 17],
@@ -24,7 +24,7 @@ impl Draft {
         Draft {
             n: 0,
             load: 0,
-            limit: 0,
+            cap: 0,
             doors: [BLANK; 17],
             drives: [[0; 17]; 17],
             ahead: [0; 17],
@@ -36,12 +36,12 @@ impl Draft {
     {
         self.n = head.n;
         self.load = head.load;
-        self.limit = head.limit;
+        self.cap = head.cap;
     }
 
     pub(crate) fn set_door(&mut self, number: u16, door: Door)
         requires { number ≤ 16 }
-        ensures { self.new ≡ withDoor self.old number door }
+        ensures { self.new ≡ with_door self.old number door }
     {
         self.doors[number as usize] = door;
     }
@@ -56,7 +56,7 @@ impl Draft {
     // The set of the doors ahead of the second gets the first.
     pub(crate) fn add_pair(&mut self, pair: Pair)
         requires { (pair.first ≤ 16) × (pair.then ≤ 16) }
-        ensures { self.new ≡ withPair self.old pair }
+        ensures { self.new ≡ with_pair self.old pair }
     {
         let ahead = &mut self.ahead[pair.then as usize];
         *ahead = with(*ahead, pair.first as usize);

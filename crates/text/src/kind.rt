@@ -1,7 +1,7 @@
 // The kinds of lines.
 ghost use Rattle.std.specs.Prelude.{◌≡◌, [], slice_index_or};
 ghost use Rattle.text.specs.Pieces.{pieces};
-ghost use Rattle.text.specs.Kinds.{named, endedBy, started};
+ghost use Rattle.text.specs.Kinds.{named, ended_by, started};
 
 #[derive(Clone, Copy)]
 pub(crate) enum Kind {
@@ -14,7 +14,7 @@ pub(crate) enum Kind {
 
 // The kind, if its word ends before `rest`: at a tab, or with the line.
 fn ended(kind: Kind, rest: &[u8]) -> Kind
-    ensures { result ≡ endedBy kind rest.now }
+    ensures { result ≡ ended_by kind rest.now }
 {
     match rest {
         [] | [b'\t', ..] => kind,

@@ -2,8 +2,8 @@
 ghost use Rattle.std.specs.Prelude.{◌≡◌, ◌-◌, ◌<◌, ◌≤◌, [], length, replicate, IfOk, ◌==◌, slice_index_or};
 ghost use Rattle.text.specs.Pieces.{pieces};
 ghost use Rattle.text.specs.Tokens.{Formed, bytes_of, line_of, field_of};
-ghost use Rattle.text.specs.Fields.{number_in, changeIn, dashIn};
-ghost use Rattle.text.specs.Lines.{counted, in_turn, doorOf, doorDue, head_of, pair_of, legIn, rowFrom, rowDue};
+ghost use Rattle.text.specs.Fields.{number_in, change_in, dash_in};
+ghost use Rattle.text.specs.Lines.{counted, in_turn, door_of, door_due, head_of, pair_of, leg_in, row_from, row_due};
 
 use crate::cut::{count, piece};
 use crate::number::{change, within};
@@ -50,7 +50,7 @@ fn number_at(line: Line<'_>, field: usize, low: u16, high: u16) -> Result<u16, R
 
 fn change_at(line: Line<'_>, field: usize) -> Result<i8, Refusal>
     requires { 1 ≤ field }
-    ensures { result ≡ changeIn (slice_index_or (pieces 9 line.entry.bytes.now) (field - 1) []) line.entry.number field }
+    ensures { result ≡ change_in (slice_index_or (pieces 9 line.entry.bytes.now) (field - 1) []) line.entry.number field }
 {
     change(field_at(line, field))
 }
@@ -72,7 +72,7 @@ fn expect_turn(line: Line<'_>, low: u16, high: u16, due: u16) -> Result<(), Refu
 
 // What a door line says of its door.
 fn door_of(line: Line<'_>) -> Result<Door, Refusal>
-    ensures { result ≡ doorOf line.entry.number (pieces 9 line.entry.bytes.now) }
+    ensures { result ≡ door_of line.entry.number (pieces 9 line.entry.bytes.now) }
 {
     let opens = number_at(line, 3, 0, 9_999)?;
     let closes = number_at(line, 4, 0, 9_999)?;
@@ -91,7 +91,7 @@ fn door_of(line: Line<'_>) -> Result<Door, Refusal>
 // The door of a door line, where the door `due` of n is the next.
 pub(crate) fn door_due(line: Line<'_>, n: u16, due: u16) -> Result<Door, Refusal>
     requires { n ≤ 16 }
-    ensures { result ≡ doorDue n due line.entry.number (pieces 9 line.entry.bytes.now) }
+    ensures { result ≡ door_due n due line.entry.number (pieces 9 line.entry.bytes.now) }
 {
     expect_fields(line, 7)?;
     expect_turn(line, 1, n, due)?;
@@ -103,7 +103,7 @@ pub(crate) fn door_due(line: Line<'_>, n: u16, due: u16) -> Result<Door, Refusal
 pub(crate) struct Head {
     pub(crate) n: u16,
     pub(crate) load: u16,
-    pub(crate) limit: u16,
+    pub(crate) cap: u16,
 }
 
 pub(crate) fn head_of(line: Line<'_>) -> Result<Head, Refusal>
@@ -112,8 +112,8 @@ pub(crate) fn head_of(line: Line<'_>) -> Result<Head, Refusal>
     expect_fields(line, 4)?;
     let n = number_at(line, 2, 1, 16)?;
     let load = number_at(line, 3, 0, 999)?;
-    let limit = number_at(line, 4, load, 999)?;
-    Ok(Head { n, load, limit })
+    let cap = number_at(line, 4, load, 999)?;
+    Ok(Head { n, load, cap })
 }
 
 // Two doors, of which `first` has to come ahead of `then`.
@@ -143,7 +143,7 @@ pub(crate) fn pair_of(line: Line<'_>, n: u16) -> Result<Pair, Refusal>
 // A "-" in that field, for a drive of no minutes.
 fn dash_at(line: Line<'_>, field: usize) -> Result<u16, Refusal>
     requires { 1 ≤ field }
-    ensures { result ≡ dashIn (slice_index_or (pieces 9 line.entry.bytes.now) (field - 1) []) line.entry.number field }
+    ensures { result ≡ dash_in (slice_index_or (pieces 9 line.entry.bytes.now) (field - 1) []) line.entry.number field }
 {
     match field_at(line, field) {
         Token::Dash { .. } => Ok(0),
@@ -157,7 +157,7 @@ fn dash_at(line: Line<'_>, field: usize) -> Result<u16, Refusal>
 // The drive from a place to a door: "-" where they are the same.
 fn leg_at(line: Line<'_>, from: u16, to: u16) -> Result<u16, Refusal>
     requires { to ≤ 16 }
-    ensures { result ≡ legIn from to line.entry.number (pieces 9 line.entry.bytes.now) }
+    ensures { result ≡ leg_in from to line.entry.number (pieces 9 line.entry.bytes.now) }
 {
     let field = to as usize + 2;
     if from == to {
@@ -170,7 +170,7 @@ fn leg_at(line: Line<'_>, from: u16, to: u16) -> Result<u16, Refusal>
 // The drives from a place to each of n doors.
 fn row_of(line: Line<'_>, n: u16, from: u16) -> Result<[u16; 17], Refusal>
     requires { n ≤ 16 }
-    ensures { result ≡ rowFrom n from 1 line.entry.number (pieces 9 line.entry.bytes.now) (replicate 17 0) }
+    ensures { result ≡ row_from n from 1 line.entry.number (pieces 9 line.entry.bytes.now) (replicate 17 0) }
 {
     let mut row = [0; 17];
     for to in 1..=n {
@@ -182,7 +182,7 @@ fn row_of(line: Line<'_>, n: u16, from: u16) -> Result<[u16; 17], Refusal>
 // The drives of a drive line, where the place `due` is the next.
 pub(crate) fn row_due(line: Line<'_>, n: u16, due: u16) -> Result<[u16; 17], Refusal>
     requires { n ≤ 16 }
-    ensures { result ≡ rowDue n due line.entry.number (pieces 9 line.entry.bytes.now) }
+    ensures { result ≡ row_due n due line.entry.number (pieces 9 line.entry.bytes.now) }
 {
     expect_fields(line, n as usize + 2)?;
     expect_turn(line, 0, n, due)?;

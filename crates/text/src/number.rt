@@ -4,7 +4,7 @@ ghost use Rattle.std.specs.Str.Parse.{digits_value};
 ghost use Rattle.std.specs.Str.{all_ascii_digits};
 ghost use Rattle.text.specs.Number.{minus};
 ghost use Rattle.text.specs.Tokens.{Formed, bytes_of, line_of, field_of};
-ghost use Rattle.text.specs.Fields.{number_in, changeIn};
+ghost use Rattle.text.specs.Fields.{number_in, change_in};
 
 use crate::refusal::Refusal;
 use crate::token::Token;
@@ -47,7 +47,7 @@ pub(crate) fn within(token: Token<'_>, low: u16, high: u16) -> Result<u16, Refus
 // The number of a field, from -99 to 99.
 pub(crate) fn change(token: Token<'_>) -> Result<i8, Refusal>
     requires { Formed token }
-    ensures { result ≡ changeIn (bytes_of token.entry) (line_of token.entry) (field_of token.entry) }
+    ensures { result ≡ change_in (bytes_of token.entry) (line_of token.entry) (field_of token.entry) }
 {
     match token {
         Token::Number { bytes, line, field } => match amount(bytes) {

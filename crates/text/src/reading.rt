@@ -17,7 +17,7 @@ pub fn read(round: &mut Round, text: &[u8]) -> Result<(), Refusal>
     let Draft {
         n,
         load,
-        limit,
+        cap,
         doors,
         drives,
         ahead,
@@ -25,7 +25,7 @@ pub fn read(round: &mut Round, text: &[u8]) -> Result<(), Refusal>
     *round = Round {
         n: n as usize,
         load,
-        limit,
+        cap,
         doors,
         drives,
         ahead,

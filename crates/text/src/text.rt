@@ -1,6 +1,6 @@
 // The lines of a whole text.
 ghost use Rattle.std.specs.Prelude.{◌≡◌};
-ghost use Rattle.text.specs.Reading.{readText};
+ghost use Rattle.text.specs.Reading.{read_text};
 
 use crate::cut::cut_at;
 use crate::draft::Draft;
@@ -10,7 +10,7 @@ use crate::stage::Stage;
 use crate::step::take_line;
 
 pub(crate) fn draft_of(text: &[u8]) -> Result<Draft, Refusal>
-    ensures { result ≡ readText text.now }
+    ensures { result ≡ read_text text.now }
 {
     let mut draft = Draft::new();
     let mut stage = Stage::Head;

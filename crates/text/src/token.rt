@@ -2,7 +2,7 @@
 ghost use Rattle.std.specs.Prelude.{◌≡◌};
 ghost use Rattle.std.specs.Str.{all_ascii_digits};
 ghost use Rattle.text.specs.Number.{plain, positive, minus};
-ghost use Rattle.text.specs.Tokens.{tokenOf};
+ghost use Rattle.text.specs.Tokens.{token_of};
 
 #[derive(Clone, Copy)]
 pub(crate) enum Token<'a> {
@@ -58,7 +58,7 @@ fn is_negative(bytes: &[u8]) -> bool
 }
 
 pub(crate) fn token_of<'a>(bytes: &'a [u8], line: usize, field: usize) -> Token<'a>
-    ensures { result ≡ tokenOf bytes.entry line field }
+    ensures { result ≡ token_of bytes.entry line field }
 {
     if matches!(bytes, b"-") {
         Token::Dash { bytes, line, field }

@@ -5,7 +5,7 @@ use Rattle.std.proofs.lemmas.List.{get_or_past, get_or-replicate, length-replica
 use Rattle.std.proofs.lemmas.Bool.{cases_lt, cases_eq}
 use Rattle.layers.specs.declared.node.Node.{Node}
 use Rattle.layers.specs.Targets.{targets}
-use Rattle.tidying.specs.Tidied.{marked, reachStep, reachedNext}
+use Rattle.tidying.specs.Tidied.{marked, reach_step, reached_next}
 use Rattle.labels.proofs.Folds.{folded-counting}
 
 abbrev pub On : List Bool → ℕ → Type 0
@@ -55,10 +55,10 @@ marked_from (x ∷ ts) m t on = ⊎_elim
 
 module _ {S V : Type 0} (z : Node S V) (from : List Bool) (us : List (Node S V)) where
   abbrev upto : ℕ → List Bool
-  upto n = fold (reachStep z from us) (replicate 256 false) (range_with_len 0 n)
+  upto n = fold (reach_step z from us) (replicate 256 false) (range_with_len 0 n)
 
-  upto-more : (n : ℕ) → upto (suc n) ≡ reachStep z from us (upto n) n
-  upto-more n = ap upto (sym (add-one n)) ∙ folded-counting (reachStep z from us) (replicate 256 false) n
+  upto-more : (n : ℕ) → upto (suc n) ≡ reach_step z from us (upto n) n
+  upto-more n = ap upto (sym (add-one n)) ∙ folded-counting (reach_step z from us) (replicate 256 false) n
 
   step-long : (b : Bool) (m : List Bool) (ts : List ℕ) → length (cond b (marked m ts) m) ≡ length m
   step-long true m ts = length_marked ts m
@@ -97,10 +97,10 @@ module _ {S V : Type 0} (z : Node S V) (from : List Bool) (us : List (Node S V))
       (marked-has (targets (get_or us n z)) (upto n) k t (subst (λ i. k < length (targets (get_or us i z))) same in') (subst (λ i. get_or (targets (get_or us i z)) k 0 ≡ t) same e) (omega (arith, upto-long n))))
       (cases_lt a n))
 
-  pub marks-from : (t : ℕ) → On (reachedNext z from us) t → Sent (length us) t
-  unfolding reachedNext
+  pub marks-from : (t : ℕ) → On (reached_next z from us) t → Sent (length us) t
+  unfolding reached_next
   marks-from t on = upto_from (length us) t on
 
-  pub marks-has : (a k t : ℕ) → a < length us → On from (a + 1) → k < length (targets (get_or us a z)) → get_or (targets (get_or us a z)) k 0 ≡ t → t < 256 → On (reachedNext z from us) t
-  unfolding reachedNext
+  pub marks-has : (a k t : ℕ) → a < length us → On from (a + 1) → k < length (targets (get_or us a z)) → get_or (targets (get_or us a z)) k 0 ≡ t → t < 256 → On (reached_next z from us) t
+  unfolding reached_next
   marks-has a k t lt on in' e fits = upto-has (length us) a k t lt on in' e fits

@@ -5,8 +5,8 @@ use Rattle.std.proofs.lemmas.Bool.{cases_lt, cases_eq}
 use Rattle.std.proofs.lemmas.List.Sums.{length-filter, count_by-le-length}
 use Rattle.std.proofs.lemmas.List.FromFn.{get_or-map-range_with_len}
 use Rattle.layers.specs.declared.node.Node.{Node}
-use Rattle.layers.specs.Targets.{targets, withTargets}
-use Rattle.tidying.specs.Tidied.{lively, reachedNext, renewed, number_of, numbering, numbers, tidied, together, firstMark}
+use Rattle.layers.specs.Targets.{targets, with_targets}
+use Rattle.tidying.specs.Tidied.{lively, reached_next, renewed, number_of, numbering, numbers, tidied, together, first_mark}
 use Rattle.tidying.specs.Paths.{arc, Leads, Bare, Ranged}
 use Rattle.tidying.proofs.Numbers.{number-here, zeros}
 use Rattle.labels.proofs.Rests.{one_more}
@@ -50,7 +50,7 @@ module _ {S V : Type 0} (w : ℕ) (z : Node S V) (bare : Bare z) (small : w < 25
   abbrev number : ℕ → List Bool → List (Node S V) → ℕ → ℕ
   number r from xs a = get_or (numbers w z r from xs) (suc a) 0
 
-  renewed-true : (new : List ℕ) (x : Node S V) (b : Bool) → b ≡ true → renewed z b new x ≡ withTargets x (map (λ t. get_or new t 0) (targets x))
+  renewed-true : (new : List ℕ) (x : Node S V) (b : Bool) → b ≡ true → renewed z b new x ≡ with_targets x (map (λ t. get_or new t 0) (targets x))
   unfolding renewed
   renewed-true new x true e = refl
   renewed-true new x false e = absurd (let n : ◌≡◌ {A = ℕ} 0 1 = cc in omega arith)
@@ -60,7 +60,7 @@ module _ {S V : Type 0} (w : ℕ) (z : Node S V) (bare : Bare z) (small : w < 25
   unfolding numbers numbering together
   renumbered-node r from xs a fits ne =
       let vs = vs-of w z bare small r from xs in
-      let new = numbers w z r (reachedNext z from (take w xs)) (drop w xs) in
+      let new = numbers w z r (reached_next z from (take w xs)) (drop w xs) in
       let s = number-shown vs a z ne in
       let lt : a < length vs = s.0 in
       let long = long-vs w z bare small from new (take w xs) in
@@ -82,7 +82,7 @@ module _ {S V : Type 0} (w : ℕ) (z : Node S V) (bare : Bare z) (small : w < 25
       let fits₁ : w ≤ length xs = omega (arith, more) in
       let fits₂ : r * w ≤ length (drop w xs) = (let e : suc r - 1 ≡ r = omega arith in omega (arith, more, ap (λ n. n * w) e, length-drop w xs)) in
       let us = take w xs in
-      let next = reachedNext z from us in
+      let next = reached_next z from us in
       let new = numbers w z r next (drop w xs) in
       let vs = vs-of w z bare small r from xs in
       let on' = marks-arc w z bare small from xs R a k h.0 on h.1 in
@@ -95,7 +95,7 @@ module _ {S V : Type 0} (w : ℕ) (z : Node S V) (bare : Bare z) (small : w < 25
       let long : length (together z vs) ≡ w = long-together z vs ∙ long-vs w z bare small from new us ∙ length-take-le w xs fits₁ in
       let front : take w (together z vs ++ tidied w z r next (drop w xs)) ≡ together z vs = take_at (together z vs) (tidied w z r next (drop w xs)) w long in
       let back : drop w (together z vs ++ tidied w z r next (drop w xs)) ≡ tidied w z r next (drop w xs) = drop_at (together z vs) (tidied w z r next (drop w xs)) w long in
-      let node : get_or (together z vs) m.0 z ≡ withTargets (get_or us a z) (map (λ t. get_or new t 0) (targets (get_or us a z))) =
+      let node : get_or (together z vs) m.0 z ≡ with_targets (get_or us a z) (map (λ t. get_or new t 0) (targets (get_or us a z))) =
       m.2 ∙ renewed-here w z bare small from new us a in'.0 ∙ renewed-true new (get_or us a z) (get_or from (suc a) false) on in
       let sent : get_or (targets (get_or (together z vs) m.0 z)) k 0 ≡ get_or new (suc h.0) 0 =
       ap (λ x. get_or (targets x) k 0) node ∙ ap (λ ts. get_or ts k 0) (targets-with (get_or us a z) (λ t. get_or new t 0))
@@ -119,22 +119,22 @@ module _ {S V : Type 0} (w : ℕ) (z : Node S V) (bare : Bare z) (small : w < 25
       let s = number-shown vs 0 z ne in
       number-here vs 0 z s.0 ∙ ap (λ b. cond b 1 0) s.1
 
-  pub first-paths-stay : (n : ℕ) (xs : List (Node S V)) (ds : List ℕ) → 1 ≤ n → n * w ≤ length xs → Ranged w z xs → length ds ≡ n → Leads w z xs 1 ds 1 → Leads w z (tidied w z n firstMark xs) 1 ds 1
+  pub first-paths-stay : (n : ℕ) (xs : List (Node S V)) (ds : List ℕ) → 1 ≤ n → n * w ≤ length xs → Ranged w z xs → length ds ≡ n → Leads w z xs 1 ds 1 → Leads w z (tidied w z n first_mark xs) 1 ds 1
   first-paths-stay zero xs ds some fits R len h = absurd (omega arith)
   first-paths-stay (suc r) xs ds some fits R len h =
       let more = one_more (suc r) w (λ e. absurd (omega arith)) in
       let fits₁ : w ≤ length xs = omega (arith, more) in
-      let ne = numbers-has w z bare small (suc r) firstMark xs 0 ds R refl len h in
-      subst (λ b. Leads w z (tidied w z (suc r) firstMark xs) b ds 1) (first-number r firstMark xs fits₁ ne) (paths-stay (suc r) firstMark xs 0 ds fits R refl len h)
+      let ne = numbers-has w z bare small (suc r) first_mark xs 0 ds R refl len h in
+      subst (λ b. Leads w z (tidied w z (suc r) first_mark xs) b ds 1) (first-number r first_mark xs fits₁ ne) (paths-stay (suc r) first_mark xs 0 ds fits R refl len h)
 
   back_step : (r : ℕ) (from : List Bool) (xs : List (Node S V)) (a j : ℕ) (ds : List ℕ) → w ≤ length xs → r * w ≤ length (drop w xs) → number (suc r) from xs a ≢ 0 → (m : ℕ) → get_or (together z (vs-of w z bare small r from xs)) m z ≡ get_or (vs-of w z bare small r from xs) a z
-      → ((a' : ℕ) (ds' : List ℕ) → r * w ≤ length (drop w xs) → number r (reachedNext z from (take w xs)) (drop w xs) a' ≢ 0 → length ds' ≡ r → Leads w z (tidied w z r (reachedNext z from (take w xs)) (drop w xs)) (number r (reachedNext z from (take w xs)) (drop w xs) a') ds' 1 → Leads w z (drop w xs) (suc a') ds' 1)
+      → ((a' : ℕ) (ds' : List ℕ) → r * w ≤ length (drop w xs) → number r (reached_next z from (take w xs)) (drop w xs) a' ≢ 0 → length ds' ≡ r → Leads w z (tidied w z r (reached_next z from (take w xs)) (drop w xs)) (number r (reached_next z from (take w xs)) (drop w xs) a') ds' 1 → Leads w z (drop w xs) (suc a') ds' 1)
       → length ds ≡ r → Leads w z (tidied w z (suc r) from xs) (suc m) (j ∷ ds) 1 → Leads w z xs (suc a) (j ∷ ds) 1
   unfolding tidied numbers arc
   back_step r from xs a zero ds fits₁ fits₂ ne m is again len h = absurd (let e = h.1 in omega arith)
   back_step r from xs a (suc k) ds fits₁ fits₂ ne m is again len h =
       let us = take w xs in
-      let next = reachedNext z from us in
+      let next = reached_next z from us in
       let new = numbers w z r next (drop w xs) in
       let vs = vs-of w z bare small r from xs in
       let x = get_or us a z in
@@ -143,7 +143,7 @@ module _ {S V : Type 0} (w : ℕ) (z : Node S V) (bare : Bare z) (small : w < 25
       let long : length (together z vs) ≡ w = long-together z vs ∙ long-vs w z bare small from new us ∙ length-take-le w xs fits₁ in
       let front : take w (together z vs ++ tidied w z r next (drop w xs)) ≡ together z vs = take_at (together z vs) (tidied w z r next (drop w xs)) w long in
       let back : drop w (together z vs ++ tidied w z r next (drop w xs)) ≡ tidied w z r next (drop w xs) = drop_at (together z vs) (tidied w z r next (drop w xs)) w long in
-      let node : get_or (together z vs) m z ≡ withTargets x (map (λ t. get_or new t 0) (targets x)) = is ∙ renewed-here w z bare small from new us a lt ∙ renewed-true new x (get_or from (suc a) false) on in
+      let node : get_or (together z vs) m z ≡ with_targets x (map (λ t. get_or new t 0) (targets x)) = is ∙ renewed-here w z bare small from new us a lt ∙ renewed-true new x (get_or from (suc a) false) on in
       let sent : get_or (map (λ t. get_or new t 0) (targets x)) k 0 ≡ suc h.0 =
       ap (λ ts. get_or ts k 0) (sym (targets-with x (λ t. get_or new t 0))) ∙ ap (λ y. get_or (targets y) k 0) (sym node) ∙ ap (λ L. get_or (targets (get_or L m z)) k 0) (sym front) ∙ h.1 in
       let in' : k < length (targets x) = ⊎_elim (λ (l : k < length (targets x)). l)
@@ -176,7 +176,7 @@ module _ {S V : Type 0} (w : ℕ) (z : Node S V) (bare : Bare z) (small : w < 25
       let fits₂ : r * w ≤ length (drop w xs) = (let e : suc r - 1 ≡ r = omega arith in omega (arith, more, ap (λ n. n * w) e, length-drop w xs)) in
       let m = renumbered-node r from xs a fits₁ ne in
       let T = tidied w z (suc r) from xs in
-      back_step r from xs a j ds fits₁ fits₂ ne m.0 m.2 (paths-back r (reachedNext z from (take w xs)) (drop w xs)) (omega arith) (subst (λ b. Leads w z T b (j ∷ ds) 1) m.1 h)
+      back_step r from xs a j ds fits₁ fits₂ ne m.0 m.2 (paths-back r (reached_next z from (take w xs)) (drop w xs)) (omega arith) (subst (λ b. Leads w z T b (j ∷ ds) 1) m.1 h)
 
   off : (b : Bool) (new : List ℕ) (x : Node S V) → (b ≡ true → ⊥) → lively (renewed z b new x) ≡ false
   unfolding renewed
@@ -184,44 +184,44 @@ module _ {S V : Type 0} (w : ℕ) (z : Node S V) (bare : Bare z) (small : w < 25
   off false new x no' = dead w z bare small
 
   -- where the first node goes, no node stays
-  none_first : (r : ℕ) (xs : List (Node S V)) → w ≤ length xs → number (suc r) firstMark xs 0 ≡ 0 → (m : ℕ) → get_or (together z (vs-of w z bare small r firstMark xs)) m z ≡ z
+  none_first : (r : ℕ) (xs : List (Node S V)) → w ≤ length xs → number (suc r) first_mark xs 0 ≡ 0 → (m : ℕ) → get_or (together z (vs-of w z bare small r first_mark xs)) m z ≡ z
   unfolding numbers together
   none_first r xs fits none m =
       let us = take w xs in
-      let new = numbers w z r (reachedNext z firstMark us) (drop w xs) in
-      let vs = vs-of w z bare small r firstMark xs in
-      let long = long-vs w z bare small firstMark new us in
+      let new = numbers w z r (reached_next z first_mark us) (drop w xs) in
+      let vs = vs-of w z bare small r first_mark xs in
+      let long = long-vs w z bare small first_mark new us in
       let dead-at : (a : ℕ) → a < length vs → lively (get_or vs a z) ≡ false = λ a lt. ⊎_elim
       (λ (e : a ≡ 0). ⊎_elim
       (λ (live : lively (get_or vs a z) ≡ true). absurd (number-sure vs 0 z (omega arith) (omega (arith, long, length-take-le w xs fits)) (subst (λ k. lively (get_or vs k z) ≡ true) e live) none))
       (λ no'. no')
       (on-or-off (lively (get_or vs a z))))
-      (λ (ne : a ≢ 0). ap lively (renewed-here w z bare small firstMark new us a (omega (arith, long)))
-      ∙ off (get_or firstMark (suc a) false) new (get_or us a z) (λ on. absurd (let one = first_on w z bare small a on in omega arith)))
+      (λ (ne : a ≢ 0). ap lively (renewed-here w z bare small first_mark new us a (omega (arith, long)))
+      ∙ off (get_or first_mark (suc a) false) new (get_or us a z) (λ on. absurd (let one = first_on w z bare small a on in omega arith)))
       (cases_eq a 0) in
       ap (λ ks. get_or (ks ++ replicate (length vs - length ks) z) m z) (kept-none lively vs z dead-at) ∙ all-blank (length vs - 0) m z
 
-  lost-first : (r : ℕ) (xs : List (Node S V)) (ds : List ℕ) → w ≤ length xs → length ds ≡ suc r → number (suc r) firstMark xs 0 ≡ 0 → Leads w z (tidied w z (suc r) firstMark xs) 1 ds 1 → ⊥
+  lost-first : (r : ℕ) (xs : List (Node S V)) (ds : List ℕ) → w ≤ length xs → length ds ≡ suc r → number (suc r) first_mark xs 0 ≡ 0 → Leads w z (tidied w z (suc r) first_mark xs) 1 ds 1 → ⊥
   unfolding tidied arc
   lost-first r xs [] fits len none h = absurd (omega arith)
   lost-first r xs (zero ∷ ds) fits len none h = absurd (let e = h.1 in omega arith)
   lost-first r xs (suc k ∷ ds) fits len none h =
       let us = take w xs in
-      let next = reachedNext z firstMark us in
-      let vs = vs-of w z bare small r firstMark xs in
-      let long : length (together z vs) ≡ w = long-together z vs ∙ long-vs w z bare small firstMark (numbers w z r next (drop w xs)) us ∙ length-take-le w xs fits in
+      let next = reached_next z first_mark us in
+      let vs = vs-of w z bare small r first_mark xs in
+      let long : length (together z vs) ≡ w = long-together z vs ∙ long-vs w z bare small first_mark (numbers w z r next (drop w xs)) us ∙ length-take-le w xs fits in
       let front : take w (together z vs ++ tidied w z r next (drop w xs)) ≡ together z vs = take_at (together z vs) (tidied w z r next (drop w xs)) w long in
       let e : get_or (targets z) k 0 ≡ suc h.0 = ap (λ x. get_or (targets x) k 0) (sym (none_first r xs fits none 0)) ∙ ap (λ L. get_or (targets (get_or L 0 z)) k 0) (sym front) ∙ h.1 in
       omega (arith, e, bare k)
 
-  pub first-paths-back : (n : ℕ) (xs : List (Node S V)) (ds : List ℕ) → 1 ≤ n → n * w ≤ length xs → length ds ≡ n → Leads w z (tidied w z n firstMark xs) 1 ds 1 → Leads w z xs 1 ds 1
+  pub first-paths-back : (n : ℕ) (xs : List (Node S V)) (ds : List ℕ) → 1 ≤ n → n * w ≤ length xs → length ds ≡ n → Leads w z (tidied w z n first_mark xs) 1 ds 1 → Leads w z xs 1 ds 1
   first-paths-back zero xs ds some fits len h = absurd (omega arith)
   first-paths-back (suc r) xs ds some fits len h =
       let more = one_more (suc r) w (λ e. absurd (omega arith)) in
       let fits₁ : w ≤ length xs = omega (arith, more) in
       ⊎_elim
-      (λ (none : number (suc r) firstMark xs 0 ≡ 0). absurd (lost-first r xs ds fits₁ len none h))
+      (λ (none : number (suc r) first_mark xs 0 ≡ 0). absurd (lost-first r xs ds fits₁ len none h))
       (λ s.
-      let ne : number (suc r) firstMark xs 0 ≢ 0 = λ e. absurd (omega (arith, e, s.1)) in
-      paths-back (suc r) firstMark xs 0 ds fits ne len (subst (λ b. Leads w z (tidied w z (suc r) firstMark xs) b ds 1) (sym (first-number r firstMark xs fits₁ ne)) h))
-      (zero-or-suc (number (suc r) firstMark xs 0))
+      let ne : number (suc r) first_mark xs 0 ≢ 0 = λ e. absurd (omega (arith, e, s.1)) in
+      paths-back (suc r) first_mark xs 0 ds fits ne len (subst (λ b. Leads w z (tidied w z (suc r) first_mark xs) b ds 1) (sym (first-number r first_mark xs fits₁ ne)) h))
+      (zero-or-suc (number (suc r) first_mark xs 0))

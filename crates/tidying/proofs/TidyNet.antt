@@ -5,16 +5,16 @@ use Rattle.std.proofs.lemmas.List.{get_or-map, get_or_past, get_or_append_left, 
 use Rattle.std.proofs.lemmas.Bool.{true≢false, false≢true, cases_lt, and_parts}
 use Rattle.layers.specs.declared.node.Arcs.{Arcs}
 use Rattle.layers.specs.declared.node.Node.{Node}
-use Rattle.layers.specs.Flow.{table, Outs, Layer, Net, node, target, width, is_some, redirect, up, Mark, marksNext, marksUp, flags, rank, compress, renumber, tidy, tidied as tidiedNet, Ranged}
-use Rattle.layers.specs.Records.{padded, arcsAt}
+use Rattle.layers.specs.Flow.{table, Outs, Layer, Net, node, target, width, is_some, redirect, up, Mark, marks_next, marks_up, flags, rank, compress, renumber, tidy, tidied as tidiedNet, Ranged}
+use Rattle.layers.specs.Records.{padded, arcs_at}
 use Rattle.layers.proofs.Flows.{rank-zero, has-arc, redirect-arc, mark-next, flags-at, renumber-at}
 use Rattle.layers.proofs.Tied.{some_of, flags-back, redirect-back, redirect-length, renumber-back, marked_from, climbs, climbs-from}
 use Rattle.layers.proofs.Bridge.{table-ext}
 use Rattle.layers.proofs.Standing.{same_bool}
 use Rattle.layers.proofs.Walk.{door-at}
-use Rattle.labels.proofs.Laying.{arcsOf, Arranged, Good}
-use Rattle.layers.specs.Targets.{targets, atDoor}
-use Rattle.tidying.specs.Tidied.{lively, reachedNext, renewed, renewAt, renewals, together, number_of, numbering, numbers, endNumbers, tidied, firstMark}
+use Rattle.labels.proofs.Laying.{arcs_of, Arranged, Good}
+use Rattle.layers.specs.Targets.{targets, at_door}
+use Rattle.tidying.specs.Tidied.{lively, reached_next, renewed, renew_at, renewals, together, number_of, numbering, numbers, end_numbers, tidied, first_mark}
 use Rattle.tidying.specs.Paths.{Bare}
 use Rattle.labels.proofs.Targets.{length-targets}
 use Rattle.tidying.proofs.Marks.{On, never, marks-from, marks-has}
@@ -52,21 +52,21 @@ compress-none [] = refl
 compress-none (g ∷ gs) = refl
 
 kept-compress : {S V : Type 0} (p : Node S V → Bool) (vs : List (Node S V)) (gs : List Bool) (R : Layer) (z : Node S V) → ((i : ℕ) → i < length vs → p (get_or vs i z) ≡ get_or gs i false)
-    → ((i : ℕ) → get_or gs i false ≡ true → i < length R) → length R ≤ length vs → ((i : ℕ) → i < length vs → get_or gs i false ≡ true → (get_or vs i z).arcs ≡ arcsAt R i)
-    → map arcsOf (filter p vs) ≡ map pad (compress gs R)
+    → ((i : ℕ) → get_or gs i false ≡ true → i < length R) → length R ≤ length vs → ((i : ℕ) → i < length vs → get_or gs i false ≡ true → (get_or vs i z).arcs ≡ arcs_at R i)
+    → map arcs_of (filter p vs) ≡ map pad (compress gs R)
 unfolding compress
 kept-compress p [] gs [] z h within le arcs = ap (map pad) (sym (compress-none gs))
 kept-compress p [] gs (x ∷ R) z h within le arcs = absurd (omega arith)
 kept-compress p (v ∷ vs) gs [] z h within le arcs =
-    ap (map arcsOf) (kept-none p (v ∷ vs) z (λ i lt. h i lt ∙ ⊎_elim (λ (e : get_or gs i false ≡ true). absurd (omega (arith, within i e))) (λ (e : get_or gs i false ≡ false). e) (on-or-off (get_or gs i false))))
+    ap (map arcs_of) (kept-none p (v ∷ vs) z (λ i lt. h i lt ∙ ⊎_elim (λ (e : get_or gs i false ≡ true). absurd (omega (arith, within i e))) (λ (e : get_or gs i false ≡ false). e) (on-or-off (get_or gs i false))))
     ∙ ap (map pad) (sym (compress-none gs))
-kept-compress p (v ∷ vs) [] (x ∷ R) z h within le arcs = ap (map arcsOf) (kept-none p (v ∷ vs) z h)
+kept-compress p (v ∷ vs) [] (x ∷ R) z h within le arcs = ap (map arcs_of) (kept-none p (v ∷ vs) z h)
 kept-compress p (v ∷ vs) (true ∷ gs) (x ∷ R) z h within le arcs =
-    ap (λ (q : Bool). map arcsOf (cond q (v ∷ filter p vs) (filter p vs))) (h 0 (omega arith))
+    ap (λ (q : Bool). map arcs_of (cond q (v ∷ filter p vs) (filter p vs))) (h 0 (omega arith))
     ∙ ap₂ (λ (y : Arcs) ys. y ∷ ys) (arcs 0 (omega arith) refl)
     (kept-compress p vs gs R z (λ i lt. h (suc i) (omega arith)) (λ i e. omega (arith, within (suc i) e)) (omega arith) (λ i lt e. arcs (suc i) (omega arith) e))
 kept-compress p (v ∷ vs) (false ∷ gs) (x ∷ R) z h within le arcs =
-    ap (λ (q : Bool). map arcsOf (cond q (v ∷ filter p vs) (filter p vs))) (h 0 (omega arith))
+    ap (λ (q : Bool). map arcs_of (cond q (v ∷ filter p vs) (filter p vs))) (h 0 (omega arith))
     ∙ kept-compress p vs gs R z (λ i lt. h (suc i) (omega arith)) (λ i e. omega (arith, within (suc i) e)) (omega arith) (λ i lt e. arcs (suc i) (omega arith) e)
 
 -- of one node
@@ -90,19 +90,19 @@ compress-gone (false ∷ gs) (x ∷ []) n e = compress-none gs
 abbrev Same : List Bool → List (Option Mark) → Type 0
 Same from fr = (b : ℕ) → get_or from (suc b) false ≡ is_some (get_or fr b None)
 
-module _ {S V : Type 0} (w : ℕ) (z : Node S V) (zb : z.arcs ≡ arcsAt [] 0) (small : w < 256) where
+module _ {S V : Type 0} (w : ℕ) (z : Node S V) (zb : z.arcs ≡ arcs_at [] 0) (small : w < 256) where
   bare : Bare z
   bare k = ap (λ (ts : List ℕ). get_or ts k 0) (targets-is z [] (ap (λ (x : Arcs). x.to) zb)) ∙ none-padded k
 
   -- ---- marks
   marks-same : (L : Layer) (m : ℕ) (from : List Bool) (fr : List (Option Mark)) (us : List (Node S V)) → ((a : ℕ) → length (node L a) ≤ 16) → length L ≤ w → Ranged L m → m < 256
-      → map arcsOf us ≡ table w (arcsAt L) → Same from fr → Same (reachedNext z from us) (marksNext fr L m)
-  marks-same L m from fr us short room ranged fits arr same b = same_bool (get_or (reachedNext z from us) (suc b) false) (is_some (get_or (marksNext fr L m) b None)) there back
+      → map arcs_of us ≡ table w (arcs_at L) → Same from fr → Same (reached_next z from us) (marks_next fr L m)
+  marks-same L m from fr us short room ranged fits arr same b = same_bool (get_or (reached_next z from us) (suc b) false) (is_some (get_or (marks_next fr L m) b None)) there back
     where
       long : length us ≡ w
       long = arranged-long w L us arr
 
-      there : On (reachedNext z from us) (suc b) → is_some (get_or (marksNext fr L m) b None) ≡ true
+      there : On (reached_next z from us) (suc b) → is_some (get_or (marks_next fr L m) b None) ≡ true
       there on =
           let s = marks-from z from us (suc b) on in
           let a = s.0 in
@@ -112,7 +112,7 @@ module _ {S V : Type 0} (w : ℕ) (z : Node S V) (zb : z.arcs ≡ arcsAt [] 0) (
           let mark : get_or fr a None ≡ Some tt = some_of (get_or fr a None) (sym (same a) ∙ subst (On from) (add-one a) s.2) in
           ap is_some (mark-next fr L m a (suc k) b arc mark (ranged a (suc k) b arc))
 
-      from-door : (a j : ℕ) → target (node L a) j ≡ suc b → get_or fr a None ≡ Some tt → On (reachedNext z from us) (suc b)
+      from-door : (a j : ℕ) → target (node L a) j ≡ suc b → get_or fr a None ≡ Some tt → On (reached_next z from us) (suc b)
       from-door a zero arc mark = absurd (omega arith)
       from-door a (suc k) arc mark =
           let in' : a < w = omega (arith, has-arc L a (suc k) b arc, room) in
@@ -121,9 +121,9 @@ module _ {S V : Type 0} (w : ℕ) (z : Node S V) (zb : z.arcs ≡ arcsAt [] 0) (
           marks-has z from us a k (suc b) (omega (arith, in', long)) on (omega (arith, low, length-targets (get_or us a z)))
           (ap (λ (ts : List ℕ). get_or ts k 0) (targets-arranged w L us a z arr in') ∙ padded-at (node L a) k low ∙ arc) (omega (arith, ranged a (suc k) b arc, fits))
 
-      back : is_some (get_or (marksNext fr L m) b None) ≡ true → On (reachedNext z from us) (suc b)
+      back : is_some (get_or (marks_next fr L m) b None) ≡ true → On (reached_next z from us) (suc b)
       back e =
-          let s = marked_from fr L m b (some_of (get_or (marksNext fr L m) b None) e) in
+          let s = marked_from fr L m b (some_of (get_or (marks_next fr L m) b None) e) in
           from-door s.0 s.1 s.2 s.3
 
   -- ---- one layer: its records, renewed by the numbers of the next layer
@@ -138,13 +138,13 @@ module _ {S V : Type 0} (w : ℕ) (z : Node S V) (zb : z.arcs ≡ arcsAt [] 0) (
   renewed-no new x false e = refl
 
   module _ (L : Layer) (Ls : Net) (from : List Bool) (fr : List (Option Mark)) (us : List (Node S V)) (new : List ℕ)
-      (short : (a : ℕ) → length (node L a) ≤ 16) (room : length L ≤ w) (ranged : Ranged L (width Ls)) (arr : map arcsOf us ≡ table w (arcsAt L)) (same : Same from fr)
-      (new_none : get_or new 0 0 ≡ 0) (New-is : (b : ℕ) → get_or (marksNext fr L (width Ls)) b None ≡ Some tt → get_or new (suc b) 0 ≡ renumber (flags (marksNext fr L (width Ls)) (marksUp Ls)) b) where
+      (short : (a : ℕ) → length (node L a) ≤ 16) (room : length L ≤ w) (ranged : Ranged L (width Ls)) (arr : map arcs_of us ≡ table w (arcs_at L)) (same : Same from fr)
+      (new_none : get_or new 0 0 ≡ 0) (New-is : (b : ℕ) → get_or (marks_next fr L (width Ls)) b None ≡ Some tt → get_or new (suc b) 0 ≡ renumber (flags (marks_next fr L (width Ls)) (marks_up Ls)) b) where
     abbrev fs : List Bool
-    fs = flags (marksNext fr L (width Ls)) (marksUp Ls)
+    fs = flags (marks_next fr L (width Ls)) (marks_up Ls)
 
     abbrev gs : List Bool
-    gs = flags fr (marksUp (L ∷ Ls))
+    gs = flags fr (marks_up (L ∷ Ls))
 
     abbrev RL : Layer
     RL = redirect (λ a j b. renumber fs b) L
@@ -161,11 +161,11 @@ module _ {S V : Type 0} (w : ℕ) (z : Node S V) (zb : z.arcs ≡ arcsAt [] 0) (
         get_or-map (λ t. get_or new t 0) (padded (node L a)) k 0 0 lt ∙ ap (λ (t : ℕ). get_or new t 0) (padded-at (node L a) k lt) ∙ go k (get_or (node L a) k 0) refl
         ∙ sym (ap (λ (nd : Outs). get_or nd k 0) (redirect-node (λ a j b. renumber fs b) L a) ∙ each_at (λ j b. renumber fs b) 1 (node L a) k (suc k) (omega arith)))
       where
-        go : (k t : ℕ) → get_or (node L a) k 0 ≡ t → get_or new t 0 ≡ atDoor (λ j b. renumber fs b) (suc k) t
+        go : (k t : ℕ) → get_or (node L a) k 0 ≡ t → get_or new t 0 ≡ at_door (λ j b. renumber fs b) (suc k) t
         go k zero e = new_none
         go k (suc b) e = New-is b (mark-next fr L (width Ls) a (suc k) b e mark (ranged a (suc k) b e))
 
-    arcs-on : (a : ℕ) → a < w → get_or fr a None ≡ Some tt → (get_or vs a z).arcs ≡ arcsAt RL a
+    arcs-on : (a : ℕ) → a < w → get_or fr a None ≡ Some tt → (get_or vs a z).arcs ≡ arcs_at RL a
     arcs-on a lt mark =
         ap (λ (x : Node S V). x.arcs) (renewed-here w z bare small from new us a (omega (arith, long)))
         ∙ renewed-yes new (get_or us a z) (get_or from (suc a) false) (same a ∙ ap is_some mark)
@@ -180,21 +180,21 @@ module _ {S V : Type 0} (w : ℕ) (z : Node S V) (zb : z.arcs ≡ arcsAt [] 0) (
 
     -- a flag's node stands in the layer
     flag-in : (a : ℕ) → get_or gs a false ≡ true → a < length L
-    flag-in a e = let c = climbs-from L Ls a (flags-back fr (marksUp (L ∷ Ls)) a e).1 in has-arc L a c.0 c.1 c.2
+    flag-in a e = let c = climbs-from L Ls a (flags-back fr (marks_up (L ∷ Ls)) a e).1 in has-arc L a c.0 c.1 c.2
 
     -- an arc that is left comes from a node with a flag
     left-flag : (a j c : ℕ) → get_or fr a None ≡ Some tt → target (node RL a) j ≡ suc c → get_or gs a false ≡ true
     left-flag a j c mark e =
         let q = redirect-back (λ a j b. renumber fs b) L a j c e in
         let h = renumber-back fs q.0 c q.2 in
-        flags-at fr (marksUp (L ∷ Ls)) a mark (climbs L Ls a j q.0 q.1 (flags-back (marksNext fr L (width Ls)) (marksUp Ls) q.0 h.0).1)
+        flags-at fr (marks_up (L ∷ Ls)) a mark (climbs L Ls a j q.0 q.1 (flags-back (marks_next fr L (width Ls)) (marks_up Ls) q.0 h.0).1)
 
     flag-left : (a : ℕ) → get_or gs a false ≡ true → (j : ℕ) × (b : ℕ) × (target (node RL a) j ≡ suc (rank fs b))
     flag-left a e =
-        let q = flags-back fr (marksUp (L ∷ Ls)) a e in
+        let q = flags-back fr (marks_up (L ∷ Ls)) a e in
         let c = climbs-from L Ls a q.1 in
         let b = c.1 in
-        let f = flags-at (marksNext fr L (width Ls)) (marksUp Ls) b (mark-next fr L (width Ls) a c.0 b c.2 q.0 (ranged a c.0 b c.2)) c.3 in
+        let f = flags-at (marks_next fr L (width Ls)) (marks_up Ls) b (mark-next fr L (width Ls) a c.0 b c.2 q.0 (ranged a c.0 b c.2)) c.3 in
         (c.0, b, redirect-arc (λ a j b. renumber fs b) L a c.0 b c.2 ∙ renumber-at fs b f)
 
     -- a renewed node has arcs exactly if its flag is set
@@ -223,7 +223,7 @@ module _ {S V : Type 0} (w : ℕ) (z : Node S V) (zb : z.arcs ≡ arcsAt [] 0) (
             lively-from (get_or vs a z) k (λ none. absurd (omega (arith, is, none)))
 
         back : get_or gs a false ≡ true → lively (get_or vs a z) ≡ true
-        back e = let s = flag-left a e in by-door s.0 (rank fs s.1) (flags-back fr (marksUp (L ∷ Ls)) a e).0 s.2
+        back e = let s = flag-left a e in by-door s.0 (rank fs s.1) (flags-back fr (marks_up (L ∷ Ls)) a e).0 s.2
 
     many : length vs ≡ w
     many = long-vs w z bare small from new us ∙ long
@@ -248,16 +248,16 @@ module _ {S V : Type 0} (w : ℕ) (z : Node S V) (zb : z.arcs ≡ arcsAt [] 0) (
         off : (a : ℕ) → w ≤ a → get_or gs a false ≡ false
         off a ge = ⊎_elim (λ (e : get_or gs a false ≡ true). absurd (omega (arith, flag-in a e, room, ge))) (λ (e : get_or gs a false ≡ false). e) (on-or-off (get_or gs a false))
 
-    kept-is : map arcsOf (filter lively vs) ≡ map pad (compress gs RL)
+    kept-is : map arcs_of (filter lively vs) ≡ map pad (compress gs RL)
     kept-is =
         let n = redirect-length (λ a j b. renumber fs b) L in
         kept-compress lively vs gs RL z (λ i l. live i (omega (arith, l, many))) (λ i e. omega (arith, flag-in i e, n)) (omega (arith, n, room, many))
-        (λ i l e. arcs-on i (omega (arith, l, many)) (flags-back fr (marksUp (L ∷ Ls)) i e).0)
+        (λ i l e. arcs-on i (omega (arith, l, many)) (flags-back fr (marks_up (L ∷ Ls)) i e).0)
 
     -- those with arcs, together, have the arcs of those with flags
-    together-is : map arcsOf (together z vs) ≡ table w (arcsAt (compress gs RL))
+    together-is : map arcs_of (together z vs) ≡ table w (arcs_at (compress gs RL))
     unfolding together
-    together-is = table-list w (arcsAt C) (map arcsOf (K ++ B)) (length-map (K ++ B) arcsOf ∙ all) (λ k d lt. get_or-map arcsOf (K ++ B) k z d (omega (arith, lt, all)) ∙ at k lt)
+    together-is = table-list w (arcs_at C) (map arcs_of (K ++ B)) (length-map (K ++ B) arcs_of ∙ all) (λ k d lt. get_or-map arcs_of (K ++ B) k z d (omega (arith, lt, all)) ∙ at k lt)
       where
         K : List (Node S V)
         K = filter lively vs
@@ -272,23 +272,23 @@ module _ {S V : Type 0} (w : ℕ) (z : Node S V) (zb : z.arcs ≡ arcsAt [] 0) (
         all = long-together z vs ∙ many
 
         count : length K ≡ length C
-        count = sym (length-map K arcsOf) ∙ ap length kept-is ∙ length-map C pad
+        count = sym (length-map K arcs_of) ∙ ap length kept-is ∙ length-map C pad
 
-        at : (k : ℕ) → k < w → (get_or (K ++ B) k z).arcs ≡ arcsAt C k
+        at : (k : ℕ) → k < w → (get_or (K ++ B) k z).arcs ≡ arcs_at C k
         at k lt = ⊎_elim
             (λ (here : k < length K).
-            ap (λ (x : Node S V). x.arcs) (get_or_append_left K B z k here) ∙ sym (get_or-map arcsOf K k z (arcsAt [] 0) here)
-            ∙ ap (λ (xs : List Arcs). get_or xs k (arcsAt [] 0)) kept-is ∙ get_or-map pad C k [] (arcsAt [] 0) (omega (arith, here, count)))
+            ap (λ (x : Node S V). x.arcs) (get_or_append_left K B z k here) ∙ sym (get_or-map arcs_of K k z (arcs_at [] 0) here)
+            ∙ ap (λ (xs : List Arcs). get_or xs k (arcs_at [] 0)) kept-is ∙ get_or-map pad C k [] (arcs_at [] 0) (omega (arith, here, count)))
             (λ (past : length K ≤ k).
             ap (λ (x : Node S V). x.arcs) (get_or-append_right K B (length K) k z refl past ∙ all-blank (length vs - length K) (k - length K) z) ∙ zb
             ∙ ap pad (sym (get_or_past C k [] (omega (arith, past, count)))))
             (cases_lt k (length K))
 
     -- the first node, marked: without its flag it has no arcs
-    first-is : get_or fr 0 None ≡ Some tt → length L ≡ 1 → (k : ℕ) → arcsAt (compress gs RL) k ≡ arcsAt RL k
+    first-is : get_or fr 0 None ≡ Some tt → length L ≡ 1 → (k : ℕ) → arcs_at (compress gs RL) k ≡ arcs_at RL k
     first-is mark one k = ⊎_elim
-        (λ (on : get_or gs 0 false ≡ true). ap (λ (M : Layer). arcsAt M k) (compress-one gs RL single on))
-        (λ (off : get_or gs 0 false ≡ false). ap (λ (M : Layer). arcsAt M k) (compress-gone gs RL single off) ∙ ap (λ (ts : List ℕ). record { to = ts }) (sym (blank off k)))
+        (λ (on : get_or gs 0 false ≡ true). ap (λ (M : Layer). arcs_at M k) (compress-one gs RL single on))
+        (λ (off : get_or gs 0 false ≡ false). ap (λ (M : Layer). arcs_at M k) (compress-gone gs RL single off) ∙ ap (λ (ts : List ℕ). record { to = ts }) (sym (blank off k)))
         (on-or-off (get_or gs 0 false))
       where
         single : length RL ≡ 1
@@ -306,109 +306,109 @@ module _ {S V : Type 0} (w : ℕ) (z : Node S V) (zb : z.arcs ≡ arcsAt [] 0) (
   width_fits [] good = omega arith
   width_fits (L ∷ Ls) good = omega (arith, good.1, small)
 
-  end-number : (fr : List (Option Mark)) (b : ℕ) → get_or fr b None ≡ Some tt → get_or endNumbers (suc b) 0 ≡ renumber (flags fr (marksUp [])) b
+  end-number : (fr : List (Option Mark)) (b : ℕ) → get_or fr b None ≡ Some tt → get_or end_numbers (suc b) 0 ≡ renumber (flags fr (marks_up [])) b
   end-number fr zero mark =
-      let f : get_or (flags fr (marksUp [])) 0 false ≡ true = flags-at fr (marksUp []) 0 mark (unfold marksUp up in refl) in
-      sym (renumber-at (flags fr (marksUp [])) 0 f ∙ ap suc (rank-zero (flags fr (marksUp []))))
+      let f : get_or (flags fr (marks_up [])) 0 false ≡ true = flags-at fr (marks_up []) 0 mark (unfold marks_up up in refl) in
+      sym (renumber-at (flags fr (marks_up [])) 0 f ∙ ap suc (rank-zero (flags fr (marks_up []))))
   end-number fr (suc b) mark =
       get_or-set_other (replicate 256 0) 1 (suc (suc b)) 1 0 (omega arith) ∙ zeros 256 (suc (suc b)) ∙ sym none
     where
-      past : get_or (marksUp []) (suc b) None ≡ None
-      past = unfold marksUp up in refl
+      past : get_or (marks_up []) (suc b) None ≡ None
+      past = unfold marks_up up in refl
 
-      none : renumber (flags fr (marksUp [])) (suc b) ≡ 0
+      none : renumber (flags fr (marks_up [])) (suc b) ≡ 0
       none = ⊎_elim
-          (λ (e : renumber (flags fr (marksUp [])) (suc b) ≡ 0). e)
-          (λ h. let q = (flags-back fr (marksUp []) (suc b) (renumber-back (flags fr (marksUp [])) (suc b) h.0 h.1).0).1 in absurd (false≢true (ap is_some (sym past ∙ q))))
-          (zero-or-suc (renumber (flags fr (marksUp [])) (suc b)))
+          (λ (e : renumber (flags fr (marks_up [])) (suc b) ≡ 0). e)
+          (λ h. let q = (flags-back fr (marks_up []) (suc b) (renumber-back (flags fr (marks_up [])) (suc b) h.0 h.1).0).1 in absurd (false≢true (ap is_some (sym past ∙ q))))
+          (zero-or-suc (renumber (flags fr (marks_up [])) (suc b)))
 
   -- the new number of a marked node
   numbers-is : (Ls : Net) (from : List Bool) (fr : List (Option Mark)) (xs : List (Node S V)) → Good w Ls → Arranged w Ls xs → Same from fr
-      → (b : ℕ) → get_or fr b None ≡ Some tt → get_or (numbers w z (length Ls) from xs) (suc b) 0 ≡ renumber (flags fr (marksUp Ls)) b
+      → (b : ℕ) → get_or fr b None ≡ Some tt → get_or (numbers w z (length Ls) from xs) (suc b) 0 ≡ renumber (flags fr (marks_up Ls)) b
   unfolding numbers
   numbers-is [] from fr xs good arr same b mark = end-number fr b mark
   numbers-is (L ∷ Ls) from fr xs good arr same b mark =
       let us = take w xs in
-      let next = reachedNext z from us in
+      let next = reached_next z from us in
       let same' = marks-same L (width Ls) from fr us good.0 good.1 good.2 (width_fits Ls good.3) arr.0 same in
       number_is L Ls from fr us (numbers w z (length Ls) next (drop w xs)) good.0 good.1 good.2 arr.0 same (numbers-zero w z bare small (length Ls) next (drop w xs))
-      (numbers-is Ls next (marksNext fr L (width Ls)) (drop w xs) good.3 arr.1 same') b
+      (numbers-is Ls next (marks_next fr L (width Ls)) (drop w xs) good.3 arr.1 same') b
 
   -- one layer of the tidied records
   abbrev layer : Net → List Bool → List (Node S V) → List (Node S V)
-  layer Ls from xs = together z (renewals z from (numbers w z (length Ls) (reachedNext z from (take w xs)) (drop w xs)) (take w xs))
+  layer Ls from xs = together z (renewals z from (numbers w z (length Ls) (reached_next z from (take w xs)) (drop w xs)) (take w xs))
 
   module _ (L : Layer) (Ls : Net) (from : List Bool) (fr : List (Option Mark)) (xs : List (Node S V)) (good : Good w (L ∷ Ls)) (arr : Arranged w (L ∷ Ls) xs) (same : Same from fr) where
     abbrev fr' : List (Option Mark)
-    fr' = marksNext fr L (width Ls)
+    fr' = marks_next fr L (width Ls)
 
     abbrev RL' : Layer
-    RL' = redirect (λ a j b. renumber (flags fr' (marksUp Ls)) b) L
+    RL' = redirect (λ a j b. renumber (flags fr' (marks_up Ls)) b) L
 
-    next-same : Same (reachedNext z from (take w xs)) fr'
+    next-same : Same (reached_next z from (take w xs)) fr'
     next-same = marks-same L (width Ls) from fr (take w xs) good.0 good.1 good.2 (width_fits Ls good.3) arr.0 same
 
-    next-zero : get_or (numbers w z (length Ls) (reachedNext z from (take w xs)) (drop w xs)) 0 0 ≡ 0
-    next-zero = numbers-zero w z bare small (length Ls) (reachedNext z from (take w xs)) (drop w xs)
+    next-zero : get_or (numbers w z (length Ls) (reached_next z from (take w xs)) (drop w xs)) 0 0 ≡ 0
+    next-zero = numbers-zero w z bare small (length Ls) (reached_next z from (take w xs)) (drop w xs)
 
-    next-is : (b : ℕ) → get_or fr' b None ≡ Some tt → get_or (numbers w z (length Ls) (reachedNext z from (take w xs)) (drop w xs)) (suc b) 0 ≡ renumber (flags fr' (marksUp Ls)) b
-    next-is = numbers-is Ls (reachedNext z from (take w xs)) fr' (drop w xs) good.3 arr.1 next-same
+    next-is : (b : ℕ) → get_or fr' b None ≡ Some tt → get_or (numbers w z (length Ls) (reached_next z from (take w xs)) (drop w xs)) (suc b) 0 ≡ renumber (flags fr' (marks_up Ls)) b
+    next-is = numbers-is Ls (reached_next z from (take w xs)) fr' (drop w xs) good.3 arr.1 next-same
 
-    layer-is : map arcsOf (layer Ls from xs) ≡ table w (arcsAt (compress (flags fr (marksUp (L ∷ Ls))) RL'))
-    layer-is = together-is L Ls from fr (take w xs) (numbers w z (length Ls) (reachedNext z from (take w xs)) (drop w xs)) good.0 good.1 good.2 arr.0 same next-zero next-is
+    layer-is : map arcs_of (layer Ls from xs) ≡ table w (arcs_at (compress (flags fr (marks_up (L ∷ Ls))) RL'))
+    layer-is = together-is L Ls from fr (take w xs) (numbers w z (length Ls) (reached_next z from (take w xs)) (drop w xs)) good.0 good.1 good.2 arr.0 same next-zero next-is
 
-    layer-first : get_or fr 0 None ≡ Some tt → length L ≡ 1 → map arcsOf (layer Ls from xs) ≡ table w (arcsAt RL')
-    layer-first mark one = layer-is ∙ table-ext w (arcsAt (compress (flags fr (marksUp (L ∷ Ls))) RL')) (arcsAt RL') (λ k lt.
-        first-is L Ls from fr (take w xs) (numbers w z (length Ls) (reachedNext z from (take w xs)) (drop w xs)) good.0 good.1 good.2 arr.0 same next-zero next-is mark one k)
+    layer-first : get_or fr 0 None ≡ Some tt → length L ≡ 1 → map arcs_of (layer Ls from xs) ≡ table w (arcs_at RL')
+    layer-first mark one = layer-is ∙ table-ext w (arcs_at (compress (flags fr (marks_up (L ∷ Ls))) RL')) (arcs_at RL') (λ k lt.
+        first-is L Ls from fr (take w xs) (numbers w z (length Ls) (reached_next z from (take w xs)) (drop w xs)) good.0 good.1 good.2 arr.0 same next-zero next-is mark one k)
 
     layer-long : length (layer Ls from xs) ≡ w
-    layer-long = arranged-long w (compress (flags fr (marksUp (L ∷ Ls))) RL') (layer Ls from xs) layer-is
+    layer-long = arranged-long w (compress (flags fr (marks_up (L ∷ Ls))) RL') (layer Ls from xs) layer-is
 
   tidy-arranged : (Ls : Net) (from : List Bool) (fr : List (Option Mark)) (xs : List (Node S V)) → Good w Ls → Arranged w Ls xs → Same from fr → Arranged w (tidy fr Ls) (tidied w z (length Ls) from xs)
   unfolding tidy tidied
   tidy-arranged [] from fr xs good arr same = arr
   tidy-arranged (L ∷ Ls) from fr xs good arr same =
-      let next = reachedNext z from (take w xs) in
+      let next = reached_next z from (take w xs) in
       let rest = tidied w z (length Ls) next (drop w xs) in
       let long = layer-long L Ls from fr xs good arr same in (
-        ap (map arcsOf) (take_at (layer Ls from xs) rest w long) ∙ layer-is L Ls from fr xs good arr same,
-        subst (Arranged w (tidy (marksNext fr L (width Ls)) Ls)) (sym (drop_at (layer Ls from xs) rest w long))
-            (tidy-arranged Ls next (marksNext fr L (width Ls)) (drop w xs) good.3 arr.1 (next-same L Ls from fr xs good arr same)),
+        ap (map arcs_of) (take_at (layer Ls from xs) rest w long) ∙ layer-is L Ls from fr xs good arr same,
+        subst (Arranged w (tidy (marks_next fr L (width Ls)) Ls)) (sym (drop_at (layer Ls from xs) rest w long))
+            (tidy-arranged Ls next (marks_next fr L (width Ls)) (drop w xs) good.3 arr.1 (next-same L Ls from fr xs good arr same)),
       )
 
-  first-same : Same firstMark (Some tt ∷ [])
+  first-same : Same first_mark (Some tt ∷ [])
   first-same zero = refl
   first-same (suc b) = get_or-set_other (replicate 256 false) 1 (suc (suc b)) true false (omega arith) ∙ never 256 (suc (suc b))
 
-  first-arranged : (Ls : Net) (xs : List (Node S V)) → width Ls ≡ 1 → Good w Ls → Arranged w Ls xs → Arranged w (tidiedNet Ls) (tidied w z (length Ls) firstMark xs)
+  first-arranged : (Ls : Net) (xs : List (Node S V)) → width Ls ≡ 1 → Good w Ls → Arranged w Ls xs → Arranged w (tidiedNet Ls) (tidied w z (length Ls) first_mark xs)
   unfolding tidiedNet tidied
   first-arranged [] xs one good arr = arr
   first-arranged (L ∷ Ls) xs one good arr =
       let fr = Some tt ∷ [] in
-      let next = reachedNext z firstMark (take w xs) in
+      let next = reached_next z first_mark (take w xs) in
       let rest = tidied w z (length Ls) next (drop w xs) in
-      let long = layer-long L Ls firstMark fr xs good arr first-same in (
-        ap (map arcsOf) (take_at (layer Ls firstMark xs) rest w long) ∙ layer-first L Ls firstMark fr xs good arr first-same refl one,
-        subst (Arranged w (tidy (marksNext fr L (width Ls)) Ls)) (sym (drop_at (layer Ls firstMark xs) rest w long))
-            (tidy-arranged Ls next (marksNext fr L (width Ls)) (drop w xs) good.3 arr.1 (next-same L Ls firstMark fr xs good arr first-same)),
+      let long = layer-long L Ls first_mark fr xs good arr first-same in (
+        ap (map arcs_of) (take_at (layer Ls first_mark xs) rest w long) ∙ layer-first L Ls first_mark fr xs good arr first-same refl one,
+        subst (Arranged w (tidy (marks_next fr L (width Ls)) Ls)) (sym (drop_at (layer Ls first_mark xs) rest w long))
+            (tidy-arranged Ls next (marks_next fr L (width Ls)) (drop w xs) good.3 arr.1 (next-same L Ls first_mark fr xs good arr first-same)),
       )
 
 -- tidying the records is tidying the net
-pub tidied-arranged : {S V : Type 0} (w : ℕ) (z : Node S V) (Ls : Net) (xs : List (Node S V)) → w ≤ 128 → width Ls ≡ 1 → Good w Ls → z.arcs ≡ arcsAt [] 0 → Arranged w Ls xs
-    → Arranged w (tidiedNet Ls) (tidied w z (length Ls) firstMark xs)
+pub tidied-arranged : {S V : Type 0} (w : ℕ) (z : Node S V) (Ls : Net) (xs : List (Node S V)) → w ≤ 128 → width Ls ≡ 1 → Good w Ls → z.arcs ≡ arcs_at [] 0 → Arranged w Ls xs
+    → Arranged w (tidiedNet Ls) (tidied w z (length Ls) first_mark xs)
 tidied-arranged w z Ls xs fits one good zb arr = first-arranged w z zb (omega arith) Ls xs one good arr
 
 -- ---- what stands after the layers
 module _ {S V : Type 0} (w : ℕ) (z : Node S V) where
   block-long : (from : List Bool) (new : List ℕ) (xs : List (Node S V)) → w ≤ length xs → length (together z (renewals z from new (take w xs))) ≡ w
   unfolding renewals
-  block-long from new xs h = long-together z (renewals z from new (take w xs)) ∙ length-map-range_with_len (renewAt z from new (take w xs)) 0 (length (take w xs)) ∙ length-take-le w xs h
+  block-long from new xs h = long-together z (renewals z from new (take w xs)) ∙ length-map-range_with_len (renew_at z from new (take w xs)) 0 (length (take w xs)) ∙ length-take-le w xs h
 
   tail-is : (r : ℕ) (from : List Bool) (xs : List (Node S V)) → r * w ≤ length xs → drop (r * w) (tidied w z r from xs) ≡ drop (r * w) xs
   unfolding tidied
   tail-is zero from xs h = refl
   tail-is (suc r) from xs h =
-      let next = reachedNext z from (take w xs) in
+      let next = reached_next z from (take w xs) in
       let rest = tidied w z r next (drop w xs) in
       let T = together z (renewals z from (numbers w z r next (drop w xs)) (take w xs)) in
       let e : suc r * w ≡ w + r * w = omega (arith, suc-mul r w) in
@@ -421,15 +421,15 @@ module _ {S V : Type 0} (w : ℕ) (z : Node S V) where
   unfolding tidied
   length-is zero from xs h = refl
   length-is (suc r) from xs h =
-      let next = reachedNext z from (take w xs) in
+      let next = reached_next z from (take w xs) in
       let rest = tidied w z r next (drop w xs) in
       let T = together z (renewals z from (numbers w z r next (drop w xs)) (take w xs)) in
       let e : suc r * w ≡ w + r * w = omega (arith, suc-mul r w) in
       let n : length rest ≡ length (drop w xs) = length-is r next (drop w xs) (omega (arith, e, length-drop w xs)) in
       omega (arith, e, n, length-append T rest, length-drop w xs, block-long from (numbers w z r next (drop w xs)) xs (omega (arith, e)))
 
-  pub tidied-tail : (Ls : Net) (xs : List (Node S V)) → length Ls * w + 1 ≤ length xs → drop (length Ls * w) (tidied w z (length Ls) firstMark xs) ≡ drop (length Ls * w) xs
-  tidied-tail Ls xs h = tail-is (length Ls) firstMark xs (omega arith)
+  pub tidied-tail : (Ls : Net) (xs : List (Node S V)) → length Ls * w + 1 ≤ length xs → drop (length Ls * w) (tidied w z (length Ls) first_mark xs) ≡ drop (length Ls * w) xs
+  tidied-tail Ls xs h = tail-is (length Ls) first_mark xs (omega arith)
 
-  pub tidied-length : (Ls : Net) (xs : List (Node S V)) → length Ls * w + 1 ≤ length xs → length (tidied w z (length Ls) firstMark xs) ≡ length xs
-  tidied-length Ls xs h = length-is (length Ls) firstMark xs (omega arith)
+  pub tidied-length : (Ls : Net) (xs : List (Node S V)) → length Ls * w + 1 ≤ length xs → length (tidied w z (length Ls) first_mark xs) ≡ length xs
+  tidied-length Ls xs h = length-is (length Ls) first_mark xs (omega arith)

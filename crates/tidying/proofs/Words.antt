@@ -6,10 +6,10 @@ use Rattle.std.proofs.lemmas.Bool.{cases_lt, cases_eq}
 use Rattle.std.proofs.lemmas.List.FromFn.{get_or-map-range_with_len, length-map-range_with_len}
 use Rattle.std.proofs.lemmas.List.Sums.{sum_by-cons, get_or-le-sum_by}
 use Rattle.layers.specs.declared.node.Node.{Node}
-use Rattle.layers.specs.Targets.{targets, withTargets}
-use Rattle.tidying.specs.Counted.{arcsOf}
-use Rattle.tidying.specs.Tidied.{lively, reachedNext, renewed, renewAt, renewals, number_of, numbering, numbers, endNumbers, firstMark}
-use Rattle.tidying.specs.Paths.{arc, Leads, fromLayer, reached, OnPath, Bare, Ranged, newNumber}
+use Rattle.layers.specs.Targets.{targets, with_targets}
+use Rattle.tidying.specs.Counted.{arcs_of}
+use Rattle.tidying.specs.Tidied.{lively, reached_next, renewed, renew_at, renewals, number_of, numbering, numbers, end_numbers, first_mark}
+use Rattle.tidying.specs.Paths.{arc, Leads, from_layer, reached, OnPath, Bare, Ranged, new_number}
 use Rattle.tidying.proofs.Targets.{isArc, oneIf, arc-count, no-arc-count, arcs-counted}
 use Rattle.tidying.proofs.Numbers.{zeros, number-here, number_past}
 use Rattle.tidying.proofs.Marks.{On, marks-from, marks-has, apart, never, set-from}
@@ -32,18 +32,18 @@ count-has (t ∷ ts) ne = ⊎_elim
 
 pub lively-has : {S V : Type 0} (x : Node S V) → lively x ≡ true → (k : ℕ) × (get_or (targets x) k 0 ≢ 0)
 unfolding lively
-lively-has x live = count-has (targets x) (λ e. apart live (ap not (eq-eqb (arcsOf x) 0 (arcs-counted x ∙ e))))
+lively-has x live = count-has (targets x) (λ e. apart live (ap not (eq-eqb (arcs_of x) 0 (arcs-counted x ∙ e))))
 
 pub lively-from : {S V : Type 0} (x : Node S V) (k : ℕ) → get_or (targets x) k 0 ≢ 0 → lively x ≡ true
 unfolding lively
 lively-from x k ne = ⊎_elim
     (λ (lt : k < length (targets x)).
     let le = get_or-le-sum_by oneIf (targets x) k 0 lt in
-    ap not (ne_eqb (arcsOf x) 0 (λ e. absurd (omega (arith, le, arc-count (get_or (targets x) k 0) ne, arcs-counted x, e)))))
+    ap not (ne_eqb (arcs_of x) 0 (λ e. absurd (omega (arith, le, arc-count (get_or (targets x) k 0) ne, arcs-counted x, e)))))
     (λ (ge : length (targets x) ≤ k). absurd (ne (get_or_past (targets x) k 0 ge)))
     (cases_lt k (length (targets x)))
 
-pub targets-with : {S V : Type 0} (x : Node S V) (g : ℕ → ℕ) → targets (withTargets x (map g (targets x))) ≡ map g (targets x)
+pub targets-with : {S V : Type 0} (x : Node S V) (g : ℕ → ℕ) → targets (with_targets x (map g (targets x))) ≡ map g (targets x)
 unfolding targets
 targets-with x g = refl
 
@@ -95,11 +95,11 @@ module _ {S V : Type 0} (w : ℕ) (z : Node S V) (bare : Bare z) (small : w < 25
   pub ranged-drop : (xs : List (Node S V)) → Ranged w z xs → Ranged w z (drop w xs)
   ranged-drop xs R p k = subst (λ x. get_or (targets x) k 0 ≤ w) (sym (get_or-drop w xs p z)) (R (w + p) k)
 
-  pub ranged-layer : (i : ℕ) (xs : List (Node S V)) → Ranged w z xs → Ranged w z (fromLayer w i xs)
+  pub ranged-layer : (i : ℕ) (xs : List (Node S V)) → Ranged w z xs → Ranged w z (from_layer w i xs)
   ranged-layer zero xs R = R
   ranged-layer (suc i) xs R = ranged-layer i (drop w xs) (ranged-drop xs R)
 
-  pub marks-arc : (from : List Bool) (xs : List (Node S V)) → Ranged w z xs → (a k t : ℕ) → On from (suc a) → get_or (targets (get_or (take w xs) a z)) k 0 ≡ suc t → On (reachedNext z from (take w xs)) (suc t)
+  pub marks-arc : (from : List Bool) (xs : List (Node S V)) → Ranged w z xs → (a k t : ℕ) → On from (suc a) → get_or (targets (get_or (take w xs) a z)) k 0 ≡ suc t → On (reached_next z from (take w xs)) (suc t)
   marks-arc from xs R a k t on e =
       let in' = arc-in (take w xs) a k t e in
       let on' : On from (a + 1) = subst (On from) (sym (add-one a)) on in
@@ -110,7 +110,7 @@ module _ {S V : Type 0} (w : ℕ) (z : Node S V) (bare : Bare z) (small : w < 25
   unfolding reached arc
   reached-from zero from xs b on = (b, on, ([], refl, refl))
   reached-from (suc i) from xs b on =
-      let r = reached-from i (reachedNext z from (take w xs)) (drop w xs) b on in
+      let r = reached-from i (reached_next z from (take w xs)) (drop w xs) b on in
       let s = marks-from z from (take w xs) (suc r.0) r.1 in
       (s.0, subst (On from) (add-one s.0) s.2, (suc s.3.0 ∷ r.2.0, ap suc r.2.1, (r.0, s.3.1, r.2.2)))
 
@@ -121,7 +121,7 @@ module _ {S V : Type 0} (w : ℕ) (z : Node S V) (bare : Bare z) (small : w < 25
   reached_has (suc i) from xs a [] b R on len h = absurd (omega arith)
   reached_has (suc i) from xs a (zero ∷ ds) b R on len h = absurd (let e = h.1 in omega arith)
   reached_has (suc i) from xs a (suc k ∷ ds) b R on len h =
-      reached_has i (reachedNext z from (take w xs)) (drop w xs) h.0 ds b (ranged-drop xs R) (marks-arc from xs R a k h.0 on h.1) (omega arith) h.2
+      reached_has i (reached_next z from (take w xs)) (drop w xs) h.0 ds b (ranged-drop xs R) (marks-arc from xs R a k h.0 on h.1) (omega arith) h.2
 
   -- ---- numbers
   pub numbers-zero : (r : ℕ) (from : List Bool) (xs : List (Node S V)) → get_or (numbers w z r from xs) 0 0 ≡ 0
@@ -130,23 +130,23 @@ module _ {S V : Type 0} (w : ℕ) (z : Node S V) (bare : Bare z) (small : w < 25
   numbers-zero (suc r) from xs = refl
 
   abbrev pub vs-of : ℕ → List Bool → List (Node S V) → List (Node S V)
-  vs-of r from xs = renewals z from (numbers w z r (reachedNext z from (take w xs)) (drop w xs)) (take w xs)
+  vs-of r from xs = renewals z from (numbers w z r (reached_next z from (take w xs)) (drop w xs)) (take w xs)
 
   pub long-vs : (from : List Bool) (new : List ℕ) (us : List (Node S V)) → length (renewals z from new us) ≡ length us
   unfolding renewals
-  long-vs from new us = length-map-range_with_len (renewAt z from new us) 0 (length us)
+  long-vs from new us = length-map-range_with_len (renew_at z from new us) 0 (length us)
 
   pub renewed-here : (from : List Bool) (new : List ℕ) (us : List (Node S V)) (a : ℕ) → a < length us → get_or (renewals z from new us) a z ≡ renewed z (get_or from (suc a) false) new (get_or us a z)
   unfolding renewals
   renewed-here from new us a lt =
-      get_or-map-range_with_len (renewAt z from new us) 0 (length us) a a z lt (omega arith)
+      get_or-map-range_with_len (renew_at z from new us) 0 (length us) a a z lt (omega arith)
       ∙ ap (λ n. renewed z (get_or from n false) new (get_or us a z)) (add-one a)
 
   renewed-on : (b : Bool) (new : List ℕ) (x : Node S V) → lively (renewed z b new x) ≡ true → (b ≡ true) × ((k : ℕ) × (get_or new (get_or (targets x) k 0) 0 ≢ 0))
   unfolding renewed
   renewed-on false new x live = absurd (apart live dead)
   renewed-on true new x live =
-      let r = lively-has (withTargets x (map (λ t. get_or new t 0) (targets x))) live in
+      let r = lively-has (with_targets x (map (λ t. get_or new t 0) (targets x))) live in
       let there : get_or (map (λ t. get_or new t 0) (targets x)) r.0 0 ≢ 0 = subst (λ ts. get_or ts r.0 0 ≢ 0) (targets-with x (λ t. get_or new t 0)) r.1 in (
         refl,
         (
@@ -162,15 +162,15 @@ module _ {S V : Type 0} (w : ℕ) (z : Node S V) (bare : Bare z) (small : w < 25
   unfolding renewed
   renewed-live false new x k on lt ne = absurd (apart on refl)
   renewed-live true new x k on lt ne =
-      lively-from (withTargets x (map (λ t. get_or new t 0) (targets x))) k
+      lively-from (with_targets x (map (λ t. get_or new t 0) (targets x))) k
       (λ e. ne (sym (get_or-map (λ t. get_or new t 0) (targets x) k 0 0 lt) ∙ ap (λ ts. get_or ts k 0) (sym (targets-with x (λ t. get_or new t 0))) ∙ e))
 
   -- a number shows a mark, and an arc to a node that has one
-  pub shown : (r : ℕ) (from : List Bool) (xs : List (Node S V)) (a : ℕ) → get_or (numbers w z (suc r) from xs) (suc a) 0 ≢ 0 → On from (suc a) × ((k : ℕ) × (get_or (numbers w z r (reachedNext z from (take w xs)) (drop w xs)) (get_or (targets (get_or (take w xs) a z)) k 0) 0 ≢ 0))
+  pub shown : (r : ℕ) (from : List Bool) (xs : List (Node S V)) (a : ℕ) → get_or (numbers w z (suc r) from xs) (suc a) 0 ≢ 0 → On from (suc a) × ((k : ℕ) × (get_or (numbers w z r (reached_next z from (take w xs)) (drop w xs)) (get_or (targets (get_or (take w xs) a z)) k 0) 0 ≢ 0))
   unfolding numbers
   shown r from xs a ne =
       let s = number-shown (vs-of r from xs) a z ne in
-      let new = numbers w z r (reachedNext z from (take w xs)) (drop w xs) in
+      let new = numbers w z r (reached_next z from (take w xs)) (drop w xs) in
       let lt : a < length (take w xs) = (let l = s.0 in omega (arith, long-vs from new (take w xs))) in
       renewed-on (get_or from (suc a) false) new (get_or (take w xs) a z) (ap lively (sym (renewed-here from new (take w xs) a lt)) ∙ s.1)
 
@@ -182,43 +182,43 @@ module _ {S V : Type 0} (w : ℕ) (z : Node S V) (bare : Bare z) (small : w < 25
       (cases_eq (suc a) 1)
   numbers-from (suc r) from xs a ne =
       let s = (shown r from xs a ne).1 in
-      let new = numbers w z r (reachedNext z from (take w xs)) (drop w xs) in
+      let new = numbers w z r (reached_next z from (take w xs)) (drop w xs) in
       ⊎_elim
-      (λ (e : get_or (targets (get_or (take w xs) a z)) s.0 0 ≡ 0). absurd (s.1 (ap (λ t. get_or new t 0) e ∙ numbers-zero r (reachedNext z from (take w xs)) (drop w xs))))
+      (λ (e : get_or (targets (get_or (take w xs) a z)) s.0 0 ≡ 0). absurd (s.1 (ap (λ t. get_or new t 0) e ∙ numbers-zero r (reached_next z from (take w xs)) (drop w xs))))
       (λ h.
-      let rest = numbers-from r (reachedNext z from (take w xs)) (drop w xs) h.0 (subst (λ t. get_or new t 0 ≢ 0) h.1 s.1) in
+      let rest = numbers-from r (reached_next z from (take w xs)) (drop w xs) h.0 (subst (λ t. get_or new t 0 ≢ 0) h.1 s.1) in
       (suc s.0 ∷ rest.0, ap suc rest.1, (h.0, h.1, rest.2)))
       (zero-or-suc (get_or (targets (get_or (take w xs) a z)) s.0 0))
 
   pub numbers-has : (r : ℕ) (from : List Bool) (xs : List (Node S V)) (a : ℕ) (ds : List ℕ) → Ranged w z xs → On from (suc a) → length ds ≡ r → Leads w z xs (suc a) ds 1 → get_or (numbers w z r from xs) (suc a) 0 ≢ 0
   unfolding numbers arc
-  numbers-has zero from xs a [] R on len e = λ none. (let one = ap (λ n. get_or endNumbers n 0) e in omega (arith, one, none))
+  numbers-has zero from xs a [] R on len e = λ none. (let one = ap (λ n. get_or end_numbers n 0) e in omega (arith, one, none))
   numbers-has zero from xs a (j ∷ ds) R on len h = absurd (omega arith)
   numbers-has (suc r) from xs a [] R on len h = absurd (omega arith)
   numbers-has (suc r) from xs a (zero ∷ ds) R on len h = absurd (let e = h.1 in omega arith)
   numbers-has (suc r) from xs a (suc k ∷ ds) R on len h =
       let in' = arc-in (take w xs) a k h.0 h.1 in
-      let new = numbers w z r (reachedNext z from (take w xs)) (drop w xs) in
-      let next = numbers-has r (reachedNext z from (take w xs)) (drop w xs) h.0 ds (ranged-drop xs R) (marks-arc from xs R a k h.0 on h.1) (omega arith) h.2 in
+      let new = numbers w z r (reached_next z from (take w xs)) (drop w xs) in
+      let next = numbers-has r (reached_next z from (take w xs)) (drop w xs) h.0 ds (ranged-drop xs R) (marks-arc from xs R a k h.0 on h.1) (omega arith) h.2 in
       let live = renewed-live (get_or from (suc a) false) new (get_or (take w xs) a z) k on in'.1 (subst (λ t. get_or new t 0 ≢ 0) (sym h.1) next) in
       let lt : a < length (take w xs) = in'.0 in
       number-sure (vs-of r from xs) a z (omega (arith, long-vs from new (take w xs))) (omega (arith, long-vs from new (take w xs), length-take w xs))
       (ap lively (renewed-here from new (take w xs) a lt) ∙ live)
 
   -- ---- the words
-  pub first_on : (a : ℕ) → On firstMark (suc a) → suc a ≡ 1
+  pub first_on : (a : ℕ) → On first_mark (suc a) → suc a ≡ 1
   first_on a on = ⊎_elim (λ (o : On (replicate 256 false) (suc a)). absurd (apart o (never 256 (suc a)))) sym (set-from (replicate 256 false) 1 (suc a) on)
 
-  pub kept-on-path : (n : ℕ) (xs : List (Node S V)) (i a : ℕ) → i < n → newNumber w z n xs i (suc a) ≢ 0 → OnPath w z n xs i (suc a)
+  pub kept-on-path : (n : ℕ) (xs : List (Node S V)) (i a : ℕ) → i < n → new_number w z n xs i (suc a) ≢ 0 → OnPath w z n xs i (suc a)
   kept-on-path n xs i a lt ne =
       let e : n - i ≡ suc (n - i - 1) = omega arith in
-      let on = (shown (n - i - 1) (reached w z i firstMark xs) (fromLayer w i xs) a (subst (λ r. get_or (numbers w z r (reached w z i firstMark xs) (fromLayer w i xs)) (suc a) 0 ≢ 0) e ne)).0 in
-      let r = reached-from i firstMark xs a on in (
+      let on = (shown (n - i - 1) (reached w z i first_mark xs) (from_layer w i xs) a (subst (λ r. get_or (numbers w z r (reached w z i first_mark xs) (from_layer w i xs)) (suc a) 0 ≢ 0) e ne)).0 in
+      let r = reached-from i first_mark xs a on in (
         (r.2.0, r.2.1, subst (λ b. Leads w z xs b r.2.0 (suc a)) (first_on r.0 r.1) r.2.2),
-        numbers-from (n - i) (reached w z i firstMark xs) (fromLayer w i xs) a ne,
+        numbers-from (n - i) (reached w z i first_mark xs) (from_layer w i xs) a ne,
       )
 
-  pub on-path-kept : (n : ℕ) (xs : List (Node S V)) (i a : ℕ) → Ranged w z xs → OnPath w z n xs i (suc a) → newNumber w z n xs i (suc a) ≢ 0
+  pub on-path-kept : (n : ℕ) (xs : List (Node S V)) (i a : ℕ) → Ranged w z xs → OnPath w z n xs i (suc a) → new_number w z n xs i (suc a) ≢ 0
   on-path-kept n xs i a R p =
-      let on = reached_has i firstMark xs 0 p.0.0 a R refl p.0.1 p.0.2 in
-      numbers-has (n - i) (reached w z i firstMark xs) (fromLayer w i xs) a p.1.0 (ranged-layer i xs R) on p.1.1 p.1.2
+      let on = reached_has i first_mark xs 0 p.0.0 a R refl p.0.1 p.0.2 in
+      numbers-has (n - i) (reached w z i first_mark xs) (from_layer w i xs) a p.1.0 (ranged-layer i xs R) on p.1.1 p.1.2

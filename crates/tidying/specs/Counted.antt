@@ -1,13 +1,13 @@
 -- How many arcs leave a record, and several.
 use Rattle.std.specs.Prelude.{ℕ, List, map}
 use Rattle.layers.specs.declared.node.Node.{Node}
-use Rattle.layers.specs.Flow.{countDoors, countLayer}
+use Rattle.layers.specs.Flow.{count_doors, count_layer}
 use Rattle.layers.specs.Targets.{targets}
 
-unfoldable pub arcsOf : {S V : Type 0} → Node S V → ℕ
-unfolding targets countDoors
-arcsOf x = countDoors (targets x)
+unfoldable pub arcs_of : {S V : Type 0} → Node S V → ℕ
+unfolding targets count_doors
+arcs_of x = count_doors (targets x)
 
-unfoldable pub arcsWithin : {S V : Type 0} → List (Node S V) → ℕ
-unfolding targets countLayer
-arcsWithin xs = countLayer (map targets xs)
+unfoldable pub arcs_within : {S V : Type 0} → List (Node S V) → ℕ
+unfolding targets count_layer
+arcs_within xs = count_layer (map targets xs)

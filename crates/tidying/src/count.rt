@@ -1,7 +1,7 @@
 // Counting arcs.
 ghost use Rattle.std.specs.Prelude.{◌≡◌, ◌*◌, ◌≤◌, length, take, if◌then◌else◌};
 ghost use Rattle.labels.specs.Passes.{fits};
-ghost use Rattle.tidying.specs.Counted.{arcsOf, arcsWithin};
+ghost use Rattle.tidying.specs.Counted.{arcs_of, arcs_within};
 
 use labels::room::has_room;
 use layers::node::Node;
@@ -9,7 +9,7 @@ use round::table::Round;
 
 // How many arcs leave a node.
 pub fn count_of<S: Copy, V: Copy>(x: &Node<S, V>) -> usize
-    ensures many { result ≡ arcsOf x.now }
+    ensures many { result ≡ arcs_of x.now }
     ensures few { result ≤ 16 }
 {
     x.arcs.to.iter().filter(|t| **t != 0).count()
@@ -18,7 +18,7 @@ pub fn count_of<S: Copy, V: Copy>(x: &Node<S, V>) -> usize
 // How many arcs leave all these nodes: no diagram has more than 2,049.
 fn count_all<S: Copy, V: Copy>(nodes: &[Node<S, V>]) -> usize
     requires { length nodes.now ≤ 2049 }
-    ensures { result ≡ arcsWithin nodes.now }
+    ensures { result ≡ arcs_within nodes.now }
 {
     let mut n = 0;
     for x in nodes {
@@ -29,7 +29,7 @@ fn count_all<S: Copy, V: Copy>(nodes: &[Node<S, V>]) -> usize
 
 // How many arcs there are in a diagram of the round's doors; 0 in a list that has no room for it.
 pub fn count_arcs<S: Copy, V: Copy>(round: &Round, nodes: &[Node<S, V>], width: usize) -> usize
-    ensures { result ≡ (if fits round.now.n width (length nodes.now) then arcsWithin (take (round.now.n * width) nodes.now) else 0) }
+    ensures { result ≡ (if fits round.now.n width (length nodes.now) then arcs_within (take (round.now.n * width) nodes.now) else 0) }
 {
     if !has_room(round, width, nodes.len()) {
         return 0;

@@ -5,8 +5,8 @@ ghost use Rattle.std.specs.Prelude.{◌≡◌, ◌+◌, ◌-◌, ◌*◌, ◌<�
 ghost use Rattle.layers.specs.declared.node.Node.{Node as ANode};
 ghost use Rattle.tidying.specs.Paths.{KeptExactly, SamePaths};
 ghost use Rattle.labels.specs.Passes.{fits};
-ghost use Rattle.layers.specs.Targets.{targets, withTargets};
-ghost use Rattle.tidying.specs.Tidied.{lively, marked, reachedNext, renewed, renewals, together, numbering, numbers, tidied, firstMark};
+ghost use Rattle.layers.specs.Targets.{targets, with_targets};
+ghost use Rattle.tidying.specs.Tidied.{lively, marked, reached_next, renewed, renewals, together, numbering, numbers, tidied, first_mark};
 
 use crate::count::count_of;
 use labels::room::has_room;
@@ -32,7 +32,7 @@ fn mark<S: Copy, V: Copy>(marks: &mut [bool; 256], x: &Node<S, V>)
 // Marks the targets of the marked nodes.
 fn mark_next<S: Copy, V: Copy>(from: &[bool; 256], us: &[Node<S, V>]) -> [bool; 256]
     requires { length us.now ≤ 128 }
-    ensures { (z : ANode S V) → result ≡ reachedNext z from.now us.now }
+    ensures { (z : ANode S V) → result ≡ reached_next z from.now us.now }
 {
     let mut marks = [false; 256];
     for (a, x) in us.iter().enumerate() {
@@ -45,7 +45,7 @@ fn mark_next<S: Copy, V: Copy>(from: &[bool; 256], us: &[Node<S, V>]) -> [bool; 
 
 // A node with its targets numbered anew.
 fn renew<S: Copy, V: Copy>(x: &Node<S, V>, new: &[u8; 256]) -> Node<S, V>
-    ensures { result ≡ withTargets x.now (map (λ t. slice_index new.now t) (targets x.now)) }
+    ensures { result ≡ with_targets x.now (map (λ t. slice_index new.now t) (targets x.now)) }
 {
     let mut to = [0; 16];
     for (k, t) in x.arcs.to.iter().enumerate() {
@@ -166,7 +166,7 @@ fn tidy_from<S: Copy, V: Copy>(
 fn tidy_all<S: Copy, V: Copy>(nodes: &mut [Node<S, V>], n: usize, w: usize, blank: &Node<S, V>)
     requires w_bound { w ≤ 128 }
     requires w_in_bounds { n * w < length nodes.old }
-    ensures records { nodes.new ≡ tidied w blank.now n firstMark nodes.old }
+    ensures records { nodes.new ≡ tidied w blank.now n first_mark nodes.old }
     ensures words { KeptExactly w blank.now n nodes.old }
     ensures paths { SamePaths w blank.now n nodes.old nodes.new }
 {
@@ -183,7 +183,7 @@ pub fn tidy<S: Copy, V: Copy>(
     width: usize,
     blank: &Node<S, V>,
 )
-    ensures records { nodes.new ≡ (if fits round.now.n width (length nodes.old) then tidied width blank.now round.now.n firstMark nodes.old else nodes.old) }
+    ensures records { nodes.new ≡ (if fits round.now.n width (length nodes.old) then tidied width blank.now round.now.n first_mark nodes.old else nodes.old) }
     ensures words { fits round.now.n width (length nodes.old) ≡ true → KeptExactly width blank.now round.now.n nodes.old }
     ensures paths { fits round.now.n width (length nodes.old) ≡ true → SamePaths width blank.now round.now.n nodes.old nodes.new }
 {

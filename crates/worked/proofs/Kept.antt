@@ -8,7 +8,7 @@ use Rattle.round.specs.Clock.{finish}
 use Rattle.rules.specs.Loads.{load_of}
 use Rattle.orders.specs.Allowed.{Allowed}
 use Rattle.worked.specs.Rounds.{trio, boxes}
-use Rattle.worked.specs.Cases.{Loaded, Keeps, Two-keep}
+use Rattle.worked.specs.Cases.{Loaded, Keeps, TwoKeep}
 
 -- what holds at each of three doors
 at-three : (P : List ℕ → ℕ → Type 0) (a b c : ℕ) → P [] a → P (a ∷ []) b → P (a ∷ b ∷ []) c → AtEach P (a ∷ b ∷ c ∷ [])
@@ -26,9 +26,9 @@ module _ (c : ℕ) (h : c ≤ 9999) where
   }
 
   -- 1, 2, 3 ends at 9, and door 3 closes at 8
-  pub not-allowed : Allowed (trio c h) (Keeps (trio c h)) (1 ∷ 2 ∷ 3 ∷ []) → ⊥
+  pub not_allowed : Allowed (trio c h) (Keeps (trio c h)) (1 ∷ 2 ∷ 3 ∷ []) → ⊥
   unfolding finish
-  not-allowed a = let t : 9 ≤ 8 = a.timely (1 ∷ 2 ∷ []) 3 [] refl in omega arith
+  not_allowed a = let t : 9 ≤ 8 = a.timely (1 ∷ 2 ∷ []) 3 [] refl in omega arith
 
 -- ---- the load
 
@@ -69,7 +69,7 @@ only (a ∷ b ∷ c ∷ []) p l k =
     first
 only (a ∷ b ∷ c ∷ d ∷ w) p l k = absurd (omega arith)
 
-pub two-keep : Two-keep boxes
+pub two-keep : TwoKeep boxes
 two-keep = record {
   these = (at-three _ 1 2 3 (omega (arith, ints)) (omega (arith, ints)) (omega (arith, ints)), at-three _ 2 1 3 (omega (arith, ints)) (omega (arith, ints)) (omega (arith, ints)));
   only = only;

@@ -5,49 +5,49 @@ use Rattle.doors.specs.Orders.{PartOrder}
 use Rattle.round.specs.declared.table.Round.{Round}
 use Rattle.rules.specs.declared.load.Interval.{Interval}
 use Rattle.rules.specs.Rules.{RuleSense}
-use Rattle.rules.specs.Pairs.{Ordered, pairsSense}
-use Rattle.rules.specs.Loads.{Within, loadSense}
-use Rattle.rules.specs.Boths.{bothSense}
+use Rattle.rules.specs.Pairs.{Ordered, pairs_sense}
+use Rattle.rules.specs.Loads.{Within, load_sense}
+use Rattle.rules.specs.Boths.{both_sense}
 use Rattle.tallies.specs.Tallies.{TallySense}
-use Rattle.tallies.specs.Late.{lateSense}
-use Rattle.tallies.specs.Driving.{drivingSense}
+use Rattle.tallies.specs.Late.{late_sense}
+use Rattle.tallies.specs.Driving.{driving_sense}
 use Rattle.orders.specs.Allowed.{Allowed}
-use Rattle.orders.specs.Times.{finishes, finishOf}
+use Rattle.orders.specs.Times.{finishes, finish_of}
 use Rattle.orders.specs.Costs.{cost}
 use Rattle.orders.specs.Verdicts.{verdict}
 use Rattle.orders.specs.declared.verdict.Verdict.TheVariants as is
 use Rattle.layers.specs.declared.node.Node.{Node}
-use Rattle.layers.specs.Calls.{openedOn, arcs, swept, sweepAnswer, cut_at, cutAnswer, partAnswer, parted, refined, bound, must, settled}
+use Rattle.layers.specs.Calls.{opened_on, arcs, swept, sweep_answer, cut_at, cut_answer, part_answer, parted, refined, bound, must, settled}
 use Rattle.worked.specs.Rounds.{trio, loose, boxes}
 
 abbrev pub rule : Round → RuleSense (ℕ × Interval)
-rule r = bothSense (pairsSense r.n r.ahead) (loadSense r.n r.load r.limit r.doors)
+rule r = both_sense (pairs_sense r.n r.ahead) (load_sense r.n r.load r.cap r.doors)
 
--- w keeps the load: it is 0 to the limit after every door
+-- w keeps the load: it is 0 to the cap after every door
 abbrev pub Loaded : Round → List ℕ → Type 0
-Loaded r w = Within r.load r.limit r.doors w
+Loaded r w = Within r.load r.cap r.doors w
 
 -- w keeps the rule: the pairs, and the load
 abbrev pub Keeps : Round → List ℕ → Type 0
 Keeps r w = Ordered r.ahead w × Loaded r w
 
 abbrev pub late : Round → TallySense (ℕ × ℕ)
-late r = lateSense r.n r.doors
+late r = late_sense r.n r.doors
 
 abbrev pub Place : Type 0
 Place = Node (ℕ × Interval) (ℕ × ℕ)
 
 -- at width W, on a lent list: opened, and after k sweeps
 abbrev pub sweeps : Round → ℕ → ℕ → List Place → List Place
-sweeps r W zero lent = openedOn r (rule r) (late r) W lent
+sweeps r W zero lent = opened_on r (rule r) (late r) W lent
 sweeps r W (suc k) lent = swept r (rule r) (late r) W (sweeps r W k lent)
 
 abbrev pub answer : Round → ℕ → ℕ → List Place → ℕ
-answer r W k lent = sweepAnswer r (rule r) (late r) W (sweeps r W k lent)
+answer r W k lent = sweep_answer r (rule r) (late r) W (sweeps r W k lent)
 
 -- after refining: the answer, and the records
 abbrev pub fine : Round → ℕ → List Place → ℕ × List Place
-fine r W lent = refined r (rule r) (late r) W (openedOn r (rule r) (late r) W lent)
+fine r W lent = refined r (rule r) (late r) W (opened_on r (rule r) (late r) W lent)
 
 abbrev pub asked : Round → ℕ → ℕ → ℕ → List Place → Bool
 asked r W i j lent = must 3 W i j (fine r W lent).1
@@ -64,23 +64,23 @@ pub record Sheet (r : Round) (lent : List Place) : Type 0 where
 pub record AsPrinted (r : Round) (lent : List Place) : Type 0 where
   -- order 1, 3, 2 finishes at 2, 6, 8 and is allowed; 1, 2, 3 ends at 9 and is not
   pub minutes : finishes r (1 ∷ 3 ∷ 2 ∷ []) ≡ 2 ∷ 6 ∷ 8 ∷ []
-  pub is-allowed : Allowed r (Keeps r) (1 ∷ 3 ∷ 2 ∷ [])
-  pub ends-late : finishOf r (1 ∷ 2 ∷ 3 ∷ []) ≡ 9
-  pub not-allowed : Allowed r (Keeps r) (1 ∷ 2 ∷ 3 ∷ []) → ⊥
+  pub is_allowed : Allowed r (Keeps r) (1 ∷ 3 ∷ 2 ∷ [])
+  pub ends_late : finish_of r (1 ∷ 2 ∷ 3 ∷ []) ≡ 9
+  pub not_allowed : Allowed r (Keeps r) (1 ∷ 2 ∷ 3 ∷ []) → ⊥
   -- the verdicts say so: 1, 3, 2 is allowed, and 1, 2, 3 finishes door 3 after it closes
-  pub says-allowed : verdict r (rule r) (1 ∷ 3 ∷ 2 ∷ []) ≡ is.Allowed
-  pub says-closes : verdict r (rule r) (1 ∷ 2 ∷ 3 ∷ []) ≡ is.Closes 3
+  pub says_allowed : verdict r (rule r) (1 ∷ 3 ∷ 2 ∷ []) ≡ is.Allowed
+  pub says_closes : verdict r (rule r) (1 ∷ 2 ∷ 3 ∷ []) ≡ is.Closes 3
   -- 1, 3, 2 costs 0 driving, (1, 1) late doors
-  pub drives : cost r drivingSense (1 ∷ 3 ∷ 2 ∷ []) ≡ 0
+  pub drives : cost r driving_sense (1 ∷ 3 ∷ 2 ∷ []) ≡ 0
   pub lateness : cost r (late r) (1 ∷ 3 ∷ 2 ∷ []) ≡ (1, 1)
   -- the bound at opening is (0, 0); four sweeps answer 2, 3, 1, 0
-  pub at-opening : bound 3 16 (sweeps r 16 0 lent) ≡ Some (0, 0)
-  pub four-sweeps : answer r 16 0 lent ∷ answer r 16 1 lent ∷ answer r 16 2 lent ∷ answer r 16 3 lent ∷ [] ≡ 2 ∷ 3 ∷ 1 ∷ 0 ∷ []
+  pub at_opening : bound 3 16 (sweeps r 16 0 lent) ≡ Some (0, 0)
+  pub four_sweeps : answer r 16 0 lent ∷ answer r 16 1 lent ∷ answer r 16 2 lent ∷ answer r 16 3 lent ∷ [] ≡ 2 ∷ 3 ∷ 1 ∷ 0 ∷ []
   -- what refine leaves
   pub sheet : Sheet r lent
   -- after those sweeps, cut at (1, 1) answers 0, then at (1, 0) answers 3
-  pub cut-none : cutAnswer r (rule r) (late r) 16 (1, 1) (sweeps r 16 4 lent) ≡ 0
-  pub cut-three : cutAnswer r (rule r) (late r) 16 (1, 0) (cut_at r (rule r) (late r) 16 (1, 1) (sweeps r 16 4 lent)) ≡ 3
+  pub cut_none : cut_answer r (rule r) (late r) 16 (1, 1) (sweeps r 16 4 lent) ≡ 0
+  pub cut_three : cut_answer r (rule r) (late r) 16 (1, 0) (cut_at r (rule r) (late r) 16 (1, 1) (sweeps r 16 4 lent)) ≡ 3
 
 -- with door 2 closing at 7, refine is whole and there is no bound
 pub record ClosedEarly (r : Round) (lent : List Place) : Type 0 where
@@ -90,33 +90,33 @@ pub record ClosedEarly (r : Round) (lent : List Place) : Type 0 where
 -- three doors open 0 to 9,999, due 9,999, work 1, no drive minutes, where 2 has to come ahead of 1
 pub record Paired (r : Round) (lent : List Place) : Type 0 where
   -- at width 2: sweep answers 1; part(1, 1) moves door 3's arc; sweep answers 3
-  pub sweep-one : answer r 2 0 lent ≡ 1
-  pub parts : partAnswer r (rule r) (late r) 2 1 1 (sweeps r 2 1 lent) ≡ 0
-  pub before-part : slice_index_or (arcs 3 2 (sweeps r 2 1 lent)) 0 [] ≡ (0 ∷ 1 ∷ 1 ∷ []) ∷ []
-  pub after-part : slice_index_or (arcs 3 2 (parted r (rule r) (late r) 2 1 1 (sweeps r 2 1 lent))) 0 [] ≡ (0 ∷ 1 ∷ 2 ∷ []) ∷ []
-  pub sweep-three : sweepAnswer r (rule r) (late r) 2 (parted r (rule r) (late r) 2 1 1 (sweeps r 2 1 lent)) ≡ 3
+  pub sweep_one : answer r 2 0 lent ≡ 1
+  pub parts : part_answer r (rule r) (late r) 2 1 1 (sweeps r 2 1 lent) ≡ 0
+  pub before_part : slice_index_or (arcs 3 2 (sweeps r 2 1 lent)) 0 [] ≡ (0 ∷ 1 ∷ 1 ∷ []) ∷ []
+  pub after_part : slice_index_or (arcs 3 2 (parted r (rule r) (late r) 2 1 1 (sweeps r 2 1 lent))) 0 [] ≡ (0 ∷ 1 ∷ 2 ∷ []) ∷ []
+  pub sweep_three : sweep_answer r (rule r) (late r) 2 (parted r (rule r) (late r) 2 1 1 (sweeps r 2 1 lent)) ≡ 3
   -- just opened: refine at width 2 is full at layer 2 and settled no; at width 3 whole, must(2, 1) yes, must(3, 1) no
-  pub full-at-2 : (fine r 2 lent).0 ≡ 2
-  pub not-settled : settled r (rule r) (late r) 2 (fine r 2 lent).1 ≡ false
-  pub whole-at-3 : (fine r 3 lent).0 ≡ 0
-  pub must-two : asked r 3 2 1 lent ≡ true
-  pub must-three : asked r 3 3 1 lent ≡ false
+  pub full_at_2 : (fine r 2 lent).0 ≡ 2
+  pub not_settled : settled r (rule r) (late r) 2 (fine r 2 lent).1 ≡ false
+  pub whole_at_3 : (fine r 3 lent).0 ≡ 0
+  pub must_two : asked r 3 2 1 lent ≡ true
+  pub must_three : asked r 3 3 1 lent ≡ false
 
 -- of all orders of three doors exactly 1, 2, 3 and 2, 1, 3 keep the load
-pub record Two-keep (r : Round) : Type 0 where
+pub record TwoKeep (r : Round) : Type 0 where
   -- these two keep it
   pub these : Loaded r (1 ∷ 2 ∷ 3 ∷ []) × Loaded r (2 ∷ 1 ∷ 3 ∷ [])
   -- and whatever order of the doors 1 to 3 keeps it is one of these two
   pub only : (w : List ℕ) → PartOrder 3 w → length w ≡ 3 → Loaded r w → (w ≡ 1 ∷ 2 ∷ 3 ∷ []) ⊎ (w ≡ 2 ∷ 1 ∷ 3 ∷ [])
 
-pub record Worked-out (lent : List Place) : Type 0 where
-  pub printed-at-9 : AsPrinted (trio 9 (omega arith)) lent
+pub record WorkedOut (lent : List Place) : Type 0 where
+  pub printed_at_9 : AsPrinted (trio 9 (omega arith)) lent
   -- with door 2 closing at 8 nothing changes
-  pub printed-at-8 : AsPrinted (trio 8 (omega arith)) lent
-  pub closed-at-7 : ClosedEarly (trio 7 (omega arith)) lent
+  pub printed_at_8 : AsPrinted (trio 8 (omega arith)) lent
+  pub closed_at_7 : ClosedEarly (trio 7 (omega arith)) lent
   pub paired : Paired loose lent
   -- an empty van that holds 2, changes 1, 1 and −2: exactly 1, 2, 3 and 2, 1, 3 keep the load
-  pub loads : Two-keep boxes
+  pub loads : TwoKeep boxes
 
-abbrev pub Worked-cases : Type 0
-Worked-cases = (lent : List Place) → Worked-out lent
+abbrev pub WorkedCases : Type 0
+WorkedCases = (lent : List Place) → WorkedOut lent

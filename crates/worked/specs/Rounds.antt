@@ -33,12 +33,12 @@ worked a b c x y z (suc (suc zero)) p q = y.some
 worked a b c x y z (suc (suc (suc zero))) p q = z.some
 worked a b c x y z (suc (suc (suc (suc j)))) p q = absurd (omega arith)
 
--- the round of these doors, an empty van with room for `limit`, and for each door the set of those that have to come ahead of it
-abbrev pub roundOf : (limit : ℕ) → limit ≤ 999 → List ℕ → (a b c : Door) → Fine a → Fine b → Fine c → Round
-roundOf limit h ahead a b c x y z = record {
+-- the round of these doors, an empty van with room for `cap`, and for each door the set of those that have to come ahead of it
+abbrev pub round_of : (cap : ℕ) → cap ≤ 999 → List ℕ → (a b c : Door) → Fine a → Fine b → Fine c → Round
+round_of cap h ahead a b c x y z = record {
   n = 3;
   load = 0;
-  limit = limit;
+  cap = cap;
   doors = three a b c;
   drives = replicate 17 (replicate 17 0);
   ahead = ahead;
@@ -70,7 +70,7 @@ fine o c d w p q s t u = record { opens = p; closes = q; due = s; some = t; work
 
 -- the round of which the sheet is printed, door 2 closing at c
 abbrev pub trio : (c : ℕ) → c ≤ 9999 → Round
-trio c h = roundOf 0 (omega arith) unordered (plain 0 3 3 2) (plain 4 c 7 2) (plain 3 8 6 3)
+trio c h = round_of 0 (omega arith) unordered (plain 0 3 3 2) (plain 4 c 7 2) (plain 3 8 6 3)
     (fine 0 3 3 2 (omega arith) (omega arith) (omega arith) (omega arith) (omega arith))
     (fine 4 c 7 2 (omega arith) h (omega arith) (omega arith) (omega arith))
     (fine 3 8 6 3 (omega arith) (omega arith) (omega arith) (omega arith) (omega arith))
@@ -84,7 +84,7 @@ easily = fine 0 9999 9999 1 (omega arith) (omega arith) (omega arith) (omega ari
 
 -- three such doors, where door 2 has to come ahead of door 1
 abbrev pub loose : Round
-loose = roundOf 0 (omega arith) (0 ∷ 4 ∷ replicate 15 0) easy easy easy easily easily easily
+loose = round_of 0 (omega arith) (0 ∷ 4 ∷ replicate 15 0) easy easy easy easily easily easily
 
 abbrev pub loading : ℤ → Door
 loading z = record { opens = 0; closes = 9999; due = 9999; work = 1; change = z }
@@ -94,4 +94,4 @@ up z a b = record { opens = omega arith; closes = omega arith; due = omega arith
 
 -- three such doors with the changes 1, 1 and −2, and a van that holds 2
 abbrev pub boxes : Round
-boxes = roundOf 2 (omega arith) unordered (loading (pos 1)) (loading (pos 1)) (loading (negsuc 1)) (up (pos 1) (record { le = tt }) (record { le = tt })) (up (pos 1) (record { le = tt }) (record { le = tt })) (up (negsuc 1) (record { le = tt }) (record { le = tt }))
+boxes = round_of 2 (omega arith) unordered (loading (pos 1)) (loading (pos 1)) (loading (negsuc 1)) (up (pos 1) (record { le = tt }) (record { le = tt })) (up (pos 1) (record { le = tt }) (record { le = tt })) (up (negsuc 1) (record { le = tt }) (record { le = tt }))

@@ -1,8 +1,8 @@
 // The worked cases hold of the definitions.
 #![tactic(auto)]
 
-ghost use Rattle.worked.specs.Cases.{Worked-cases};
+ghost use Rattle.worked.specs.Cases.{WorkedCases};
 
 pub fn worked_cases()
-    ensures { Worked-cases }
+    ensures { WorkedCases }
 {}

@@ -1,14 +1,14 @@
 use Rattle.std.proofs.Common.{◌≡◌, ap, ◌∙◌, subst, sym, min}
-use Rattle.layers.specs.Calls.{refined, openedOn}
-use Rattle.tallies.specs.Late.{lateSense}
-use Rattle.capi.specs.Senses.{sideSense, side_of, late_of}
+use Rattle.layers.specs.Calls.{refined, opened_on}
+use Rattle.tallies.specs.Late.{late_sense}
+use Rattle.capi.specs.Senses.{side_sense, side_of, late_of}
 use Rattle.capi.proofs.refine_once.Goals as goal
 
 -- the diagram that is refined is the one that was opened, in the same room
 pub returns : goal.returns
 returns c =
-    let R = sideSense c.args.rule.now in
-    let T = lateSense c.args.tally.now.round.now.n c.args.tally.now.round.now.doors in
+    let R = side_sense c.args.rule.now in
+    let T = late_sense c.args.tally.now.round.now.n c.args.tally.now.round.now.doors in
     let r = c.args.room.round.now in
     let W = c.args.room.width in
     let d = c.open-diagram.result in
@@ -20,6 +20,6 @@ returns c =
           c.refine.ensures.answer
           ∙ ap (λ m. (refined m.round.now R T m.width d.nodes.now).0) e.room
           ∙ ap (λ xs. (refined r R T W xs).0) e.records
-          ∙ ap (λ Q. (refined r Q T W (openedOn r Q T W c.args.records.now)).0) c.requires.rule
-          ∙ ap (λ Q. (refined r (side_of r) Q W (openedOn r (side_of r) Q W c.args.records.now)).0) c.requires.tally),
+          ∙ ap (λ Q. (refined r Q T W (opened_on r Q T W c.args.records.now)).0) c.requires.rule
+          ∙ ap (λ Q. (refined r (side_of r) Q W (opened_on r (side_of r) Q W c.args.records.now)).0) c.requires.tally),
     )

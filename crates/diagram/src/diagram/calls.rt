@@ -1,6 +1,6 @@
 // The calls that alter a diagram: each hands the lent list to the function that does the work.
 ghost use Rattle.std.specs.Prelude.{◌≡◌, ◌+◌, ◌*◌, ◌≤◌, length, MatchResult};
-ghost use Rattle.layers.specs.Calls.{swept, sweepAnswer, cut_at, cutAnswer, parted, partAnswer, joined, joinAnswer, refined};
+ghost use Rattle.layers.specs.Calls.{swept, sweep_answer, cut_at, cut_answer, parted, part_answer, joined, join_answer, refined};
 ghost use Rattle.layers.specs.Refusals.{number_of};
 ghost use Rattle.layers.specs.Shape.{Shaped, Timely};
 ghost use Rattle.refine.specs.Answers.{answer_of};
@@ -23,7 +23,7 @@ impl<'a, 'n, S: Copy, V: Copy> Diagram<'a, 'n, S, V> {
     pub fn sweep<R: Rule<State = S>, T: Tally<Value = V>>(&mut self, rule: &R, tally: &T) -> usize
         ensures room { self.new.room ≡ self.old.room }
         ensures records { self.new.nodes.now ≡ swept self.old.room.round.now (R.Rule.sense rule.now) (T.Tally.sense tally.now) self.old.room.width self.old.nodes.now }
-        ensures answer { result ≡ sweepAnswer self.old.room.round.now (R.Rule.sense rule.now) (T.Tally.sense tally.now) self.old.room.width self.old.nodes.now }
+        ensures answer { result ≡ sweep_answer self.old.room.round.now (R.Rule.sense rule.now) (T.Tally.sense tally.now) self.old.room.width self.old.nodes.now }
         ensures lender { self.new.nodes.ghost_name ≡ self.old.nodes.ghost_name }
     {
         let Room { round, width } = self.room;
@@ -39,7 +39,7 @@ impl<'a, 'n, S: Copy, V: Copy> Diagram<'a, 'n, S, V> {
     ) -> usize
         ensures room { self.new.room ≡ self.old.room }
         ensures records { self.new.nodes.now ≡ cut_at self.old.room.round.now (R.Rule.sense rule.now) (T.Tally.sense tally.now) self.old.room.width ceiling self.old.nodes.now }
-        ensures answer { result ≡ cutAnswer self.old.room.round.now (R.Rule.sense rule.now) (T.Tally.sense tally.now) self.old.room.width ceiling self.old.nodes.now }
+        ensures answer { result ≡ cut_answer self.old.room.round.now (R.Rule.sense rule.now) (T.Tally.sense tally.now) self.old.room.width ceiling self.old.nodes.now }
         ensures lender { self.new.nodes.ghost_name ≡ self.old.nodes.ghost_name }
     {
         let Room { round, width } = self.room;
@@ -57,7 +57,7 @@ impl<'a, 'n, S: Copy, V: Copy> Diagram<'a, 'n, S, V> {
     ) -> Result<(), Refusal>
         ensures room { self.new.room ≡ self.old.room }
         ensures records { self.new.nodes.now ≡ parted self.old.room.round.now (R.Rule.sense rule.now) (T.Tally.sense tally.now) self.old.room.width layer node self.old.nodes.now }
-        ensures answer { MatchResult result (λ _. partAnswer self.old.room.round.now (R.Rule.sense rule.now) (T.Tally.sense tally.now) self.old.room.width layer node self.old.nodes.now ≡ 0) (λ e. partAnswer self.old.room.round.now (R.Rule.sense rule.now) (T.Tally.sense tally.now) self.old.room.width layer node self.old.nodes.now ≡ number_of e) }
+        ensures answer { MatchResult result (λ _. part_answer self.old.room.round.now (R.Rule.sense rule.now) (T.Tally.sense tally.now) self.old.room.width layer node self.old.nodes.now ≡ 0) (λ e. part_answer self.old.room.round.now (R.Rule.sense rule.now) (T.Tally.sense tally.now) self.old.room.width layer node self.old.nodes.now ≡ number_of e) }
         ensures lender { self.new.nodes.ghost_name ≡ self.old.nodes.ghost_name }
     {
         let Room { round, width } = self.room;
@@ -75,7 +75,7 @@ impl<'a, 'n, S: Copy, V: Copy> Diagram<'a, 'n, S, V> {
     ) -> Result<(), Refusal>
         ensures room { self.new.room ≡ self.old.room }
         ensures records { self.new.nodes.now ≡ joined self.old.room.round.now (R.Rule.sense rule.now) (T.Tally.sense tally.now) self.old.room.width layer a b self.old.nodes.now }
-        ensures answer { MatchResult result (λ _. joinAnswer self.old.room.round.now (R.Rule.sense rule.now) (T.Tally.sense tally.now) self.old.room.width layer a b self.old.nodes.now ≡ 0) (λ e. joinAnswer self.old.room.round.now (R.Rule.sense rule.now) (T.Tally.sense tally.now) self.old.room.width layer a b self.old.nodes.now ≡ number_of e) }
+        ensures answer { MatchResult result (λ _. join_answer self.old.room.round.now (R.Rule.sense rule.now) (T.Tally.sense tally.now) self.old.room.width layer a b self.old.nodes.now ≡ 0) (λ e. join_answer self.old.room.round.now (R.Rule.sense rule.now) (T.Tally.sense tally.now) self.old.room.width layer a b self.old.nodes.now ≡ number_of e) }
         ensures lender { self.new.nodes.ghost_name ≡ self.old.nodes.ghost_name }
     {
         let Room { round, width } = self.room;

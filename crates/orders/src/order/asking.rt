@@ -3,7 +3,7 @@ ghost use Rattle.std.specs.Prelude.{◌≡◌, ℕ, ◌≤◌, IfOk, nat_lt, sli
 ghost use Rattle.round.specs.Clock.{latest, door};
 ghost use Rattle.orders.specs.Costs.{cost};
 ghost use Rattle.orders.specs.Times.{yard, finishes};
-ghost use Rattle.orders.specs.Verdicts.{verdict, verdictFrom, Judged};
+ghost use Rattle.orders.specs.Verdicts.{verdict, verdict_from, Judged};
 
 use super::Order;
 use crate::van::Van;
@@ -63,7 +63,7 @@ impl<'a> Order<'a> {
 
     // The first door that closes too early or breaks the rule, if there is one.
     fn first_fault<R: Rule>(&self, rule: &R) -> Verdict
-        ensures { result ≡ verdictFrom self.now.round.now (R.Rule.sense rule.now) yard (R.Rule.sense rule.now).start self.now.doors.now }
+        ensures { result ≡ verdict_from self.now.round.now (R.Rule.sense rule.now) yard (R.Rule.sense rule.now).start self.now.doors.now }
     {
         let mut van = Van::at_yard();
         let mut state = rule.start();

@@ -2,9 +2,9 @@
 ghost use Rattle.std.specs.Prelude.{◌≡◌, ℕ, pos, ◌+ℤ◌, ◌≤ℤ◌, int_lt};
 ghost use Rattle.std.proofs.Common.{subst};
 ghost use Rattle.round.specs.Tables.{at};
-ghost use Rattle.rules.specs.Loads.{held, Within, Between, loadSense};
+ghost use Rattle.rules.specs.Loads.{held, Within, Between, load_sense};
 ghost use Rattle.rules.specs.Rules.{RuleLaws};
-ghost use Rattle.rules.specs.LoadLaws.{load-lawful};
+ghost use Rattle.rules.specs.LoadLaws.{load_lawful};
 
 use super::{Interval, Load};
 use crate::rule::Rule;
@@ -17,12 +17,12 @@ fn held_sum(a: i32, by: i32) -> i32
     a.saturating_add(by).clamp(-9999, 9999)
 }
 
-// Whether a + by is above the limit.
-fn above(a: i32, by: i32, limit: i32) -> bool
-    requires { limit ≤ℤ pos 999 }
-    ensures { result ≡ int_lt limit (a +ℤ by) }
+// Whether a + by is above the cap.
+fn above(a: i32, by: i32, cap: i32) -> bool
+    requires { cap ≤ℤ pos 999 }
+    ensures { result ≡ int_lt cap (a +ℤ by) }
 {
-    a.saturating_add(by) > limit
+    a.saturating_add(by) > cap
 }
 
 // Whether a + by is below 0.
@@ -45,17 +45,17 @@ impl<'a> Rule for Load<'a> {
 
     ghost serves = { λ r n. r.round.now.n ≡ n };
 
-    ghost sense = { λ r. loadSense r.round.now.n r.round.now.load r.round.now.limit r.round.now.doors };
+    ghost sense = { λ r. load_sense r.round.now.n r.round.now.load r.round.now.cap r.round.now.doors };
 
-    ghost keeps = { λ r w. Within r.round.now.load r.round.now.limit r.round.now.doors w };
+    ghost keeps = { λ r w. Within r.round.now.load r.round.now.cap r.round.now.doors w };
 
     ghost stands = { λ r s w. Between r.round.now.load r.round.now.doors s w };
 
     ghost lawful = { λ r n e.
-        subst (λ (m : ℕ). RuleLaws m (loadSense r.round.now.n r.round.now.load r.round.now.limit r.round.now.doors) (Within r.round.now.load r.round.now.limit r.round.now.doors) (Between r.round.now.load r.round.now.doors)) e
-        (load-lawful r.round.now) };
+        subst (λ (m : ℕ). RuleLaws m (load_sense r.round.now.n r.round.now.load r.round.now.cap r.round.now.doors) (Within r.round.now.load r.round.now.cap r.round.now.doors) (Between r.round.now.load r.round.now.doors)) e
+        (load_lawful r.round.now) };
 
-    ghost reflexive = { λ r s. (load-lawful r.round.now).same_self s };
+    ghost reflexive = { λ r s. (load_lawful r.round.now).same_self s };
 
     fn start(&self) -> Interval {
         let load = i32::from(self.round.load);
@@ -89,7 +89,7 @@ impl<'a> Rule for Load<'a> {
             return false;
         }
         let by = i32::from(self.round.door(j).change);
-        above(s.low, by, i32::from(self.round.limit)) || below_zero(s.high, by)
+        above(s.low, by, i32::from(self.round.cap)) || below_zero(s.high, by)
     }
 
     fn same(&self, s: Interval, t: Interval) -> bool {

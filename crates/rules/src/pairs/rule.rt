@@ -3,9 +3,9 @@ ghost use Rattle.std.specs.Prelude.{◌≡◌, ℕ};
 ghost use Rattle.std.proofs.Common.{subst};
 ghost use Rattle.doors.specs.Orders.{In};
 ghost use Rattle.doors.specs.Sets.{Has};
-ghost use Rattle.rules.specs.Pairs.{Ordered, pairsSense};
+ghost use Rattle.rules.specs.Pairs.{Ordered, pairs_sense};
 ghost use Rattle.rules.specs.Rules.{RuleLaws};
-ghost use Rattle.rules.specs.PairsLaws.{pairs-lawful};
+ghost use Rattle.rules.specs.PairsLaws.{pairs_lawful};
 
 use super::Pairs;
 use crate::rule::Rule;
@@ -25,17 +25,17 @@ impl<'a> Rule for Pairs<'a> {
 
     ghost serves = { λ r n. r.round.now.n ≡ n };
 
-    ghost sense = { λ r. pairsSense r.round.now.n r.round.now.ahead };
+    ghost sense = { λ r. pairs_sense r.round.now.n r.round.now.ahead };
 
     ghost keeps = { λ r w. Ordered r.round.now.ahead w };
 
     ghost stands = { λ r s w. ((j : ℕ) → In j w → Has s j) };
 
     ghost lawful = { λ r n e.
-        subst (λ (m : ℕ). RuleLaws m (pairsSense r.round.now.n r.round.now.ahead) (Ordered r.round.now.ahead) (λ s w. (i : ℕ) → In i w → Has s i)) e
-        (pairs-lawful r.round.now.n r.round.now.ahead) };
+        subst (λ (m : ℕ). RuleLaws m (pairs_sense r.round.now.n r.round.now.ahead) (Ordered r.round.now.ahead) (λ s w. (i : ℕ) → In i w → Has s i)) e
+        (pairs_lawful r.round.now.n r.round.now.ahead) };
 
-    ghost reflexive = { λ r s. (pairs-lawful r.round.now.n r.round.now.ahead).same_self s };
+    ghost reflexive = { λ r s. (pairs_lawful r.round.now.n r.round.now.ahead).same_self s };
 
     fn start(&self) -> DoorSet {
         0

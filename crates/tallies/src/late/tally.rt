@@ -1,7 +1,7 @@
 // `LateDoors` is a tally: late doors, then late minutes summed, compared in that order.
 ghost use Rattle.std.specs.Prelude.{◌≡◌, ◌+◌, ◌*◌, ◌≤◌, min};
 ghost use Rattle.round.specs.Clock.{latest};
-ghost use Rattle.tallies.specs.Late.{lateBy, lateSense};
+ghost use Rattle.tallies.specs.Late.{late_by, late_sense};
 ghost use Rattle.std.proofs.Common.{rules, arith};
 
 use super::LateDoors;
@@ -27,7 +27,7 @@ impl<'a> LateDoors<'a> {
 
     // By how many minutes door j is late, if its work ends at `finish`.
     fn minutes_late(&self, j: usize, finish: u32) -> u32
-        ensures { result ≡ lateBy self.now.round.now.n self.now.round.now.doors j finish }
+        ensures { result ≡ late_by self.now.round.now.n self.now.round.now.doors j finish }
     {
         if self.round.has_door(j) {
             finish.saturating_sub(u32::from(self.round.door(j).due))
@@ -42,7 +42,7 @@ impl<'a> Tally for LateDoors<'a> {
 
     ghost serves = { λ t n. t.round.now.n ≡ n };
 
-    ghost sense = { λ t. lateSense t.round.now.n t.round.now.doors };
+    ghost sense = { λ t. late_sense t.round.now.n t.round.now.doors };
 
     ghost allows = { λ t k v. (v.0 ≤ k) × (v.1 ≤ latest 16 * k) };
 

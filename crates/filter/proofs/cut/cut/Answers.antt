@@ -4,7 +4,7 @@ use Rattle.layers.specs.Shape.{Shaped, Timely}
 use Rattle.layers.specs.Calls.{cut_at, fewer}
 use Rattle.labels.specs.Passes.{fits}
 use Rattle.labels.proofs.Rooms.{room-facts}
-use Rattle.filter.specs.Steps.{timely, arcCount, redone, cutSteps}
+use Rattle.filter.specs.Steps.{timely, arc_count, redone, cut_steps}
 use Rattle.filter.proofs.FilterWords.{cut-words, cut-shaped, cut-timely, fewer-words}
 use Rattle.filter.proofs.TrimNet.{timely-all, timely-from}
 use Rattle.filter.proofs.cut.cut.Goals as goal
@@ -36,7 +36,7 @@ trim-requires g c =
     }
 
 pub returns : goal.returns
-unfolding arcCount cutSteps
+unfolding arc_count cut_steps
 returns g c =
     let r = c.args.round.now in
     let R = g.R.Rule.sense c.args.rule.now in
@@ -52,8 +52,8 @@ returns g c =
     let long₂ : length ys ≡ length c.trim.new.nodes = c.redo.auto.nodes in
     let long : length ys ≡ length xs = long₂ ∙ long₁ in
     let yes' : fits r.n W (length ys) ≡ true = ap (fits r.n W) long ∙ yes in
-    let is : ys ≡ cutSteps r R T W v xs = c.redo.ensures ∙ ap (redone r R T W) (c.trim.ensures R) in
-    let count : c.saturating_sub.result ≡ arcCount r.n W xs - arcCount r.n W ys =
+    let is : ys ≡ cut_steps r R T W v xs = c.redo.ensures ∙ ap (redone r R T W) (c.trim.ensures R) in
+    let count : c.saturating_sub.result ≡ arc_count r.n W xs - arc_count r.n W ys =
     c.saturating_sub.ensures
     ∙ ap₂ (λ (a b : ℕ). a - b) (c.count_arcs-before.ensures ∙ cond-true (fits r.n W (length xs)) _ _ yes) (c.count_arcs-left.ensures ∙ cond-true (fits r.n W (length ys)) _ _ yes') in
     record {

@@ -2,8 +2,8 @@ use Rattle.std.proofs.Common.{◌≡◌, ℕ, suc, ◌+◌, ◌-◌, ◌*◌, �
 use Rattle.std.proofs.lemmas.List.{length-take-le}
 use Rattle.layers.specs.declared.node.Node.{Node}
 use Rattle.labels.proofs.Rests.{one_more, one-fits, rest-fits}
-use Rattle.tidying.specs.Counted.{arcsWithin}
-use Rattle.filter.specs.Thinned.{after, thinnedNode, thinnedFrom}
+use Rattle.tidying.specs.Counted.{arcs_within}
+use Rattle.filter.specs.Thinned.{after, thinned_node, thinned_from}
 use Rattle.filter.proofs.Kept.{arcs-none, kept_more}
 use Rattle.filter.proofs.Layering.{next-there}
 use Rattle.filter.proofs.quiet.+kept_from.Goals as goal
@@ -11,7 +11,7 @@ use Rattle.filter.proofs.quiet.+kept_from.Goals as goal
 pub returns-then-left-eq0-clause-many : goal.returns-then-left-eq0-clause-many
 returns-then-left-eq0-clause-many g t c tally =
     let none : c.args.left ≡ 0 = c.if-left-eq0.true in
-    sym (ap (λ (k : ℕ). arcsWithin (take (k * c.args.w) (thinnedFrom c.args.round.now (g.R.Rule.sense c.args.rule.now) tally c.args.w c.args.i c.args.left c.args.nodes.now))) none ∙ arcs-none c.args.w _)
+    sym (ap (λ (k : ℕ). arcs_within (take (k * c.args.w) (thinned_from c.args.round.now (g.R.Rule.sense c.args.rule.now) tally c.args.w c.args.i c.args.left c.args.nodes.now))) none ∙ arcs-none c.args.w _)
 
 pub split_at-requires : goal.split_at-requires
 split_at-requires g t c = let h : c.args.w < length c.args.nodes.now = one-fits c.args.left c.args.w _ c.if-left-eq0.false c.requires.w_in_bounds in omega arith
@@ -43,11 +43,11 @@ returns-clause-many g t c tally =
     let parts = c.split_at.ensures in
     let nexts : take c.next_count-m.result c.split_at.result.1.now ≡ take (after w left) (drop w xs) =
     ap₂ (λ (m : ℕ) (vs : List (Node g.row.R-State.Denot g.row.V.Denot)). take m vs) c.next_count-m.ensures parts.back in
-    let here : c.kept_in-here.result ≡ arcsWithin (map (thinnedNode r R tally i (take (after w left) (drop w xs))) (take w xs)) =
-    c.kept_in-here.ensures.many tally ∙ ap₂ (λ (vs us : List (Node g.row.R-State.Denot g.row.V.Denot)). arcsWithin (map (thinnedNode r R tally i vs) us)) nexts parts.front in
-    let later : c.kept_from-later.result ≡ arcsWithin (take (left * w) (thinnedFrom r R tally w (suc i) left (drop w xs))) =
+    let here : c.kept_in-here.result ≡ arcs_within (map (thinned_node r R tally i (take (after w left) (drop w xs))) (take w xs)) =
+    c.kept_in-here.ensures.many tally ∙ ap₂ (λ (vs us : List (Node g.row.R-State.Denot g.row.V.Denot)). arcs_within (map (thinned_node r R tally i vs) us)) nexts parts.front in
+    let later : c.kept_from-later.result ≡ arcs_within (take (left * w) (thinned_from r R tally w (suc i) left (drop w xs))) =
     c.kept_from-later.ensures.many tally
-    ∙ ap₂ (λ (k : ℕ) (us : List (Node g.row.R-State.Denot g.row.V.Denot)). arcsWithin (take (left * w) (thinnedFrom r R tally w k left us))) (add-one i) parts.back in
+    ∙ ap₂ (λ (k : ℕ) (us : List (Node g.row.R-State.Denot g.row.V.Denot)). arcs_within (take (left * w) (thinned_from r R tally w k left us))) (add-one i) parts.back in
     ap₂ (λ (a b : ℕ). a + b) here later ∙ sym (kept_more r R tally w i c.args.left xs ne (omega arith))
 
 pub returns-clause-few : goal.returns-clause-few

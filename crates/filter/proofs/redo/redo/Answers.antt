@@ -1,8 +1,8 @@
 use Rattle.std.proofs.Common.{◌≡◌, true, length, ap, ◌∙◌}
 use Rattle.std.proofs.lemmas.Bool.{cond-true}
 use Rattle.layers.specs.declared.node.Node.{Node}
-use Rattle.labels.specs.Passes.{fits, blankNode, relabelled}
-use Rattle.tidying.specs.Tidied.{tidied, firstMark}
+use Rattle.labels.specs.Passes.{fits, blank_node, relabelled}
+use Rattle.tidying.specs.Tidied.{tidied, first_mark}
 use Rattle.filter.specs.Steps.{redone}
 use Rattle.filter.proofs.redo.redo.Goals as goal
 
@@ -15,8 +15,8 @@ returns g c =
     let W = c.args.width in
     let xs = c.args.nodes.now in
     let ys = c.tidy.new.nodes in
-    let is : ys ≡ tidied W (blankNode r R T) r.n firstMark xs =
-    c.tidy.ensures.records ∙ cond-true (fits r.n W (length xs)) _ _ c.requires ∙ ap (λ (z : Node g.row.R-State.Denot g.row.T-Value.Denot). tidied W z r.n firstMark xs) (c.blank_node-blank.ensures r) in
+    let is : ys ≡ tidied W (blank_node r R T) r.n first_mark xs =
+    c.tidy.ensures.records ∙ cond-true (fits r.n W (length xs)) _ _ c.requires ∙ ap (λ (z : Node g.row.R-State.Denot g.row.T-Value.Denot). tidied W z r.n first_mark xs) (c.blank_node-blank.ensures r) in
     let long : length ys ≡ length xs = c.tidy.auto.nodes in
     let room : fits r.n W (length ys) ≡ true = ap (fits r.n W) long ∙ c.requires in
     c.relabel.ensures.passes ∙ cond-true (fits r.n W (length ys)) _ _ room ∙ ap (relabelled r R T W) is

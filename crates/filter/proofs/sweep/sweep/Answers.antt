@@ -3,12 +3,12 @@ use Rattle.std.proofs.lemmas.Bool.{cond-true}
 use Rattle.layers.specs.Shape.{Shaped, Timely}
 use Rattle.layers.specs.Calls.{swept, fewer}
 use Rattle.labels.specs.Passes.{fits}
-use Rattle.filter.specs.Steps.{arcCount, redone, sweepSteps}
+use Rattle.filter.specs.Steps.{arc_count, redone, sweep_steps}
 use Rattle.filter.proofs.FilterWords.{sweep-words, swept-shaped, swept-timely, fewer-words}
 use Rattle.filter.proofs.sweep.sweep.Goals as goal
 
 pub returns : goal.returns
-unfolding arcCount sweepSteps
+unfolding arc_count sweep_steps
 returns g c =
     let r = c.args.round.now in
     let R = g.R.Rule.sense c.args.rule.now in
@@ -21,8 +21,8 @@ returns g c =
     let long₂ : length ys ≡ length c.thin_from.new.nodes = c.redo.auto.nodes in
     let long : length ys ≡ length xs = long₂ ∙ long₁ in
     let yes' : fits r.n W (length ys) ≡ true = ap (fits r.n W) long ∙ yes in
-    let is : ys ≡ sweepSteps r R T W xs = c.redo.ensures ∙ ap (redone r R T W) (c.thin_from.ensures T) in
-    let count : c.saturating_sub.result ≡ arcCount r.n W xs - arcCount r.n W ys =
+    let is : ys ≡ sweep_steps r R T W xs = c.redo.ensures ∙ ap (redone r R T W) (c.thin_from.ensures T) in
+    let count : c.saturating_sub.result ≡ arc_count r.n W xs - arc_count r.n W ys =
     c.saturating_sub.ensures
     ∙ ap₂ (λ (a b : ℕ). a - b) (c.count_arcs-before.ensures ∙ cond-true (fits r.n W (length xs)) _ _ yes) (c.count_arcs-left.ensures ∙ cond-true (fits r.n W (length ys)) _ _ yes') in
     record {

@@ -17,4 +17,4 @@ returns g c q =
     let T = g.T.Tally.sense c.args.tally.now in
     let f = c.finish-finish.ensures.value in
     let value : c.step-value.result ≡ (arrive c.args.round.now q T c.args.u.now c.args.j).value = cc in
-    ap not (c.not_above.ensures ∙ ap (λ v. T.notAbove v c.args.ceiling) value)
+    ap not (c.not_above.ensures ∙ ap (λ v. T.not_above v c.args.ceiling) value)

@@ -1,7 +1,7 @@
 use Rattle.std.proofs.Common.{◌+◌, ◌<◌, ◌≤◌, ◌++◌, map, length, get_or, drop, set, sym, ap, ◌∙◌, append-nil, arith, drop-set-lt}
 use Rattle.std.proofs.lemmas.List.{drop_all, take_all, get_or_default, drop-drop}
 use Rattle.std.proofs.lemmas.List.Edits.{map_over_more}
-use Rattle.filter.specs.Trimmed.{trimmedNode}
+use Rattle.filter.specs.Trimmed.{trimmed_node}
 use Rattle.filter.proofs.trim.trim_each.Goals as goal
 
 pub loop-u-preserved : goal.loop-u-preserved
@@ -12,7 +12,7 @@ loop-u-preserved g c =
     let x = get_or ys p c.u-item.result in
     let past : p < p + 1 = omega arith in (
       λ q.
-          let f = trimmedNode c.args.round.now q (g.T.Tally.sense c.args.tally.now) c.args.ceiling in
+          let f = trimmed_node c.args.round.now q (g.T.Tally.sense c.args.tally.now) c.args.ceiling in
           ap (set ys p) (c.trim_node.ensures q) ∙ map_over_more f E ys p x (omega arith) (c.loop-u.invariant.0 q) (get_or_default ys p c.u-item.result x (omega arith)),
       drop-set-lt (p + 1) ys p c.trim_node.result past
           ∙ sym (drop-drop 1 p ys)
@@ -24,6 +24,6 @@ pub returns : goal.returns
 returns g c q =
     let us = c.args.us.now in
     let p = c.loop-u.u-index in
-    let f = trimmedNode c.args.round.now q (g.T.Tally.sense c.args.tally.now) c.args.ceiling in
+    let f = trimmed_node c.args.round.now q (g.T.Tally.sense c.args.tally.now) c.args.ceiling in
     let past : length us ≤ p = omega arith in
     c.loop-u.invariant.0 q ∙ ap (λ ys. map f ys ++ drop p us) (take_all p us past) ∙ ap (λ ys. map f us ++ ys) (drop_all p us past) ∙ append-nil (map f us)

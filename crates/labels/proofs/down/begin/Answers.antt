@@ -5,13 +5,13 @@ use Rattle.tallies.specs.Tallies.{TallySense}
 use Rattle.layers.specs.declared.node.Node.{Node}
 use Rattle.layers.specs.declared.node.Down.{Down}
 use Rattle.layers.specs.Labels.{first}
-use Rattle.labels.specs.Passes.{part, withDown, cleared, firstLayer, begun}
+use Rattle.labels.specs.Passes.{part, with_down, cleared, first_layer, begun}
 use Rattle.labels.proofs.Earlies.{first-long}
 use Rattle.labels.proofs.Overs.{length_part}
 use Rattle.labels.proofs.down.begin.Goals as goal
 
 set_first : {S V : Type 0} (r : Round) (R : RuleSense S) (T : TallySense V) (us rest : List (Node S V)) (d : Node S V) → 0 < length us
-    → set (map (cleared r R T) us ++ rest) 0 (withDown (get_or (map (cleared r R T) us ++ rest) 0 d) (first r R T)) ≡ firstLayer r R T us ++ rest
+    → set (map (cleared r R T) us ++ rest) 0 (with_down (get_or (map (cleared r R T) us ++ rest) 0 d) (first r R T)) ≡ first_layer r R T us ++ rest
 set_first r R T [] rest d h = absurd (omega arith)
 set_first r R T (u ∷ us) rest d h = refl
 
@@ -24,7 +24,7 @@ returns g c r =
     let w = c.args.width in
     let d = c.index-nodes-0.result in
     let us = part 0 w xs in
-    let long : w ≡ 0 + length (firstLayer r R T us) = omega (arith, first-long r R T us, length_part 0 w xs (omega arith)) in
-    ap₂ (λ (vs : List (Node g.row.R-State.Denot g.row.T-Value.Denot)) (l : Down g.row.R-State.Denot g.row.T-Value.Denot). set (vs ++ drop w xs) 0 (withDown (get_or (vs ++ drop w xs) 0 d) l)) (c.clear.ensures r) (c.at_first.ensures r)
+    let long : w ≡ 0 + length (first_layer r R T us) = omega (arith, first-long r R T us, length_part 0 w xs (omega arith)) in
+    ap₂ (λ (vs : List (Node g.row.R-State.Denot g.row.T-Value.Denot)) (l : Down g.row.R-State.Denot g.row.T-Value.Denot). set (vs ++ drop w xs) 0 (with_down (get_or (vs ++ drop w xs) 0 d) l)) (c.clear.ensures r) (c.at_first.ensures r)
     ∙ set_first r R T us (drop w xs) d (omega (arith, length_part 0 w xs (omega arith)))
-    ∙ ap (λ n. firstLayer r R T us ++ drop n xs) long
+    ∙ ap (λ n. first_layer r R T us ++ drop n xs) long

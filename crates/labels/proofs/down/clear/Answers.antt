@@ -2,7 +2,7 @@ use Rattle.std.proofs.Common.{◌++◌, map, drop, set, sym, ap, ◌∙◌, appe
 use Rattle.std.proofs.lemmas.List.Edits.{map_over_more}
 use Rattle.std.proofs.lemmas.List.{take_all, drop_all}
 use Rattle.layers.specs.declared.node.Node.{Node}
-use Rattle.labels.specs.Passes.{withDown, cleared}
+use Rattle.labels.specs.Passes.{with_down, cleared}
 use Rattle.labels.proofs.down.clear.Goals as goal
 
 pub loop-v-preserved : goal.loop-v-preserved
@@ -11,8 +11,8 @@ loop-v-preserved g c r =
     let ys = c.loop-v.vs in
     let i = c.loop-v.v-index in
     let x = c.v-item.result in
-    ap (λ (v : Node g.row.R-State.Denot g.row.T-Value.Denot). set ys i (withDown v c.unreached-blank.result)) (sym c.v-item.is)
-    ∙ ap (λ l. set ys i (withDown x l)) (c.unreached-blank.ensures r)
+    ap (λ (v : Node g.row.R-State.Denot g.row.T-Value.Denot). set ys i (with_down v c.unreached-blank.result)) (sym c.v-item.is)
+    ∙ ap (λ l. set ys i (with_down x l)) (c.unreached-blank.ensures r)
     ∙ map_over_more f c.args.vs.now ys i x (omega arith) (c.loop-v.invariant r) c.v-item.is
 
 pub returns : goal.returns

@@ -1,7 +1,7 @@
 use Rattle.std.proofs.Common.{◌≡◌, ◌+◌, ◌-◌, ◌*◌, sym, ap, ◌∙◌, subst, mul-le-mul_right, add-mul, one-mul, add-one, arith}
 use Rattle.std.specs.List.{AllByRecursion as All}
 use Rattle.round.specs.Clock.{latest}
-use Rattle.labels.specs.Passes.{part, Early, layerDone, layersDone, passDown}
+use Rattle.labels.specs.Passes.{part, Early, layer_done, layers_done, pass_down}
 use Rattle.labels.proofs.Earlies.{next-ends, layers-ready}
 use Rattle.labels.proofs.down.label_down.Goals as goal
 
@@ -21,7 +21,7 @@ relabel_layer-requires g c =
     let i = c.loop-i.i in record {
       width_bound = omega (arith, add-mul i 1 w, one-mul w);
       count_in_bounds = omega (arith, next-ends r R T w xs c.requires.width_in_bounds i (omega arith));
-      all_early = subst (λ ys. All (Early (latest 15)) (part (i * w) w ys)) (sym (c.loop-i.invariant ∙ ap (layersDone r R T w i) (c.begin.ensures r)))
+      all_early = subst (λ ys. All (Early (latest 15)) (part (i * w) w ys)) (sym (c.loop-i.invariant ∙ ap (layers_done r R T w i) (c.begin.ensures r)))
           (layers-ready r R T w xs c.requires.width_in_bounds i (omega arith));
     }
 
@@ -37,7 +37,7 @@ relabel_layer-requires-2 g c =
     let last : n - 1 + 1 ≡ n = omega (arith, c.args.round.now.one) in record {
       width_bound = omega (arith, add-mul (n - 1) 1 w, one-mul w, ap (λ k. k * w) last);
       count_in_bounds = omega arith;
-      all_early = subst (λ ys. All (Early (latest 15)) (part ((n - 1) * w) w ys)) (sym (c.loop-i.invariant ∙ ap (λ k. layersDone r R T w k c.begin.new.nodes) all ∙ ap (layersDone r R T w (n - 1)) (c.begin.ensures r)))
+      all_early = subst (λ ys. All (Early (latest 15)) (part ((n - 1) * w) w ys)) (sym (c.loop-i.invariant ∙ ap (λ k. layers_done r R T w k c.begin.new.nodes) all ∙ ap (layers_done r R T w (n - 1)) (c.begin.ensures r)))
           (layers-ready r R T w xs c.requires.width_in_bounds (n - 1) (omega (arith, c.args.round.now.one)));
     }
 
@@ -49,11 +49,11 @@ loop-i-preserved g c =
     let w = c.args.width in
     let i = c.loop-i.i in
     c.relabel_layer.ensures
-    ∙ ap (layerDone r R T w (i * w) w ((i + 1) * w)) c.loop-i.invariant
-    ∙ ap (λ k. layersDone r R T w k c.begin.new.nodes) (sym (add-one i))
+    ∙ ap (layer_done r R T w (i * w) w ((i + 1) * w)) c.loop-i.invariant
+    ∙ ap (λ k. layers_done r R T w k c.begin.new.nodes) (sym (add-one i))
 
 pub returns : goal.returns
-unfolding passDown
+unfolding pass_down
 returns g c =
     let r = c.args.round.now in
     let R = g.R.Rule.sense c.args.rule.now in
@@ -62,4 +62,4 @@ returns g c =
     let n = r.n in
     let all : c.loop-i.i ≡ n - 1 = omega arith in
     c.relabel_layer-2.ensures
-    ∙ ap (layerDone r R T w ((n - 1) * w) 1 (n * w)) (c.loop-i.invariant ∙ ap (λ k. layersDone r R T w k c.begin.new.nodes) all ∙ ap (layersDone r R T w (n - 1)) (c.begin.ensures r))
+    ∙ ap (layer_done r R T w ((n - 1) * w) 1 (n * w)) (c.loop-i.invariant ∙ ap (λ k. layers_done r R T w k c.begin.new.nodes) all ∙ ap (layers_done r R T w (n - 1)) (c.begin.ensures r))

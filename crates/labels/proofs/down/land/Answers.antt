@@ -6,7 +6,7 @@ use Rattle.layers.specs.declared.node.Node.{Node}
 use Rattle.layers.specs.declared.node.Down.{Down}
 use Rattle.layers.specs.Labels.{merge}
 use Rattle.round.specs.declared.table.Round.{Round}
-use Rattle.labels.specs.Passes.{withDown, blankNode, taken, landed}
+use Rattle.labels.specs.Passes.{with_down, blank_node, taken, landed}
 use Rattle.labels.proofs.down.land.Goals as goal
 use Rattle.labels.proofs.down.land.Goals.{then-got-eq0, else-got-eq0}
 
@@ -27,7 +27,7 @@ returns g c r =
     let vs = c.args.vs.now in
     let b = c.args.b in
     let x = c.args.x.now in
-    let z = blankNode r R T in
+    let z = blank_node r R T in
     let got = (get_or vs b c.index-vs-b.result).label.down in
     let down : c.if-got-eq0.down ≡ taken r R T got x =
     elim c.if-got-eq0.branch [
@@ -35,6 +35,6 @@ returns g c r =
       | else-got-eq0 w ↦ w.down-is ∙ w.merge-down.ensures r ∙ merged r R T got x w.if-got-eq0.false
     ] in
     ap (set vs b)
-    (ap (λ l. withDown (get_or vs b c.index-vs-b-2.result) l)
+    (ap (λ l. with_down (get_or vs b c.index-vs-b-2.result) l)
     (down ∙ ap (λ (v : Node g.row.R-State.Denot g.row.T-Value.Denot). taken r R T v.label.down x) (get_or_default vs b c.index-vs-b.result z c.requires))
-    ∙ ap (λ (v : Node g.row.R-State.Denot g.row.T-Value.Denot). withDown v (taken r R T (get_or vs b z).label.down x)) (get_or_default vs b c.index-vs-b-2.result z c.requires))
+    ∙ ap (λ (v : Node g.row.R-State.Denot g.row.T-Value.Denot). with_down v (taken r R T (get_or vs b z).label.down x)) (get_or_default vs b c.index-vs-b-2.result z c.requires))

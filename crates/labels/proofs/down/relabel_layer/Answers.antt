@@ -3,7 +3,7 @@ use Rattle.std.proofs.lemmas.List.Sums.{fold_more}
 use Rattle.std.proofs.ByRecursion.{All-get_or}
 use Rattle.std.proofs.lemmas.List.{length-map, length-take-le, take_all, drop-drop}
 use Rattle.round.specs.Clock.{latest}
-use Rattle.labels.specs.Passes.{part, Early, nextLayer, layerDone, cleared, spread}
+use Rattle.labels.specs.Passes.{part, Early, next_layer, layer_done, cleared, spread}
 use Rattle.labels.proofs.Overs.{part-front, get_d_part, length_part}
 use Rattle.labels.proofs.Scattered.{spreads-long, spreads-layer}
 use Rattle.labels.proofs.down.relabel_layer.Goals as goal
@@ -46,7 +46,7 @@ loop-a-preserved g c =
     ∙ sym (fold_more f c.clear.new.vs (part from w before) a d (omega (arith, long)))
 
 pub returns : goal.returns
-unfolding layerDone
+unfolding layer_done
 returns g c =
     let r = c.args.round.now in
     let R = g.R.Rule.sense c.args.rule.now in
@@ -61,7 +61,7 @@ returns g c =
     let rest = c.split_at_mut-before.result.1.now in
     let us = part from w xs in
     let vs = part at n xs in
-    let done = nextLayer r R T us vs in
+    let done = next_layer r R T us vs in
     let front : before ≡ take at xs = cc in
     let back : rest ≡ drop at xs = cc in
     let sources : part from w before ≡ us = ap (part from w) front ∙ part-front from w at xs (omega arith) in

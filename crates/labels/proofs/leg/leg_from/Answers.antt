@@ -4,7 +4,7 @@ use Rattle.std.specs.Option.{unwrap_or}
 use Rattle.doors.specs.Sets.{has}
 use Rattle.round.specs.declared.table.Round.{Round}
 use Rattle.round.specs.Clock.{drive}
-use Rattle.layers.specs.Labels.{nearest, nearestIf, legStep, or_zero, leg}
+use Rattle.layers.specs.Labels.{nearest, nearest_if, leg_step, or_zero, leg}
 use Rattle.labels.proofs.Folds.{folded-counting}
 use Rattle.labels.proofs.leg.leg_from.Goals as goal
 use Rattle.labels.proofs.leg.leg_from.Goals.{then-contains+then-i-j, else-contains, else-contains-via-then-contains+else-i-j, else-contains-via-else-contains}
@@ -14,17 +14,17 @@ or_zero_is None = refl
 or_zero_is (Some d) = refl
 
 module _ (r : Round) (m j : ℕ) (o : Option ℕ) (i : ℕ) where
-  came : has m i ≡ true → (i ≡ j → ⊥) → nearest o (drive r i j) ≡ legStep r m j o i
-  unfolding legStep
-  came h ne = ap₂ (λ (a b : Bool). nearestIf (a && not b) o (drive r i j)) (sym h) (sym (ne_eqb i j ne))
+  came : has m i ≡ true → (i ≡ j → ⊥) → nearest o (drive r i j) ≡ leg_step r m j o i
+  unfolding leg_step
+  came h ne = ap₂ (λ (a b : Bool). nearest_if (a && not b) o (drive r i j)) (sym h) (sym (ne_eqb i j ne))
 
-  stayed : has m i ≡ true → i ≡ j → o ≡ legStep r m j o i
-  unfolding legStep
-  stayed h e = ap₂ (λ (a b : Bool). nearestIf (a && not b) o (drive r i j)) (sym h) (sym (eq-eqb i j e))
+  stayed : has m i ≡ true → i ≡ j → o ≡ leg_step r m j o i
+  unfolding leg_step
+  stayed h e = ap₂ (λ (a b : Bool). nearest_if (a && not b) o (drive r i j)) (sym h) (sym (eq-eqb i j e))
 
-  absent : has m i ≡ false → o ≡ legStep r m j o i
-  unfolding legStep
-  absent h = ap (λ (a : Bool). nearestIf (a && not (eqb i j)) o (drive r i j)) (sym h)
+  absent : has m i ≡ false → o ≡ leg_step r m j o i
+  unfolding leg_step
+  absent h = ap (λ (a : Bool). nearest_if (a && not (eqb i j)) o (drive r i j)) (sym h)
 
 pub loop-i-preserved : goal.loop-i-preserved
 loop-i-preserved c =
@@ -33,7 +33,7 @@ loop-i-preserved c =
     let j = c.args.j in
     let o = c.loop-i.best in
     let i = c.loop-i.i in
-    let more : c.if-contains.best ≡ legStep r m j o i =
+    let more : c.if-contains.best ≡ leg_step r m j o i =
     elim c.if-contains.branch [
       | then-contains+then-i-j w ↦ w.best-is ∙ w.nearer-best.ensures ∙ ap (nearest o) w.drive.ensures.value ∙ came r m j o i (sym c.contains.ensures ∙ w.if-contains.true) w.if-i-j.true
       | else-contains w ↦
@@ -43,11 +43,11 @@ loop-i-preserved c =
             | else-contains-via-else-contains v ↦ absent r m j o i (sym c.contains.ensures ∙ v.if-contains.false)
           ]
     ] in
-    more ∙ ap (λ o. legStep r m j o i) c.loop-i.invariant ∙ sym (folded-counting (legStep r m j) None i)
+    more ∙ ap (λ o. leg_step r m j o i) c.loop-i.invariant ∙ sym (folded-counting (leg_step r m j) None i)
 
 pub returns : goal.returns
 unfolding leg
 returns c =
-    let f = legStep c.args.round.now c.args.lasts c.args.j in
+    let f = leg_step c.args.round.now c.args.lasts c.args.j in
     let all : c.loop-i.i ≡ c.args.round.now.n + 1 = omega arith in
     c.unwrap_or.ensures ∙ or_zero_is c.loop-i.best ∙ ap or_zero (c.loop-i.invariant ∙ ap (λ k. fold f None (range_with_len 0 k)) all)

@@ -1,6 +1,6 @@
 use Rattle.std.proofs.Common.{◌≡◌, true, false, length, sym, ap, ◌∙◌, arith}
 use Rattle.std.proofs.lemmas.Bool.{cond-true, cond-false}
-use Rattle.labels.specs.Passes.{fits, passUp, relabelled}
+use Rattle.labels.specs.Passes.{fits, pass_up, relabelled}
 use Rattle.labels.proofs.Laying.{relabelled-read}
 use Rattle.labels.proofs.Rooms.{room-facts, room-from}
 use Rattle.labels.proofs.relabel.relabel.Goals as goal
@@ -23,7 +23,7 @@ returns-then-has_room g c =
     let xs = c.args.nodes.now in
     let R = g.R.Rule.sense c.args.rule.now in
     let T = g.T.Tally.sense c.args.tally.now in
-    let is : c.label_up.new.nodes ≡ relabelled r R T w xs = c.label_up.ensures ∙ ap (passUp r.n w) c.label_down.ensures in
+    let is : c.label_up.new.nodes ≡ relabelled r R T w xs = c.label_up.ensures ∙ ap (pass_up r.n w) c.label_down.ensures in
     let f = room-facts _ _ _ (sym c.if-has_room.ensures) in
     let yes : fits r.n w (length xs) ≡ true = room-from r.n w (length xs) f.low f.high (omega (arith, f.enough)) in
     record {

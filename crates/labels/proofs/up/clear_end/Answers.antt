@@ -1,7 +1,7 @@
 use Rattle.std.proofs.Common.{◌≡◌, ℕ, zero, suc, ◌+◌, ◌<◌, List, [], ◌∷◌, ◌++◌, map, length, get_or, take, drop, set, sym, refl, ap, ◌∙◌, arith}
 use Rattle.layers.specs.declared.node.Node.{Node}
-use Rattle.layers.specs.Labels.{noUp}
-use Rattle.labels.specs.Passes.{withUp}
+use Rattle.layers.specs.Labels.{no_up}
+use Rattle.labels.specs.Passes.{with_up}
 use Rattle.labels.proofs.up.clear_end.Goals as goal
 
 -- one place, changed by f
@@ -17,7 +17,7 @@ one-long f (x ∷ xs) (suc k) h = let e = one-long f xs k (omega arith) in omega
 
 pub returns : goal.returns
 returns g c =
-    let f : Node g.row.S.Denot g.row.V.Denot → Node g.row.S.Denot g.row.V.Denot = λ x. withUp x noUp in
+    let f : Node g.row.S.Denot g.row.V.Denot → Node g.row.S.Denot g.row.V.Denot = λ x. with_up x no_up in
     let xs = c.args.nodes.now in
     let at = c.args.at in
     changed f xs at c.index-nodes-at.result c.requires

@@ -1,5 +1,5 @@
 use Rattle.std.proofs.Common.{◌≡◌, suc, ◌+◌, ◌-◌, ◌*◌, ◌≤◌, ap, ◌∙◌, mul-le-mul_right, add-mul, one-mul, arith}
-use Rattle.labels.specs.Passes.{layerUp, layersUp, passUp}
+use Rattle.labels.specs.Passes.{layer_up, layers_up, pass_up}
 use Rattle.labels.proofs.up.label_up.Goals as goal
 
 pub rise_layer-requires : goal.rise_layer-requires
@@ -27,11 +27,11 @@ loop-i-preserved g c =
     let i = c.loop-i.i - 1 in
     let w = c.args.width in
     let e : suc i ≡ c.loop-i.i = omega arith in
-    (omega arith, ap (layersUp w i) c.rise_layer-in-loop-i.ensures ∙ ap (λ k. layersUp w k c.loop-i.nodes) e ∙ c.loop-i.invariant.1)
+    (omega arith, ap (layers_up w i) c.rise_layer-in-loop-i.ensures ∙ ap (λ k. layers_up w k c.loop-i.nodes) e ∙ c.loop-i.invariant.1)
 
 pub returns : goal.returns
-unfolding passUp
+unfolding pass_up
 returns g c =
     let w = c.args.width in
     let e : 0 ≡ c.loop-i.i = omega arith in
-    ap (λ k. layersUp w k c.loop-i.nodes) e ∙ c.loop-i.invariant.1 ∙ ap (layersUp w (c.args.n - 1)) (c.rise_layer.ensures ∙ ap (layerUp ((c.args.n - 1) * w) w (c.args.n * w) 1) c.clear_end.ensures)
+    ap (λ k. layers_up w k c.loop-i.nodes) e ∙ c.loop-i.invariant.1 ∙ ap (layers_up w (c.args.n - 1)) (c.rise_layer.ensures ∙ ap (layer_up ((c.args.n - 1) * w) w (c.args.n * w) 1) c.clear_end.ensures)

@@ -3,7 +3,7 @@ use borrow.Rule.Slice.PartMut.{put_mid}
 use Rattle.std.proofs.lemmas.List.{length-map, take_all, drop_all}
 use Rattle.std.proofs.lemmas.List.Edits.{map_over_more}
 use Rattle.layers.specs.declared.node.Node.{Node}
-use Rattle.labels.specs.Passes.{part, withUp, upsOf, gatheredUp, risen, layerUp}
+use Rattle.labels.specs.Passes.{part, with_up, ups_of, gathered_up, risen, layer_up}
 use Rattle.labels.proofs.Overs.{part_of, part-front, put-front, length_part}
 use Rattle.labels.proofs.up.rise_layer.Goals as goal
 
@@ -15,13 +15,13 @@ loop-u-preserved g c =
     let ys = c.loop-u.u-items in
     let i = c.loop-u.u-index in
     let x = c.u-item.result in
-    let up : c.climb_all-up.result ≡ gatheredUp (upsOf vs x) =
-    c.climb_all-up.ensures ∙ ap (λ (v : Node g.row.S.Denot g.row.V.Denot). gatheredUp (upsOf vs v)) (sym c.u-item.is) in
-    ap (set ys i) (ap₂ (λ v l. withUp v l) (sym c.u-item.is) up)
+    let up : c.climb_all-up.result ≡ gathered_up (ups_of vs x) =
+    c.climb_all-up.ensures ∙ ap (λ (v : Node g.row.S.Denot g.row.V.Denot). gathered_up (ups_of vs v)) (sym c.u-item.is) in
+    ap (set ys i) (ap₂ (λ v l. with_up v l) (sym c.u-item.is) up)
     ∙ map_over_more (risen vs) us ys i x (omega arith) c.loop-u.invariant c.u-item.is
 
 pub returns : goal.returns
-unfolding layerUp
+unfolding layer_up
 returns g c =
     let xs = c.args.nodes.now in
     let at = c.args.at in

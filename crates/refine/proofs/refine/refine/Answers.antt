@@ -4,14 +4,14 @@ use Rattle.layers.specs.declared.node.Node.{Node}
 use Rattle.layers.specs.Calls.{refined}
 use Rattle.layers.specs.Shape.{Shaped, Timely}
 use Rattle.labels.specs.Passes.{fits}
-use Rattle.filter.specs.Steps.{arcCount}
+use Rattle.filter.specs.Steps.{arc_count}
 use Rattle.refine.specs.Answers.{answer_of}
-use Rattle.refine.specs.Steps.{someLayers, sweepsOut, refineSteps}
+use Rattle.refine.specs.Steps.{some_layers, sweeps_out, refine_steps}
 use Rattle.refine.proofs.RefineWords.{refine-words, refined-shaped, refined-timely}
 use Rattle.refine.proofs.refine.refine.Goals as goal
 
 pub returns : goal.returns
-unfolding refineSteps
+unfolding refine_steps
 returns g c =
     let r = c.args.round.now in
     let R = g.R.Rule.sense c.args.rule.now in
@@ -21,10 +21,10 @@ returns g c =
     let xs = c.args.nodes.now in
     let ys = c.sweep_out.new.nodes in
     let yes : fits r.n W (length xs) ≡ true = sym c.if-not-has_room.ensures in
-    let p = someLayers r R T W (r.n - 1) 1 xs in
+    let p = some_layers r R T W (r.n - 1) 1 xs in
     let left : c.refine_layers-answer.new.nodes ≡ p.1 = c.refine_layers-answer.ensures.records in
-    let is : ys ≡ (refineSteps r R T W xs).1 = c.sweep_out.ensures ∙ ap (λ (zs : List (Node g.row.R-State.Denot g.row.T-Value.Denot)). sweepsOut r R T W (suc (arcCount r.n W zs)) zs) left in
-    let said : answer_of c.refine_layers-answer.result ≡ (refineSteps r R T W xs).0 = c.refine_layers-answer.ensures.answer in
+    let is : ys ≡ (refine_steps r R T W xs).1 = c.sweep_out.ensures ∙ ap (λ (zs : List (Node g.row.R-State.Denot g.row.T-Value.Denot)). sweeps_out r R T W (suc (arc_count r.n W zs)) zs) left in
+    let said : answer_of c.refine_layers-answer.result ≡ (refine_steps r R T W xs).0 = c.refine_layers-answer.ensures.answer in
     record {
       steps = is ∙ sym (cond-true (fits r.n W (length xs)) _ _ yes);
       answer = said ∙ sym (cond-true (fits r.n W (length xs)) _ _ yes);

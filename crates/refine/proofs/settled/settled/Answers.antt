@@ -1,11 +1,11 @@
 use Rattle.std.proofs.Common.{◌≡◌, ◌-◌, Bool, true, false, cond, ◌&&◌, length, sym, refl, ap, ◌∙◌, ap₂}
 use Rattle.std.proofs.lemmas.Bool.{cond-true, both_ways}
-use Rattle.layers.specs.Calls.{nodes, agreedAll, quietFrom, settled}
+use Rattle.layers.specs.Calls.{nodes, agreed_all, quiet_from, settled}
 use Rattle.labels.specs.Passes.{fits}
 use Rattle.labels.proofs.Rooms.{room-facts}
-use Rattle.filter.specs.Steps.{quietSteps}
-use Rattle.split.specs.Steps.{agreedSteps, agreedLayers}
-use Rattle.refine.specs.Steps.{settledSteps}
+use Rattle.filter.specs.Steps.{quiet_steps}
+use Rattle.split.specs.Steps.{agreed_steps, agreed_layers}
+use Rattle.refine.specs.Steps.{settled_steps}
 use Rattle.refine.proofs.settled.settled.Goals as goal
 
 -- only a list that fits is agreed
@@ -14,7 +14,7 @@ fits-if true b e = refl
 fits-if false b e = e
 
 pub returns-then-agreed : goal.returns-then-agreed
-unfolding settledSteps agreedSteps settled
+unfolding settled_steps agreed_steps settled
 returns-then-agreed g c =
     let r = c.args.round.now in
     let R = g.R.Rule.sense c.args.rule.now in
@@ -22,17 +22,17 @@ returns-then-agreed g c =
     let xs = c.args.nodes.now in
     record {
       steps = λ t.
-          let yes : agreedSteps r R t W xs ≡ true = sym (c.agreed.ensures.steps t) ∙ c.if-agreed.true in
-          let fit : fits r.n W (length xs) ≡ true = fits-if (fits r.n W (length xs)) (agreedLayers r R t W (r.n - 1) xs) yes in
-          c.quiet.ensures.steps t ∙ cond-true (fits r.n W (length xs)) _ _ fit ∙ sym (ap (λ (b : Bool). b && quietSteps r R t W xs) yes);
+          let yes : agreed_steps r R t W xs ≡ true = sym (c.agreed.ensures.steps t) ∙ c.if-agreed.true in
+          let fit : fits r.n W (length xs) ≡ true = fits-if (fits r.n W (length xs)) (agreed_layers r R t W (r.n - 1) xs) yes in
+          c.quiet.ensures.steps t ∙ cond-true (fits r.n W (length xs)) _ _ fit ∙ sym (ap (λ (b : Bool). b && quiet_steps r R t W xs) yes);
       words = λ t fit s.
           let f = room-facts r.n W (length xs) fit in
-          let yes : agreedAll r R t (nodes r.n W xs) ≡ true = sym (c.agreed.ensures.words t (record { some = f.low; few = f.high; fit = f.enough; shaped = s })) ∙ c.if-agreed.true in
-          c.quiet.ensures.words t fit s ∙ sym (ap (λ (b : Bool). b && quietFrom r R t 0 (nodes r.n W xs)) yes);
+          let yes : agreed_all r R t (nodes r.n W xs) ≡ true = sym (c.agreed.ensures.words t (record { some = f.low; few = f.high; fit = f.enough; shaped = s })) ∙ c.if-agreed.true in
+          c.quiet.ensures.words t fit s ∙ sym (ap (λ (b : Bool). b && quiet_from r R t 0 (nodes r.n W xs)) yes);
     }
 
 pub returns-else-agreed : goal.returns-else-agreed
-unfolding settledSteps settled
+unfolding settled_steps settled
 returns-else-agreed g c =
     let r = c.args.round.now in
     let R = g.R.Rule.sense c.args.rule.now in
@@ -41,10 +41,10 @@ returns-else-agreed g c =
     let off : c.agreed.result ≡ false = c.if-agreed.false in
     record {
       steps = λ t.
-          let none : agreedSteps r R t W xs ≡ false = sym (c.agreed.ensures.steps t) ∙ off in
-          off ∙ sym (ap (λ (b : Bool). b && quietSteps r R t W xs) none);
+          let none : agreed_steps r R t W xs ≡ false = sym (c.agreed.ensures.steps t) ∙ off in
+          off ∙ sym (ap (λ (b : Bool). b && quiet_steps r R t W xs) none);
       words = λ t fit s.
           let f = room-facts r.n W (length xs) fit in
-          let none : agreedAll r R t (nodes r.n W xs) ≡ false = sym (c.agreed.ensures.words t (record { some = f.low; few = f.high; fit = f.enough; shaped = s })) ∙ off in
-          off ∙ sym (ap (λ (b : Bool). b && quietFrom r R t 0 (nodes r.n W xs)) none);
+          let none : agreed_all r R t (nodes r.n W xs) ≡ false = sym (c.agreed.ensures.words t (record { some = f.low; few = f.high; fit = f.enough; shaped = s })) ∙ off in
+          off ∙ sym (ap (λ (b : Bool). b && quiet_from r R t 0 (nodes r.n W xs)) none);
     }

@@ -1,7 +1,7 @@
 use Rattle.std.proofs.Common.{◌≡◌, ℕ, ◌+◌, ◌*◌, ◌≤◌, true, not, length, sym, ap, ◌∙◌}
 use Rattle.std.proofs.lemmas.Bool.{cond-true, and_parts, leb-true}
 use Rattle.layers.specs.Calls.{must}
-use Rattle.seek.specs.Rows.{fits, seenFrom}
+use Rattle.seek.specs.Rows.{fits, seen_from}
 use Rattle.seek.specs.declared.seen.Seen.{Seen}
 use Rattle.seek.proofs.must.must.Goals as goal
 
@@ -18,7 +18,7 @@ first_row-row-requires g c =
     record { n_bound = r.0; width_bound = r.1; width_in_bounds = r.2 }
 
 pub returns : goal.returns
-unfolding must seenFrom
+unfolding must seen_from
 returns g c =
     let n = c.args.n in
     let w = c.args.width in

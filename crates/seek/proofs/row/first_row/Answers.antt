@@ -2,7 +2,7 @@ use Rattle.std.proofs.Common.{◌≡◌, ℕ, suc, ◌+◌, ◌-◌, ◌*◌, ta
 use Rattle.layers.specs.declared.node.Node.{Node}
 use Rattle.layers.specs.Records.{layers, drawn}
 use Rattle.seek.specs.declared.seen.Seen.{Seen}
-use Rattle.seek.specs.Rows.{byFirst, ofTarget, seenFrom}
+use Rattle.seek.specs.Rows.{by_first, of_target, seen_from}
 use Rattle.seek.proofs.Paths.{Reached, reached-end, reached-more}
 use Rattle.seek.proofs.row.first_row.Goals as goal
 
@@ -18,14 +18,14 @@ loop-k-preserved g c =
     let xs = c.args.nodes.now in
     let k = c.loop-k.k - 1 in
     let at = k * w in
-    let f : Node g.row.S.Denot g.row.V.Denot → Seen = λ u. byFirst i j c.loop-k.row u n in
+    let f : Node g.row.S.Denot g.row.V.Denot → Seen = λ u. by_first i j c.loop-k.row u n in
     let e : c.loop-k.k ≡ suc k = omega arith in
     let before : Reached i j n w xs c.loop-k.row (suc k) = subst (λ (m : ℕ). Reached i j n w xs c.loop-k.row m) e c.loop-k.invariant.reached in
     let long : at + w - at ≡ w = omega arith in
     record {
       in_range = omega (arith, c.loop-k.invariant.in_range);
       reached = reached-more i j n w xs k c.loop-k.row c.row_of-row.result (omega (arith, c.loop-k.invariant.in_range))
-          (λ t. c.row_of-row.ensures t ∙ ap (λ (m : ℕ). ofTarget f (take m (drop at xs)) t) long) before;
+          (λ t. c.row_of-row.ensures t ∙ ap (λ (m : ℕ). of_target f (take m (drop at xs)) t) long) before;
     }
 
 pub returns : goal.returns
@@ -37,4 +37,4 @@ returns g c =
     let xs = c.args.nodes.now in
     let e : c.loop-k.k ≡ 0 = omega arith in
     λ t. c.loop-k.invariant.reached n (omega arith) t
-    ∙ ap (λ (k : ℕ). seenFrom i j (drawn n (layers w n (drop k xs))) t) (ap (λ (k : ℕ). k * w) e ∙ zero-mul w)
+    ∙ ap (λ (k : ℕ). seen_from i j (drawn n (layers w n (drop k xs))) t) (ap (λ (k : ℕ). k * w) e ∙ zero-mul w)

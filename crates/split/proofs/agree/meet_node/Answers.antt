@@ -1,7 +1,7 @@
 use Rattle.std.proofs.Common.{◌≡◌, ◌+◌, Bool, cond, [], ◌∷◌, get_or, fold, sym, ap, ◌∙◌, arith}
 use Rattle.std.specs.List.{range_with_len, flat_map}
 use Rattle.std.proofs.lemmas.Bool.{eq-eqb, ne_eqb}
-use Rattle.labels.specs.Passes.{byDoor, fromNode}
+use Rattle.labels.specs.Passes.{by_door, from_node}
 use Rattle.labels.proofs.Steps.{folded-counting-more}
 use Rattle.layers.specs.Labels.{arrive}
 use Rattle.split.specs.Agreed.{brought, seen, met}
@@ -9,21 +9,21 @@ use Rattle.split.proofs.agree.meet_node.Goals as goal
 use Rattle.split.proofs.agree.meet_node.Goals.{then-u-k, else-u-k}
 
 pub returns-then-u-eq0 : goal.returns-then-u-eq0
-unfolding fromNode
+unfolding from_node
 returns-then-u-eq0 g c s =
     let r = c.args.round.now in
     let R = g.R.Rule.sense c.args.rule.now in
     let u = c.args.u.now in
-    ap (λ b. fold (met r R s) (seen r R s c.args.got) (cond b [] (flat_map (byDoor r R s c.args.t u) (range_with_len 0 16)))) (sym (eq-eqb u.label.down.lasts 0 c.if-u-eq0.true))
+    ap (λ b. fold (met r R s) (seen r R s c.args.got) (cond b [] (flat_map (by_door r R s c.args.t u) (range_with_len 0 16)))) (sym (eq-eqb u.label.down.lasts 0 c.if-u-eq0.true))
 
 pub loop-k-preserved : goal.loop-k-preserved
-unfolding byDoor brought
+unfolding by_door brought
 loop-k-preserved g c s =
     let r = c.args.round.now in
     let R = g.R.Rule.sense c.args.rule.now in
     let u = c.args.u.now in
     let k = c.loop-k.k in
-    let F = byDoor r R s c.args.t u in
+    let F = by_door r R s c.args.t u in
     let said = λ (b : Bool). fold (met r R s) (seen r R s c.loop-k.all) (cond b (arrive r R s u.label.down (k + 1) ∷ []) []) in
     let here : seen r R s c.if-u-k.all ≡ fold (met r R s) (seen r R s c.loop-k.all) (F k) =
     elim c.if-u-k.branch [
@@ -33,12 +33,12 @@ loop-k-preserved g c s =
     here ∙ ap (λ p. fold (met r R s) p (F k)) (c.loop-k.invariant s) ∙ sym (folded-counting-more (met r R s) F (seen r R s c.args.got) k)
 
 pub returns : goal.returns
-unfolding fromNode
+unfolding from_node
 returns g c s =
     let r = c.args.round.now in
     let R = g.R.Rule.sense c.args.rule.now in
     let u = c.args.u.now in
-    let F = byDoor r R s c.args.t u in
+    let F = by_door r R s c.args.t u in
     let all : c.loop-k.k ≡ 16 = omega arith in
     c.loop-k.invariant s
     ∙ ap (λ n. fold (met r R s) (seen r R s c.args.got) (flat_map F (range_with_len 0 n))) all

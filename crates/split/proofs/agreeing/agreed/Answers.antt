@@ -3,23 +3,23 @@ use Rattle.std.proofs.lemmas.Bool.{cond-true, cond-false}
 use Rattle.tallies.specs.Tallies.{TallySense}
 use Rattle.labels.specs.Passes.{fits}
 use Rattle.labels.proofs.Rooms.{room-facts}
-use Rattle.split.specs.Steps.{agreedLayers, agreedSteps}
+use Rattle.split.specs.Steps.{agreed_layers, agreed_steps}
 use Rattle.split.proofs.AgreedWords.{agreed-said}
 use Rattle.split.proofs.Doing.{layer-small, layer-within}
 use Rattle.split.proofs.Turns.{and-swap}
 use Rattle.split.proofs.agreeing.agreed.Goals as goal
 
 pub returns-then-not-has_room : goal.returns-then-not-has_room
-unfolding agreedSteps
+unfolding agreed_steps
 returns-then-not-has_room g c =
     let r = c.args.round.now in
     let R = g.R.Rule.sense c.args.rule.now in
     let xs = c.args.nodes.now in
-    let no : (s : TallySense g.row.V.Denot) → false ≡ agreedSteps r R s c.args.width xs = λ s. sym (cond-false (fits r.n c.args.width (length xs)) _ _ (sym c.if-not-has_room.ensures)) in
+    let no : (s : TallySense g.row.V.Denot) → false ≡ agreed_steps r R s c.args.width xs = λ s. sym (cond-false (fits r.n c.args.width (length xs)) _ _ (sym c.if-not-has_room.ensures)) in
     record { steps = no; words = λ s. agreed-said r R s c.args.width xs false (no s) }
 
 pub loop-k-init : goal.loop-k-init
-unfolding agreedLayers
+unfolding agreed_layers
 loop-k-init g c s = refl
 
 pub overflow_mul-k : goal.overflow_mul-k
@@ -37,22 +37,22 @@ layer_agreed-all-requires g c =
     }
 
 pub loop-k-preserved : goal.loop-k-preserved
-unfolding agreedLayers
+unfolding agreed_layers
 loop-k-preserved g c s =
     let r = c.args.round.now in
     let R = g.R.Rule.sense c.args.rule.now in
     and-swap c.loop-k.all c.layer_agreed-all.result
     ∙ ap₂ ◌&&◌ (c.layer_agreed-all.ensures s) (c.loop-k.invariant s)
-    ∙ ap (λ (k : ℕ). agreedLayers r R s c.args.width k c.args.nodes.now) (sym (add-one c.loop-k.k))
+    ∙ ap (λ (k : ℕ). agreed_layers r R s c.args.width k c.args.nodes.now) (sym (add-one c.loop-k.k))
 
 pub returns : goal.returns
-unfolding agreedSteps
+unfolding agreed_steps
 returns g c =
     let r = c.args.round.now in
     let R = g.R.Rule.sense c.args.rule.now in
     let w = c.args.width in
     let xs = c.args.nodes.now in
     let all : c.loop-k.k ≡ r.n - 1 = omega arith in
-    let yes : (s : TallySense g.row.V.Denot) → c.loop-k.all ≡ agreedSteps r R s w xs =
-    λ s. c.loop-k.invariant s ∙ ap (λ (k : ℕ). agreedLayers r R s w k xs) all ∙ sym (cond-true (fits r.n w (length xs)) _ _ (sym c.if-not-has_room.ensures)) in
+    let yes : (s : TallySense g.row.V.Denot) → c.loop-k.all ≡ agreed_steps r R s w xs =
+    λ s. c.loop-k.invariant s ∙ ap (λ (k : ℕ). agreed_layers r R s w k xs) all ∙ sym (cond-true (fits r.n w (length xs)) _ _ (sym c.if-not-has_room.ensures)) in
     record { steps = yes; words = λ s. agreed-said r R s w xs c.loop-k.all (yes s) }

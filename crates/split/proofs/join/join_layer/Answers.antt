@@ -1,14 +1,14 @@
 use Rattle.std.proofs.Common.{◌≡◌, ◌-◌, ◌<◌, [], ◌∷◌, ◌++◌, length, get_or, set, ap, ◌∙◌, arith, rules}
-use Rattle.layers.specs.Flow.{dropAt}
+use Rattle.layers.specs.Flow.{without_at}
 use Rattle.std.proofs.lemmas.List.{get_or_read}
-use Rattle.split.specs.Joined.{joinedNode, joinedLayer}
+use Rattle.split.specs.Joined.{joined_node, joined_layer}
 use Rattle.split.proofs.join.join_layer.Goals as goal
 
 pub offset_bounds-us-lo-2 : goal.offset_bounds-us-lo-2
 offset_bounds-us-lo-2 g c = let h : c.args.lo - 1 < length c.args.us.now = omega arith in search rules
 
 pub returns : goal.returns
-unfolding joinedLayer
+unfolding joined_layer
 returns g c =
     let us = c.args.us.now in
     let z = c.args.blank.now in
@@ -19,4 +19,4 @@ returns g c =
     let x-is : x ≡ get_or us lo z = get_or_read us lo x (omega arith) c.index-us-lo.is z in
     let y-is : y ≡ get_or us hi z = get_or_read us hi y (omega arith) c.index-us-hi.is z in
     c.take_out.ensures
-    ∙ ap (λ v. dropAt hi (set us lo v) ++ z ∷ []) (c.both.ensures ∙ ap (λ v. joinedNode v y) x-is ∙ ap (joinedNode (get_or us lo z)) y-is)
+    ∙ ap (λ v. without_at hi (set us lo v) ++ z ∷ []) (c.both.ensures ∙ ap (λ v. joined_node v y) x-is ∙ ap (joined_node (get_or us lo z)) y-is)

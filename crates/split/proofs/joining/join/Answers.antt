@@ -1,8 +1,8 @@
 use Rattle.std.proofs.Common.{◌≡◌, ℕ, ◌+◌, ◌-◌, ◌*◌, min, max, ◌++◌, length, take, drop, Ok, Err, ap, ◌∙◌, ap₂, arith}
 use Rattle.std.proofs.lemmas.Result.{err_from_is_err_and}
-use Rattle.labels.specs.Passes.{blankNode}
-use Rattle.split.specs.Joined.{joinedSecond}
-use Rattle.split.specs.Steps.{joinedOne}
+use Rattle.labels.specs.Passes.{blank_node}
+use Rattle.split.specs.Joined.{joined_second}
+use Rattle.split.specs.Steps.{joined_one}
 use Rattle.split.specs.Asked.{MayJoin}
 use Rattle.split.proofs.Asking.{join-clear}
 use Rattle.split.proofs.Codes.{placed-fits, placed-small}
@@ -17,7 +17,7 @@ returns-in_err-check_join g c =
     let R = g.R.Rule.sense c.args.rule.now in
     let T = g.T.Tally.sense c.args.tally.now in
     let p = err_from_is_err_and c.from_residual.result c.from_residual.ensures.1 in
-    let no = c.in_err-check_join.ensures (blankNode r R T) in
+    let no = c.in_err-check_join.ensures (blank_node r R T) in
     let left = join-refused r R T c.args.width c.args.layer c.args.nodes.now c.args.a c.args.b _ no in
     rw (p.1, p.2) (record {
       answer = no;
@@ -60,7 +60,7 @@ join-requires g c =
     }
 
 pub returns : goal.returns
-unfolding joinedOne
+unfolding joined_one
 returns g c =
     let r = c.args.round.now in
     let R = g.R.Rule.sense c.args.rule.now in
@@ -71,13 +71,13 @@ returns g c =
     let b = c.args.b in
     let xs = c.args.nodes.now in
     let at = (i - 1) * w in
-    let z = blankNode r R T in
+    let z = blank_node r R T in
     let ys = c.join.new.nodes in
     let clear = c.in_ok-check_join.ensures z in
     let long : length ys ≡ length xs = omega arith in
-    let made : ys ≡ take at xs ++ joinedSecond w (min a b - 1) (max a b - 1) (drop at xs) z =
+    let made : ys ≡ take at xs ++ joined_second w (min a b - 1) (max a b - 1) (drop at xs) z =
     c.join.ensures
-    ∙ ap₂ (λ (lo hi : ℕ). take at xs ++ joinedSecond w (lo - 1) (hi - 1) (drop at xs) c.blank_node-blank.result) c.min.ensures c.max.ensures
-    ∙ ap (λ z. take at xs ++ joinedSecond w (min a b - 1) (max a b - 1) (drop at xs) z) (c.blank_node-blank.ensures r) in
+    ∙ ap₂ (λ (lo hi : ℕ). take at xs ++ joined_second w (lo - 1) (hi - 1) (drop at xs) c.blank_node-blank.result) c.min.ensures c.max.ensures
+    ∙ ap (λ z. take at xs ++ joined_second w (min a b - 1) (max a b - 1) (drop at xs) z) (c.blank_node-blank.ensures r) in
     let steps = join-done r R T w i xs a b ys c.relabel.new.nodes (join-clear r.n z w i a b xs clear).placed clear long made c.relabel.ensures.passes in
     record { answer = clear; steps = steps; words = join-said {A = Unit {0}} r R T w i a b xs c.relabel.new.nodes (Ok tt) clear steps }

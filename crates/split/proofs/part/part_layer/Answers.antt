@@ -1,13 +1,13 @@
 use Rattle.std.proofs.Common.{◌-◌, ◌≤◌, ◌++◌, map, length, get_or, drop, set, ap, ◌∙◌, append-nil, arith}
 use Rattle.std.proofs.lemmas.List.{drop_all, take_all, get_or_default}
 use Rattle.std.proofs.lemmas.List.Edits.{map_over_more}
-use Rattle.split.specs.Parted.{partedNode}
+use Rattle.split.specs.Parted.{parted_node}
 use Rattle.split.proofs.part.part_layer.Goals as goal
 
 pub loop-x-preserved : goal.loop-x-preserved
 loop-x-preserved g c =
     let us = c.args.us.now in
-    let f = partedNode (g.K.Test.keeps c.args.test.now) (c.args.a - 1) (c.args.new - 1) in
+    let f = parted_node (g.K.Test.keeps c.args.test.now) (c.args.a - 1) (c.args.new - 1) in
     let x = get_or c.loop-x.us c.loop-x.x-index c.x-item.result in
     ap (set c.loop-x.us c.loop-x.x-index) c.part_node.ensures
     ∙ map_over_more f us c.loop-x.us c.loop-x.x-index x (omega arith) c.loop-x.invariant (get_or_default c.loop-x.us c.loop-x.x-index c.x-item.result x (omega arith))
@@ -15,7 +15,7 @@ loop-x-preserved g c =
 pub returns : goal.returns
 returns g c =
     let us = c.args.us.now in
-    let f = partedNode (g.K.Test.keeps c.args.test.now) (c.args.a - 1) (c.args.new - 1) in
+    let f = parted_node (g.K.Test.keeps c.args.test.now) (c.args.a - 1) (c.args.new - 1) in
     let past : length us ≤ c.loop-x.x-index = omega arith in
     c.loop-x.invariant
     ∙ ap (λ ys. map f ys ++ drop c.loop-x.x-index us) (take_all c.loop-x.x-index us past)

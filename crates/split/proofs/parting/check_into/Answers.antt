@@ -1,7 +1,7 @@
 use Rattle.std.proofs.Common.{leb, sym, ap, ◌∙◌}
 use Rattle.std.proofs.lemmas.Result.{MatchResult-weaker}
 use Rattle.std.proofs.lemmas.Bool.{leb-false}
-use Rattle.split.specs.Agreed.{broughtFirst}
+use Rattle.split.specs.Agreed.{brought_first}
 use Rattle.split.proofs.Asking.{got-group}
 use Rattle.split.proofs.parting.check_into.Goals as goal
 
@@ -15,7 +15,7 @@ returns g c s =
     let full = leb c.args.w c.args.count in
     MatchResult-weaker c.check_group.result c.check_group.ensures
     (λ x k. record {
-      first = ap (broughtFirst r R s) (sym k.first) ∙ first;
+      first = ap (brought_first r R s) (sym k.first) ∙ first;
       differ = sym agreed ∙ k.differ;
       room = leb-false c.args.w c.args.count k.room;
     })

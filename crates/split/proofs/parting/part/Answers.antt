@@ -1,6 +1,6 @@
 use Rattle.std.proofs.Common.{◌≡◌, ◌+◌, ◌-◌, ◌*◌, ◌<◌, ◌≤◌, length, Ok, Err, ap, ◌∙◌, arith}
 use Rattle.std.proofs.lemmas.Result.{err_from_is_err_and}
-use Rattle.split.specs.Steps.{countAt, partedOne}
+use Rattle.split.specs.Steps.{node_count, parted_one}
 use Rattle.split.proofs.Codes.{placed-fits, placed-small}
 use Rattle.split.proofs.Doing.{part-refused, part-done}
 use Rattle.split.proofs.PartWords.{part-said}
@@ -41,7 +41,7 @@ count_in-count-requires g c =
 pub part_node-requires : goal.part_node-requires
 part_node-requires g c =
     let may = c.in_ok-first.ensures (g.T.Tally.sense c.args.tally.now) in
-    let m = countAt ((c.args.layer - 1) * c.args.width + c.args.width) c.args.width c.args.nodes.now in
+    let m = node_count ((c.args.layer - 1) * c.args.width + c.args.width) c.args.width c.args.nodes.now in
     let count : c.count_in-count.result ≡ m = c.count_in-count.ensures in
     let high : c.args.node ≤ m = may.high in
     let room : m < c.args.width = may.into.room in record {
@@ -65,8 +65,8 @@ returns g c =
     let ys = c.part_node.new.nodes in
     let may = c.in_ok-first.ensures T in
     let long : length ys ≡ length xs = omega arith in
-    let made : ys ≡ partedOne r R T ((i - 1) * w) w (a - 1) (countAt ((i - 1) * w + w) w xs) xs =
-    c.part_node.ensures ∙ ap (λ m. partedOne r R T ((i - 1) * w) w (a - 1) m xs) c.count_in-count.ensures in
+    let made : ys ≡ parted_one r R T ((i - 1) * w) w (a - 1) (node_count ((i - 1) * w + w) w xs) xs =
+    c.part_node.ensures ∙ ap (λ m. parted_one r R T ((i - 1) * w) w (a - 1) m xs) c.count_in-count.ensures in
     let steps = part-done r R T w i xs a ys c.relabel.new.nodes may.placed may.clear long made c.relabel.ensures.passes in
     record {
       answer = may.clear;

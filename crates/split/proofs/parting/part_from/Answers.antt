@@ -1,5 +1,5 @@
 use Rattle.std.proofs.Common.{◌≡◌, ℕ, suc, ◌+◌, ◌-◌, ap, ◌∙◌, ap₂, add-one, arith}
-use Rattle.split.specs.Steps.{partsFrom}
+use Rattle.split.specs.Steps.{parts_from}
 use Rattle.split.proofs.Stands.{count_most}
 use Rattle.split.proofs.Turns.{parts-end, parts-full, parts_more, next-most}
 use Rattle.split.proofs.parting.part_from.Goals as goal
@@ -11,7 +11,7 @@ loop-a-init g c =
     let T = g.T.Tally.sense c.args.tally.now in
     let all : c.args.w - 0 ≡ c.args.w = omega arith in (
       omega (arith, c.count_in-count.ensures, count_most (c.args.at + c.args.w) c.args.w c.args.nodes.now),
-      ap₂ (λ (k m : ℕ). partsFrom r R T c.args.at c.args.w k 0 m c.args.nodes.now) all c.count_in-count.ensures,
+      ap₂ (λ (k m : ℕ). parts_from r R T c.args.at c.args.w k 0 m c.args.nodes.now) all c.count_in-count.ensures,
     )
 
 pub returns-then-count-a : goal.returns-then-count-a
@@ -29,7 +29,7 @@ returns-in-None g c =
     let left : suc (w - (a + 1)) ≡ w - a = omega (arith, c.loop-a-test.true) in
     let n = c.in-None.ensures in
     parts-full r R T c.args.at w a c.loop-a.count c.loop-a.nodes (w - (a + 1)) c.part_next.new.nodes c.if-count-a.false (n.answer, n.records)
-    ∙ ap (λ (k : ℕ). partsFrom r R T c.args.at w k a c.loop-a.count c.loop-a.nodes) left
+    ∙ ap (λ (k : ℕ). parts_from r R T c.args.at w k a c.loop-a.count c.loop-a.nodes) left
     ∙ c.loop-a.invariant.1
 
 pub loop-a-preserved : goal.loop-a-preserved
@@ -45,17 +45,17 @@ loop-a-preserved g c =
     let left : suc (w - (a + 1)) ≡ w - a = omega (arith, c.loop-a-test.true) in
     let n = c.in-Some.ensures in (
       next-most r R T c.args.at w a m c.loop-a.nodes l ys c.loop-a.invariant.0 (n.answer, n.records),
-      ap (λ (b : ℕ). partsFrom r R T c.args.at w (w - (a + 1)) b l ys) (add-one a)
+      ap (λ (b : ℕ). parts_from r R T c.args.at w (w - (a + 1)) b l ys) (add-one a)
           ∙ parts_more r R T c.args.at w a m c.loop-a.nodes (w - (a + 1)) l ys c.if-count-a.false (n.answer, n.records)
-          ∙ ap (λ (k : ℕ). partsFrom r R T c.args.at w k a m c.loop-a.nodes) left
+          ∙ ap (λ (k : ℕ). parts_from r R T c.args.at w k a m c.loop-a.nodes) left
           ∙ c.loop-a.invariant.1,
     )
 
 pub returns : goal.returns
-unfolding partsFrom
+unfolding parts_from
 returns g c =
     let r = c.args.round.now in
     let R = g.R.Rule.sense c.args.rule.now in
     let T = g.T.Tally.sense c.args.tally.now in
     let none : 0 ≡ c.args.w - c.loop-a.a = omega (arith, c.loop-a-test.false) in
-    ap (λ (k : ℕ). partsFrom r R T c.args.at c.args.w k c.loop-a.a c.loop-a.count c.loop-a.nodes) none ∙ c.loop-a.invariant.1
+    ap (λ (k : ℕ). parts_from r R T c.args.at c.args.w k c.loop-a.a c.loop-a.count c.loop-a.nodes) none ∙ c.loop-a.invariant.1

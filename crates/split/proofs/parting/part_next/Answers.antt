@@ -2,8 +2,8 @@ use Rattle.std.proofs.Common.{◌≡◌, ℕ, ◌+◌, ◌-◌, true, sym, ap, �
 use Rattle.std.proofs.lemmas.Bool.{both_ways}
 use Rattle.layers.specs.Labels.{agreeing}
 use Rattle.labels.specs.Passes.{part, arrivals}
-use Rattle.split.specs.Agreed.{broughtFirst}
-use Rattle.split.specs.Steps.{partedOne}
+use Rattle.split.specs.Agreed.{brought_first}
+use Rattle.split.specs.Steps.{parted_one}
 use Rattle.split.proofs.Asking.{none-agree}
 use Rattle.split.proofs.Turns.{said, next-alike, next-full, next-parted}
 use Rattle.split.proofs.parting.part_next.Goals as goal
@@ -35,7 +35,7 @@ part_node-requires g c =
       one_le_a = omega arith;
       a_le_count = omega (arith, c.requires.a_lt_count);
       count_lt_w = c.if-count-w.false;
-      is_first = ap (broughtFirst r R T) (sym c.in-Some.is) ∙ c.look_in-first.ensures.first T;
+      is_first = ap (brought_first r R T) (sym c.in-Some.is) ∙ c.look_in-first.ensures.first T;
     }
 
 pub returns-in-None : goal.returns-in-None
@@ -44,7 +44,7 @@ returns-in-None g c =
     let R = g.R.Rule.sense c.args.rule.now in
     let T = g.T.Tally.sense c.args.tally.now in
     let ys = arrivals r R T (c.args.a + 1) (part c.args.at c.args.w c.args.nodes.now) in
-    let all : agreeing r R T ys ≡ true = none-agree r R T ys (ap (broughtFirst r R T) (sym c.in-None.is) ∙ c.look_in-first.ensures.first T) in
+    let all : agreeing r R T ys ≡ true = none-agree r R T ys (ap (brought_first r R T) (sym c.in-None.is) ∙ c.look_in-first.ensures.first T) in
     absurd (both_ways (agreeing r R T ys) (sym (c.look_in-first.ensures.agreed T) ∙ c.if-agreed.false) all)
 
 pub returns-in-Some : goal.returns-in-Some
@@ -54,4 +54,4 @@ returns-in-Some g c =
     let T = g.T.Tally.sense c.args.tally.now in
     let back : c.args.a + 1 - 1 ≡ c.args.a = omega arith in
     let n = next-parted r R T c.args.at c.args.w c.args.a c.args.count c.args.nodes.now (said r R T c.args.at c.args.w c.args.a c.args.nodes.now (c.look_in-first.ensures.agreed T) c.if-agreed.false) c.if-count-w.false in
-    record { answer = n.0; records = c.part_node.ensures ∙ ap (λ (a : ℕ). partedOne r R T c.args.at c.args.w a c.args.count c.args.nodes.now) back ∙ n.1 }
+    record { answer = n.0; records = c.part_node.ensures ∙ ap (λ (a : ℕ). parted_one r R T c.args.at c.args.w a c.args.count c.args.nodes.now) back ∙ n.1 }

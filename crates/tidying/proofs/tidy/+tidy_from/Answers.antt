@@ -1,6 +1,6 @@
 use Rattle.std.proofs.Common.{◌≡◌, ◌-◌, ◌<◌, ◌++◌, length, take, drop, sym, ap, ◌∙◌, ap₂, arith}
 use Rattle.std.proofs.lemmas.List.{length-drop}
-use Rattle.tidying.specs.Tidied.{reachedNext, numbers, tidied, together, renewals, numbering}
+use Rattle.tidying.specs.Tidied.{reached_next, numbers, tidied, together, renewals, numbering}
 use Rattle.labels.proofs.Rests.{one-fits, rest-fits}
 use Rattle.tidying.proofs.Layers.{numbers_more, tidied-more}
 use Rattle.tidying.proofs.tidy.+tidy_from.Goals as goal
@@ -34,9 +34,9 @@ returns g t c =
     let n = c.args.left - 1 in
     let front : c.split_at_mut-us.result.0.now ≡ take w xs = cc in
     let back : c.split_at_mut-us.result.1.now ≡ drop w xs = cc in
-    let marks : c.mark_next-next.result ≡ reachedNext z from (take w xs) = c.mark_next-next.ensures z ∙ ap (reachedNext z from) front in
-    let new : c.tidy_from-new.result ≡ numbers w z n (reachedNext z from (take w xs)) (drop w xs) = c.tidy_from-new.ensures.numbered ∙ ap₂ (numbers w z n) marks back in
-    let rest : c.tidy_from-new.new.nodes ≡ tidied w z n (reachedNext z from (take w xs)) (drop w xs) = c.tidy_from-new.ensures.records ∙ ap₂ (tidied w z n) marks back in
+    let marks : c.mark_next-next.result ≡ reached_next z from (take w xs) = c.mark_next-next.ensures z ∙ ap (reached_next z from) front in
+    let new : c.tidy_from-new.result ≡ numbers w z n (reached_next z from (take w xs)) (drop w xs) = c.tidy_from-new.ensures.numbered ∙ ap₂ (numbers w z n) marks back in
+    let rest : c.tidy_from-new.new.nodes ≡ tidied w z n (reached_next z from (take w xs)) (drop w xs) = c.tidy_from-new.ensures.records ∙ ap₂ (tidied w z n) marks back in
     let renewed = ap₂ (renewals z from) new front in
     record {
       records =

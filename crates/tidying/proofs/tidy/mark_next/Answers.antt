@@ -2,7 +2,7 @@ use Rattle.std.proofs.Common.{◌≡◌, false, cond, length, get_or, replicate,
 use Rattle.std.specs.List.{range_with_len}
 use Rattle.std.proofs.lemmas.List.{get_or_read}
 use Rattle.layers.specs.Targets.{targets}
-use Rattle.tidying.specs.Tidied.{marked, reachStep, reachedNext}
+use Rattle.tidying.specs.Tidied.{marked, reach_step, reached_next}
 use Rattle.labels.proofs.Folds.{folded-counting}
 use Rattle.tidying.proofs.tidy.mark_next.Goals as goal
 use Rattle.tidying.proofs.tidy.mark_next.Goals.{then-from-a, else-from-a}
@@ -13,8 +13,8 @@ loop-a-preserved g c z =
     let from = c.args.from.now in
     let a = c.loop-a.a in
     let x = c.index-us-a.result in
-    let more = folded-counting (reachStep z from us) (replicate 256 false) a in
-    let m = fold (reachStep z from us) (replicate 256 false) (range_with_len 0 a) in
+    let more = folded-counting (reach_step z from us) (replicate 256 false) a in
+    let m = fold (reach_step z from us) (replicate 256 false) (range_with_len 0 a) in
     let here : x ≡ get_or us a z = get_or_read us a x c.loop-a-test.true c.index-us-a.is z in
     elim c.if-from-a.branch [
       | then-from-a w ↦
@@ -24,5 +24,5 @@ loop-a-preserved g c z =
     ]
 
 pub returns : goal.returns
-unfolding reachedNext
-returns g c z = let all : c.loop-a.a ≡ length c.args.us.now = omega arith in c.loop-a.invariant z ∙ ap (λ n. fold (reachStep z c.args.from.now c.args.us.now) (replicate 256 false) (range_with_len 0 n)) all
+unfolding reached_next
+returns g c z = let all : c.loop-a.a ≡ length c.args.us.now = omega arith in c.loop-a.invariant z ∙ ap (λ n. fold (reach_step z c.args.from.now c.args.us.now) (replicate 256 false) (range_with_len 0 n)) all

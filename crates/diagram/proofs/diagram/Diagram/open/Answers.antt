@@ -4,19 +4,19 @@ use Rattle.round.specs.declared.table.Round.{Round}
 use Rattle.rules.specs.Rules.{RuleSense}
 use Rattle.tallies.specs.Tallies.{TallySense}
 use Rattle.layers.specs.declared.node.Node.{Node}
-use Rattle.layers.specs.Calls.{openedOn, run}
+use Rattle.layers.specs.Calls.{opened_on, run}
 use Rattle.layers.specs.Claim.{Sure, WholeSettles}
 use Rattle.layers.proofs.Main.{kept}
 use Rattle.layers.proofs.Wholes.{whole-settles}
 use Rattle.labels.specs.Passes.{fits, relabelled}
-use Rattle.diagram.specs.Opening.{everyDoor, arcsOpened, arced}
+use Rattle.diagram.specs.Opening.{every_door, arcs_opened, arced}
 use Rattle.layers.specs.Shape.{Shaped, Timely}
 use Rattle.diagram.proofs.Opened.{laid-opened, room, opened-shaped, opened-timely}
 use Rattle.diagram.proofs.diagram.Diagram.open.Goals as goal
 
 -- arcs laid, then labels worked out
 both : {S V : Type 0} (r : Round) (R : RuleSense S) (T : TallySense V) (W : ℕ) (a : 1 ≤ W) (b : W ≤ 128) (xs ys zs : List (Node S V)) → r.n * W + 1 ≤ length xs
-    → ys ≡ arced (arcsOpened (everyDoor r.n) r.n W) (r.n * W + 1) xs → zs ≡ cond (fits r.n W (length ys)) (relabelled r R T W ys) ys → zs ≡ openedOn r R T W xs
+    → ys ≡ arced (arcs_opened (every_door r.n) r.n W) (r.n * W + 1) xs → zs ≡ cond (fits r.n W (length ys)) (relabelled r R T W ys) ys → zs ≡ opened_on r R T W xs
 both r R T W a b xs ys zs h e f =
     f
     ∙ ap (λ (ys : List (Node _ _)). cond (fits r.n W (length ys)) (relabelled r R T W ys) ys) e

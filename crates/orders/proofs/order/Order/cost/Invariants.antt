@@ -1,9 +1,9 @@
 use Rattle.std.proofs.Common.{◌≡◌, ◌≤◌, length, take}
-use Rattle.orders.specs.Costs.{tripAfter}
+use Rattle.orders.specs.Costs.{trip_after}
 use Rattle.orders.proofs.order.Order.cost.Given as goal
 
 abbrev pub invariant-loop-j : goal.invariant-loop-j
 invariant-loop-j g l =
     let w = l.self.doors.now in
     let r = l.self.round.now in
-    (l.j-index ≤ length w) × (record { van = l.van; cost = l.value } ≡ tripAfter r (g.T.Tally.sense l.tally) (take l.j-index w))
+    (l.j-index ≤ length w) × (record { van = l.van; cost = l.value } ≡ trip_after r (g.T.Tally.sense l.tally) (take l.j-index w))

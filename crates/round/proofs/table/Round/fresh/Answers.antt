@@ -1,10 +1,10 @@
 use Rattle.std.proofs.Common.{◌≡◌, ℕ, zero, suc, ◌≤◌, set, replicate, pos, negsuc, ◌≤ℤ◌, arith}
 use Rattle.round.specs.declared.door.Door.{Door}
-use Rattle.round.specs.Tables.{blank, newDoor, at}
+use Rattle.round.specs.Tables.{blank, new_door, at}
 use Rattle.round.proofs.Fresh.{each-fresh, no-leg}
 use Rattle.round.proofs.table.Round.fresh.Goals as goal
 
-some-work : (j : ℕ) → 1 ≤ j → j ≤ 1 → 1 ≤ (at (set (replicate 17 blank) 1 newDoor) j).work
+some-work : (j : ℕ) → 1 ≤ j → j ≤ 1 → 1 ≤ (at (set (replicate 17 blank) 1 new_door) j).work
 some-work zero a b = absurd (omega arith)
 some-work (suc zero) a b = omega arith
 some-work (suc (suc j)) a b = absurd (omega arith)
