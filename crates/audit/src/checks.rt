@@ -1,6 +1,7 @@
 // What is held against the lister's orders after each call.
 use crate::ahead::Ahead;
 use crate::case::{Case, bound_of};
+use crate::fault::Fault;
 use crate::paths::{Paths, all_paths};
 use crate::same::same_value;
 use crate::walk::first_gap;
@@ -48,14 +49,14 @@ fn check_order<R: Rule, T: Tally>(
     case: &Case<'_, R, T, T::Value>,
     nodes: &[Node<R::State, T::Value>],
     order: &Listed<T::Value>,
-) -> Result<(), &'static str> {
+) -> Result<(), Fault> {
     if first_gap(nodes, case.width, &order.doors[0..case.round.n]) < case.round.n {
-        return Err("a wanted order is no path");
+        return Err(Fault::OrderLost);
     }
     match bound_of(nodes, case.round, case.width) {
         Some(bound) if case.tally.not_above(bound, order.cost) => Ok(()),
-        Some(_) => Err("the bound is above a wanted order"),
-        None => Err("no bound, but a wanted order"),
+        Some(_) => Err(Fault::BoundAbove),
+        None => Err(Fault::BoundMissing),
     }
 }
 
@@ -64,7 +65,7 @@ fn check_orders<R: Rule, T: Tally>(
     case: &Case<'_, R, T, T::Value>,
     nodes: &[Node<R::State, T::Value>],
     ceilings: &Ceilings<T::Value>,
-) -> Result<Ahead, &'static str> {
+) -> Result<Ahead, Fault> {
     let mut ahead = Ahead::none();
     for order in case.orders {
         if is_wanted(case.tally, order.cost, ceilings) {
@@ -82,12 +83,12 @@ fn check_must(
     paths: Option<Ahead>,
     i: usize,
     j: usize,
-) -> Result<(), &'static str> {
+) -> Result<(), Fault> {
     if yes && wanted.has(j, i) {
-        return Err("a must that a wanted order breaks");
+        return Err(Fault::MustBroken);
     }
     match paths {
-        Some(ahead) if yes == ahead.has(j, i) => Err("settled: a must is not exact"),
+        Some(ahead) if yes == ahead.has(j, i) => Err(Fault::MustNotExact),
         _ => Ok(()),
     }
 }
@@ -99,7 +100,7 @@ fn check_musts_of<S: Copy, V: Copy>(
     wanted: &Ahead,
     paths: Option<Ahead>,
     i: usize,
-) -> Result<(), &'static str> {
+) -> Result<(), Fault> {
     for j in 1..=n {
         if i != j {
             check_must(must(nodes, n, width, i, j), wanted, paths, i, j)?;
@@ -114,7 +115,7 @@ fn check_musts<S: Copy, V: Copy>(
     width: usize,
     wanted: &Ahead,
     paths: Option<Ahead>,
-) -> Result<(), &'static str> {
+) -> Result<(), Fault> {
     for i in 1..=n {
         check_musts_of(nodes, n, width, wanted, paths, i)?;
     }
@@ -126,18 +127,18 @@ fn check_least<T: Tally>(
     tally: &T,
     bound: Option<T::Value>,
     least: Option<T::Value>,
-) -> Result<(), &'static str> {
+) -> Result<(), Fault> {
     match (bound, least) {
         (None, None) => Ok(()),
         (Some(a), Some(b)) if same_value(tally, a, b) => Ok(()),
-        _ => Err("settled: the bound is not the least cost of a path"),
+        _ => Err(Fault::BoundNotLeast),
     }
 }
 
 // Without a cut, a settled diagram has as many paths as there are allowed orders.
-fn check_count(cuts: usize, orders: usize, paths: usize) -> Result<(), &'static str> {
+fn check_count(cuts: usize, orders: usize, paths: usize) -> Result<(), Fault> {
     if cuts == 0 && orders != paths {
-        return Err("settled: there are more paths than allowed orders");
+        return Err(Fault::MorePaths);
     }
     Ok(())
 }
@@ -146,7 +147,7 @@ fn check_settled<R: Rule, T: Tally>(
     case: &Case<'_, R, T, T::Value>,
     nodes: &[Node<R::State, T::Value>],
     cuts: usize,
-) -> Result<Paths<T::Value>, &'static str> {
+) -> Result<Paths<T::Value>, Fault> {
     let paths = all_paths(case, nodes)?;
     let bound = bound_of(nodes, case.round, case.width);
     check_least(case.tally, bound, paths.least)?;
@@ -159,7 +160,7 @@ pub(crate) fn check_all<R: Rule, T: Tally>(
     case: &Case<'_, R, T, T::Value>,
     nodes: &[Node<R::State, T::Value>],
     ceilings: &Ceilings<T::Value>,
-) -> Result<bool, &'static str> {
+) -> Result<bool, Fault> {
     let wanted = check_orders(case, nodes, ceilings)?;
     if settled(case.round, case.rule, nodes, case.width) {
         let paths = check_settled(case, nodes, ceilings.count)?;

@@ -9,6 +9,7 @@ mod checks;
 mod counts;
 mod dice;
 mod draw;
+mod fault;
 mod kinds;
 mod paths;
 mod run;
@@ -26,8 +27,6 @@ use kinds::{Kinds, kinds_of};
 use lister::list::list;
 use round::table::Round;
 use rules::both::Both;
-use rules::load::Load;
-use rules::pairs::Pairs;
 use run::{Outcome, mark, run_round, start_log};
 use tallies::driving::Driving;
 use tallies::late::LateDoors;
@@ -95,8 +94,10 @@ fn print_start<V: Copy>(
 
 fn print_end<V: Copy>(rt: &HostRuntime, outcome: &Outcome<V>) -> anyhow::Result<()> {
     let settled = if outcome.settled { "yes" } else { "no" };
-    let fault = outcome.fault.unwrap_or("ok");
-    println!(rt; "\tsettled\t{settled}\t{fault}")?;
+    match outcome.fault {
+        Some(fault) => println!(rt; "\tsettled\t{settled}\t{fault}")?,
+        None => println!(rt; "\tsettled\t{settled}\tok")?,
+    }
     Ok(())
 }
 
@@ -135,16 +136,17 @@ fn driving_round(
     sums: &mut Sums,
 ) -> anyhow::Result<()> {
     let rule = Both::of(round);
-    let listing = list(rt.alloc(), round, &rule, &Driving)?;
+    let tally = Driving;
+    let listing = list(rt.alloc(), round, &rule, &tally)?;
     let orders = listing.allowed.as_slice();
-    let mut nodes = [mark(&rule, &Driving); LENT];
-    let mut log = start_log(&Driving);
+    let mut nodes = [mark(&rule, &tally); LENT];
+    let mut log = start_log(&tally);
     let outcome = run_round(
-        dice, round, &rule, &Driving, width, orders, &mut nodes, &mut log,
+        dice, round, &rule, &tally, width, orders, &mut nodes, &mut log,
     );
     note(sums, &outcome);
     sums.kinds
-        .add(&kinds_of(rt.alloc(), round, &rule, &Driving, orders)?);
+        .add(&kinds_of(rt.alloc(), round, &rule, &tally, orders)?);
     print_start(rt, sums, Line { n: round.n, width }, &outcome)?;
     match outcome.bound {
         Some(minutes) => print!(rt; "{minutes}")?,

@@ -1,6 +1,7 @@
 // Goes through all paths of a diagram, and holds each to be an allowed order.
 use crate::ahead::Ahead;
 use crate::case::Case;
+use crate::fault::Fault;
 use crate::walk::{advance, first_gap};
 use layers::node::Node;
 use lister::list::cost_if_allowed;
@@ -30,9 +31,9 @@ fn meet<R: Rule, T: Tally>(
     case: &Case<'_, R, T, T::Value>,
     doors: &[usize],
     paths: &mut Paths<T::Value>,
-) -> Result<(), &'static str> {
+) -> Result<(), Fault> {
     let Some(cost) = cost_if_allowed(case.round, case.rule, case.tally, doors) else {
-        return Err("settled: a path is no allowed order");
+        return Err(Fault::PathNotAllowed);
     };
     paths.least = lesser_of(case.tally, paths.least, cost);
     paths.count = paths.count.saturating_add(1);
@@ -46,7 +47,7 @@ fn go_on<R: Rule, T: Tally>(
     nodes: &[Node<R::State, T::Value>],
     doors: &mut [usize; 16],
     paths: &mut Paths<T::Value>,
-) -> Result<bool, &'static str> {
+) -> Result<bool, Fault> {
     let n = case.round.n;
     let gap = first_gap(nodes, case.width, &doors[0..n]);
     if gap >= n {
@@ -59,7 +60,7 @@ fn go_on<R: Rule, T: Tally>(
 pub(crate) fn all_paths<R: Rule, T: Tally>(
     case: &Case<'_, R, T, T::Value>,
     nodes: &[Node<R::State, T::Value>],
-) -> Result<Paths<T::Value>, &'static str> {
+) -> Result<Paths<T::Value>, Fault> {
     let mut doors = [1; 16];
     let mut paths = Paths {
         count: 0,
@@ -71,5 +72,5 @@ pub(crate) fn all_paths<R: Rule, T: Tally>(
             return Ok(paths);
         }
     }
-    Err("settled: too many paths")
+    Err(Fault::TooManyPaths)
 }

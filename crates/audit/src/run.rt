@@ -7,6 +7,7 @@ use crate::case::{Answer, Call, Case, LENT, bound_of, end_place};
 use crate::checks::{Ceilings, check_all, count_wanted};
 use crate::counts::{Counts, more, sort_of};
 use crate::dice::Dice;
+use crate::fault::Fault;
 use crate::same::{same_from, same_value};
 use crate::sets::check_sets;
 use crate::shape::check_shape;
@@ -28,7 +29,7 @@ pub(crate) struct Outcome<V> {
     pub(crate) wanted: usize,
     pub(crate) bound: Option<V>,
     pub(crate) settled: bool,
-    pub(crate) fault: Option<&'static str>,
+    pub(crate) fault: Option<Fault>,
     pub(crate) counts: Counts,
 }
 
@@ -101,18 +102,18 @@ fn check_change<R: Rule, T: Tally>(
     before: &[Node<R::State, T::Value>],
     after: &[Node<R::State, T::Value>],
     answer: Answer,
-) -> Result<(), &'static str> {
+) -> Result<(), Fault> {
     let end = end_place(case.round, case.width);
     if !same_from(case.rule, case.tally, before, after, end.saturating_add(1)) {
-        return Err("a record after the end is altered");
+        return Err(Fault::LaterAltered);
     }
     match answer {
         Answer::Refused(_) if !same_from(case.rule, case.tally, before, after, 0) => {
-            Err("a refused call altered a record")
+            Err(Fault::RefusalAltered)
         }
         Answer::Gone(gone)
             if gone.saturating_add(count_arcs(after, end)) != count_arcs(before, end) => {
-            Err("the number of arcs that went is wrong")
+            Err(Fault::MiscountedArcs)
         }
         _ => Ok(()),
     }
@@ -150,11 +151,11 @@ fn check_asked<S: Copy, V: Copy>(
     width: usize,
     i: usize,
     counts: &mut Counts,
-) -> Result<(), &'static str> {
+) -> Result<(), Fault> {
     for j in 0..8 {
         let number = asked(diagram, i, j);
         if number != must_number(nodes, n, width, i, j) {
-            return Err("the diagram answers a must otherwise");
+            return Err(Fault::OtherMust);
         }
         counts.refuse(number);
     }
@@ -167,7 +168,7 @@ fn check_all_asked<S: Copy, V: Copy>(
     n: usize,
     width: usize,
     counts: &mut Counts,
-) -> Result<(), &'static str> {
+) -> Result<(), Fault> {
     for i in 0..8 {
         check_asked(nodes, diagram, n, width, i, counts)?;
     }
@@ -181,13 +182,13 @@ fn check_diagram<R: Rule, T: Tally>(
     diagram: &Diagram<'_, '_, R::State, T::Value>,
     settled: bool,
     counts: &mut Counts,
-) -> Result<(), &'static str> {
+) -> Result<(), Fault> {
     let bound = bound_of(nodes, case.round, case.width);
     if !same_bound(case.tally, diagram.bound(), bound) {
-        return Err("the diagram has another bound");
+        return Err(Fault::OtherBound);
     }
     if diagram.settled(case.rule) != settled {
-        return Err("the diagram is settled otherwise");
+        return Err(Fault::OtherSettled);
     }
     check_all_asked(nodes, diagram, case.round.n, case.width, counts)
 }
@@ -240,12 +241,12 @@ fn check_now<R: Rule, T: Tally>(
     diagram: &Diagram<'_, '_, R::State, T::Value>,
     ceilings: &Ceilings<T::Value>,
     counts: &mut Counts,
-) -> Result<bool, &'static str> {
+) -> Result<bool, Fault> {
     check_shape(case, nodes)?;
     check_sets(case, nodes)?;
     let settled = check_all(case, nodes, ceilings)?;
     if settled != is_settled(case, nodes) {
-        return Err("settled says otherwise than part and sweep");
+        return Err(Fault::SettledMisjudged);
     }
     check_diagram(case, nodes, diagram, settled, counts)?;
     Ok(settled)
@@ -285,12 +286,12 @@ fn call_both<R: Rule, T: Tally>(
     nodes: &mut [Node<R::State, T::Value>; LENT],
     diagram: &mut Diagram<'_, '_, R::State, T::Value>,
     call: Call<T::Value>,
-) -> Result<Answer, &'static str> {
+) -> Result<Answer, Fault> {
     let before = copied(case.rule, case.tally, nodes);
     let answer = on_records(case, nodes, call);
     let other = on_diagram(case, diagram, call);
     if answer != other {
-        return Err("the diagram answers otherwise");
+        return Err(Fault::OtherAnswer);
     }
     check_change(case, &before, nodes, answer)?;
     Ok(answer)
@@ -302,7 +303,7 @@ fn one_call<R: Rule, T: Tally>(
     nodes: &mut [Node<R::State, T::Value>; LENT],
     diagram: &mut Diagram<'_, '_, R::State, T::Value>,
     log: &mut Log<T::Value>,
-) -> Result<(), &'static str> {
+) -> Result<(), Fault> {
     let call = next_call(case, nodes, dice, log);
     log.last = call;
     log.counts.equalled = more(log.counts.equalled, is_equalled(case, call));
@@ -312,7 +313,7 @@ fn one_call<R: Rule, T: Tally>(
     log.counts.note(sort_of(call), answer);
     log.settled = check_now(case, nodes, diagram, &log.ceilings, &mut log.counts)?;
     if answer == Answer::Whole && !log.settled {
-        return Err("whole, but not settled");
+        return Err(Fault::WholeNotSettled);
     }
     Ok(())
 }
@@ -323,7 +324,7 @@ fn some_calls<R: Rule, T: Tally>(
     nodes: &mut [Node<R::State, T::Value>; LENT],
     diagram: &mut Diagram<'_, '_, R::State, T::Value>,
     log: &mut Log<T::Value>,
-) -> Result<(), &'static str> {
+) -> Result<(), Fault> {
     log.settled = check_now(case, nodes, diagram, &log.ceilings, &mut log.counts)?;
     let count = dice.roll(5).saturating_add(6);
     for _ in 0..count {
@@ -341,7 +342,7 @@ fn room_number(round: &Round, width: usize, len: usize) -> u8 {
 }
 
 // A width out of range is refused with 10, also where the list is too short, and a list that is too short by one record with 11.
-fn check_rooms(round: &Round, width: usize, counts: &mut Counts) -> Result<(), &'static str> {
+fn check_rooms(round: &Round, width: usize, counts: &mut Counts) -> Result<(), Fault> {
     let end = end_place(round, width);
     let asked = [
         (0, LENT, 10),
@@ -352,7 +353,7 @@ fn check_rooms(round: &Round, width: usize, counts: &mut Counts) -> Result<(), &
     for (wide, len, expected) in asked {
         let number = room_number(round, wide, len);
         if number != expected {
-            return Err("the check of the room is wrong");
+            return Err(Fault::RoomMisjudged);
         }
         counts.refuse(number);
     }
@@ -386,11 +387,11 @@ fn check_short<R: Rule, T: Tally>(
     nodes: &mut [Node<R::State, T::Value>; LENT],
     call: Call<T::Value>,
     counts: &mut Counts,
-) -> Result<(), &'static str> {
+) -> Result<(), Fault> {
     let before = copied(case.rule, case.tally, nodes);
     let answer = on_short(case, nodes, call);
     if answer != short_answer(call) || !same_from(case.rule, case.tally, &before, nodes, 0) {
-        return Err("a call on a short list is not refused, or alters it");
+        return Err(Fault::ShortNotRefused);
     }
     if let Answer::Refused(number) = answer {
         counts.refuse(number);
@@ -404,10 +405,10 @@ fn run_calls<R: Rule, T: Tally>(
     dice: &mut Dice,
     nodes: &mut [Node<R::State, T::Value>; LENT],
     log: &mut Log<T::Value>,
-) -> Result<(), &'static str> {
+) -> Result<(), Fault> {
     check_rooms(case.round, case.width, &mut log.counts)?;
     let Ok(room) = Room::check(case.round, case.width, LENT) else {
-        return Err("the check refuses the room");
+        return Err(Fault::RoomRefused);
     };
     let mut others = copied(case.rule, case.tally, nodes);
     open(room, case.rule, case.tally, nodes);
@@ -417,7 +418,7 @@ fn run_calls<R: Rule, T: Tally>(
         some_calls(case, dice, nodes, &mut diagram, log)?;
     }
     if !same_from(case.rule, case.tally, &others, nodes, 0) {
-        return Err("the diagram leaves other records");
+        return Err(Fault::OtherRecords);
     }
     Ok(())
 }

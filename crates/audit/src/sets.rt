@@ -2,6 +2,7 @@
 ghost use Rattle.std.specs.Prelude.{◌≤◌};
 
 use crate::case::{Case, LENT, end_place};
+use crate::fault::Fault;
 use crate::paths::MOST;
 use crate::same::same_value;
 use crate::walk::{advance, first_gap, target};
@@ -138,12 +139,12 @@ fn place_has_sets<R: Rule, T: Tally>(
 pub(crate) fn check_sets<R: Rule, T: Tally>(
     case: &Case<'_, R, T, T::Value>,
     nodes: &[Node<R::State, T::Value>],
-) -> Result<(), &'static str> {
+) -> Result<(), Fault> {
     let places = all_sets(nodes, case.width, case.round.n);
     let end = end_place(case.round, case.width);
     for (p, (u, sets)) in nodes.iter().zip(places.iter()).enumerate() {
         if p <= end && !place_has_sets(case, u, *sets, p == 0) {
-            return Err("a label has other sets than the paths");
+            return Err(Fault::OtherSets);
         }
     }
     Ok(())

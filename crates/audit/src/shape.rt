@@ -1,5 +1,6 @@
 // What the records of any diagram look like.
 use crate::case::Case;
+use crate::fault::Fault;
 use crate::walk::in_use;
 use layers::node::Node;
 
@@ -70,16 +71,16 @@ fn end_well<S: Copy, V: Copy>(nodes: &[Node<S, V>], end: usize) -> bool {
 pub(crate) fn check_shape<R, T, S: Copy, V: Copy>(
     case: &Case<'_, R, T, V>,
     nodes: &[Node<S, V>],
-) -> Result<(), &'static str> {
+) -> Result<(), Fault> {
     let n = case.round.n;
     let end = n.saturating_mul(case.width);
     for p in 0..end {
         if !place_well(nodes, n, case.width, p) {
-            return Err("a record is not as in a diagram");
+            return Err(Fault::NoDiagram);
         }
     }
     if !end_well(nodes, end) {
-        return Err("the end has an arc");
+        return Err(Fault::EndHasArc);
     }
     Ok(())
 }
