@@ -1,7 +1,7 @@
 -- The clock keeps its laws.
-use Rattle.std.proofs.Common.{◌≡◌, ℕ, suc, ◌+◌, ◌*◌, ◌≤◌, max, suc-mul, arith}
+use Rattle.std.proofs.Common.{suc-mul, arith}
 use Rattle.round.specs.declared.table.Round.{Round}
-use Rattle.round.specs.Clock.{door, finish, latest, ClockLaws}
+use Rattle.round.specs.Clock.{finish, ClockLaws}
 
 pub clock-laws : (r : Round) → ClockLaws r
 unfolding finish

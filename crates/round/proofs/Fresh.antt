@@ -1,5 +1,5 @@
 -- A fresh round is lawful: what holds of a blank door, and of the new one, holds of each.
-use Rattle.std.proofs.Common.{◌≡◌, ℕ, zero, suc, List, [], get_or, set, replicate, sym, refl, subst}
+use Rattle.std.proofs.Common.{◌≡◌, ℕ, zero, suc, get_or, set, replicate, sym, refl, subst}
 use Rattle.round.specs.declared.door.Door.{Door}
 use Rattle.round.specs.Tables.{blank, new_door, at, leg}
 

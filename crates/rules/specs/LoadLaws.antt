@@ -1,8 +1,7 @@
 -- The rule of the load is lawful.
-use Rattle.std.specs.Prelude.{◌≡◌, ℕ, ◌+◌, ◌*◌, ◌≤◌, Bool, true, false, cond, ◌&&◌, ◌||◌, ◌⊎◌, List, [], ◌∷◌, ◌++◌, length, ℤ, pos, negsuc, ◌+ℤ◌, ◌≤ℤ◌, ◌<ℤ◌, fold, int_lt, refl}
-use Rattle.std.proofs.Common.{sym, ap, ap₂, subst, ◌∙◌, inl, inr, ⊎_elim, arith, length-append}
-use Rattle.std.specs.Int.Signed.{le_z, ≤ℤ_refl}
-use Rattle.std.specs.Int.{int_max, int_min}
+use Rattle.std.specs.Prelude.{◌≡◌, ℕ, ◌+◌, ◌*◌, true, false, ◌||◌, ◌⊎◌, List, [], ◌∷◌, ◌++◌, length, ℤ, pos, negsuc, ◌+ℤ◌, ◌≤ℤ◌, ◌<ℤ◌, fold, int_lt, refl}
+use Rattle.std.proofs.Common.{sym, ap, ap₂, subst, ◌∙◌, ⊎_elim, arith, length-append}
+use Rattle.std.specs.Int.Signed.{≤ℤ_refl}
 use Rattle.std.proofs.lemmas.Int.{ints, clamps}
 use Rattle.std.proofs.lemmas.List.Sums.{fold_push}
 use Rattle.std.proofs.lemmas.Bool.{cond-true, cond-false, and_parts, and_from, or_cases, or_parts}
@@ -14,7 +13,7 @@ use Rattle.round.specs.declared.door.Door.{Door}
 use Rattle.round.specs.declared.table.Round.{Round}
 use Rattle.round.specs.Tables.{at}
 use Rattle.rules.specs.declared.load.Interval.{Interval}
-use Rattle.rules.specs.Loads.{load_of, Within, interval, Between, held, moves, spans, overflows, same_int, load_sense}
+use Rattle.rules.specs.Loads.{load_of, Within, interval, Between, held, moves, overflows, same_int, load_sense}
 use Rattle.rules.specs.Rules.{RuleLaws}
 
 held_same : (z : ℤ) → negsuc 9998 ≤ℤ z → z ≤ℤ pos 9999 → held z ≡ z

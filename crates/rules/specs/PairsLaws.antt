@@ -1,5 +1,5 @@
 -- The rule of pairs is lawful.
-use Rattle.std.specs.Prelude.{◌≡◌, ℕ, ◌^◌, Bool, true, false, cond, not, ◌⊎◌, List, [], ◌∷◌, ◌++◌, fold, ◌==◌, bit_and, bit_or, slice_index, slice_index_or, refl}
+use Rattle.std.specs.Prelude.{◌≡◌, ℕ, ◌^◌, not, ◌⊎◌, List, fold, ◌==◌, bit_and, bit_or, slice_index, slice_index_or, refl}
 use Rattle.std.proofs.Common.{sym, ap, subst, ◌∙◌, inl, inr, ⊎_elim}
 use Rattle.std.specs.Int.Bits.{or_self}
 use Rattle.std.proofs.lemmas.List.Sums.{fold_push}

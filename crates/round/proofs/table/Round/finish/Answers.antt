@@ -1,4 +1,4 @@
-use Rattle.std.proofs.Common.{ap, arith, rules}
+use Rattle.std.proofs.Common.{rules}
 use Rattle.round.specs.Clock.{finish}
 use Rattle.round.proofs.Clocks.{clock-laws}
 use Rattle.round.proofs.table.Round.finish.Goals as goal

@@ -1,4 +1,4 @@
-use Rattle.std.proofs.Common.{◌≡◌, ℕ, zero, suc, ◌≤◌, set, replicate, pos, negsuc, ◌≤ℤ◌, arith}
+use Rattle.std.proofs.Common.{ℕ, zero, suc, ◌≤◌, set, replicate, pos, negsuc, ◌≤ℤ◌, arith}
 use Rattle.round.specs.declared.door.Door.{Door}
 use Rattle.round.specs.Tables.{blank, new_door, at}
 use Rattle.round.proofs.Fresh.{each-fresh, no-leg}
