@@ -1,7 +1,6 @@
 -- A text that is read, and an answer on its round.
-use Rattle.std.proofs.Common.{◌≡◌, ℕ, ◌<◌, ◌≤◌, List, length, Ok, Err, Result, ℤ, pos, negsuc, inl, inr, arith}
+use Rattle.std.proofs.Common.{ℕ, List, Ok, ℤ, pos, negsuc, inr, arith}
 use Rattle.round.specs.declared.table.Round.{Round}
-use Rattle.text.specs.declared.refusal.Refusal.{Refusal}
 use Rattle.text.specs.Rounds.{Bounded}
 use Rattle.capi.specs.Answers.{Read, Answers}
 

@@ -1,15 +1,15 @@
 -- Arcs laid place by place are those of the opened diagram, layer by layer.
-use Rattle.std.proofs.Common.{◌≡◌, ℕ, zero, suc, ◌+◌, ◌*◌, ◌%◌, ◌<◌, ◌≤◌, Bool, true, false, cond, ◌&&◌, eqb, ltb, ◌⊎◌, List, [], ◌∷◌, map, length, get_or, take, drop, set, sym, refl, ap, ◌∙◌, subst, ap₂, inl, inr, ⊎_elim, add-zero, suc-mul, suc-add, zero-add, zero-mul, arith}
+use Rattle.std.proofs.Common.{◌≡◌, ℕ, zero, suc, ◌+◌, ◌*◌, ◌<◌, ◌≤◌, List, [], ◌∷◌, map, length, get_or, take, drop, set, sym, refl, ap, ◌∙◌, subst, ap₂, add-zero, suc-mul, suc-add, zero-add, zero-mul, arith}
 use Rattle.std.proofs.lemmas.Nat.{mod-mul-add}
 use Rattle.std.proofs.lemmas.List.{length-drop}
 use Rattle.layers.proofs.Bridge.{table-ext}
 use Rattle.std.proofs.lemmas.Bool.{lt-ltb, le-ltb, eq-eqb, ne_eqb, and_from, and_left, and_right, cond-true, cond-false}
 use Rattle.layers.specs.declared.node.Arcs.{Arcs}
 use Rattle.layers.specs.declared.node.Node.{Node}
-use Rattle.layers.specs.Flow.{table, Outs, Layer, Net}
-use Rattle.layers.specs.Records.{padded, arcs_at}
+use Rattle.layers.specs.Flow.{table, Outs}
+use Rattle.layers.specs.Records.{arcs_at}
 use Rattle.labels.proofs.Laying.{arcs_of, Arranged}
-use Rattle.diagram.specs.Opening.{every_door, no_door, arcs_opened, with_arcs, arced}
+use Rattle.diagram.specs.Opening.{every_door, arcs_opened, with_arcs, arced}
 
 -- ---- one more door
 pub one_more : (m k : ℕ) → k < m → set {A = ℕ} (table m (λ i. get_or (table k (λ j. 1)) i 0)) k 1 ≡ table m (λ i. get_or (table (suc k) (λ j. 1)) i 0)

@@ -1,7 +1,7 @@
 -- The rule of the first door is lawful.
 use Rattle.std.specs.Prelude.{◌≡◌, ℕ, Bool, true, false, not, ◌&&◌, ◌||◌, List, [], ◌∷◌, ◌++◌, fold, ◌==◌, refl}
-use Rattle.std.proofs.Common.{sym, ap, subst, ◌∙◌, ⊎_elim, arith}
-use Rattle.std.proofs.lemmas.Bool.{and_parts, and_from, or_parts, or_right, not-true, not-false, not_from_false, both_ways, cases_Bool, eqb-true, eq-eqb}
+use Rattle.std.proofs.Common.{sym, ap, subst, ◌∙◌, ⊎_elim}
+use Rattle.std.proofs.lemmas.Bool.{and_parts, and_from, or_parts, or_right, not-true, not_from_false, both_ways, cases_Bool, eqb-true, eq-eqb}
 use Rattle.doors.specs.Orders.{is_door}
 use Rattle.doors.proofs.Orders.{door-is, not-door}
 use Rattle.rules.specs.Rules.{RuleLaws}

@@ -1,5 +1,5 @@
 -- On the records of a diagram the steps of refine and settled come to their definitions.
-use Rattle.std.proofs.Common.{◌≡◌, ℕ, zero, suc, ◌+◌, ◌-◌, ◌*◌, ◌<◌, ◌≤◌, Bool, true, false, cond, eqb, List, [], ◌∷◌, ◌++◌, length, drop, sym, refl, ap, ◌∙◌, subst, ap₂, arith}
+use Rattle.std.proofs.Common.{◌≡◌, ℕ, zero, suc, ◌+◌, ◌-◌, ◌*◌, ◌<◌, ◌≤◌, Bool, true, cond, eqb, List, ◌++◌, length, drop, sym, refl, ap, ◌∙◌, subst, ap₂, arith}
 use Rattle.std.proofs.lemmas.List.{length-append, length-drop}
 use Rattle.std.proofs.lemmas.Bool.{cond_both}
 use Rattle.round.specs.declared.table.Round.{Round}
@@ -9,18 +9,17 @@ use Rattle.layers.specs.declared.node.Node.{Node}
 use Rattle.layers.specs.Flow.{Net, count_arcs, tidied}
 use Rattle.layers.specs.Labels.{firsts}
 use Rattle.layers.specs.Records.{laid}
-use Rattle.layers.specs.Calls.{nodes, arcs, thinned, relaid, fewer, swept, sweep_answer, splits, splits_all, swept_out, refined}
+use Rattle.layers.specs.Calls.{nodes, arcs, thinned, relaid, swept, sweep_answer, splits, splits_all, swept_out, refined}
 use Rattle.layers.specs.Shape.{Shaped, Timely}
 use Rattle.layers.proofs.Bridge.{laid-long, later-stays}
 use Rattle.layers.proofs.Model.{parted}
 use Rattle.layers.proofs.Proper.{Proper, lawful, proper-parted}
 use Rattle.layers.proofs.Shaped.{relaid-shaped, thinned-less, proper-less}
-use Rattle.layers.proofs.Standing.{X, splits-X}
-use Rattle.layers.proofs.Timely.{relaid-timely}
+use Rattle.layers.proofs.Standing.{splits-X}
 use Rattle.labels.specs.Passes.{fits, relabelled}
 use Rattle.labels.proofs.Laying.{relabelled-lawful}
 use Rattle.labels.proofs.Rooms.{room-facts}
-use Rattle.filter.specs.Steps.{arc_count, sweep_steps}
+use Rattle.filter.specs.Steps.{arc_count}
 use Rattle.filter.proofs.FilterWords.{proper, sweep-words, swept-shaped, swept-timely, shaped-count, fewer-words}
 use Rattle.split.specs.Steps.{layer_steps}
 use Rattle.split.proofs.LayerWords.{Done, layer-net}

@@ -1,12 +1,12 @@
 -- Refine and settled as the code does them, on the flat list: the parts of a layer are made on arcs, and labelled once.
 -- What this comes to on the records of a diagram is said in the words of the definitions of the calls.
-use Rattle.std.specs.Prelude.{◌≡◌, ℕ, zero, suc, ◌-◌, Bool, true, false, cond, ◌&&◌, List, length, ◌==◌}
+use Rattle.std.specs.Prelude.{◌≡◌, ℕ, zero, suc, ◌-◌, Bool, true, cond, ◌&&◌, List, length, ◌==◌}
 use Rattle.round.specs.declared.table.Round.{Round}
 use Rattle.rules.specs.Rules.{RuleSense}
 use Rattle.tallies.specs.Tallies.{TallySense}
 use Rattle.layers.specs.declared.node.Node.{Node}
 use Rattle.layers.specs.Calls.{refined, settled}
-use Rattle.layers.specs.Shape.{Shaped, Timely}
+use Rattle.layers.specs.Shape.{Shaped}
 use Rattle.labels.specs.Passes.{fits, relabelled}
 use Rattle.filter.specs.Steps.{arc_count, sweep_steps, quiet_steps, Done}
 use Rattle.split.specs.Steps.{layer_steps, agreed_steps}

@@ -1,14 +1,12 @@
 -- The arrivals at a record, by the code's pass, are those by the nodes that stand.
-use Rattle.std.proofs.Common.{◌≡◌, ℕ, zero, suc, ◌+◌, ◌<◌, ◌≤◌, Bool, true, false, cond, not, eqb, List, [], ◌∷◌, ◌++◌, map, length, get_or, take, drop, refl, ap, ◌∙◌, ap₂, zero-add, add-one, arith, length-take}
+use Rattle.std.proofs.Common.{◌≡◌, ℕ, zero, suc, ◌≤◌, Bool, true, false, cond, not, eqb, List, [], ◌∷◌, ◌++◌, map, length, get_or, take, drop, refl, ap, ◌∙◌, ap₂, zero-add, arith, length-take}
 use Rattle.std.specs.List.{range_with_len, flat_map}
-use Rattle.std.proofs.lemmas.Bool.{cond-false, ne_eqb}
 use Rattle.round.specs.declared.table.Round.{Round}
 use Rattle.rules.specs.Rules.{RuleSense}
 use Rattle.tallies.specs.Tallies.{TallySense}
 use Rattle.layers.specs.declared.node.Arcs.{Arcs}
 use Rattle.layers.specs.declared.node.Node.{Node}
-use Rattle.layers.specs.declared.node.Down.{Down}
-use Rattle.layers.specs.Flow.{table, Outs, put, ins_door, ins}
+use Rattle.layers.specs.Flow.{table, Outs, ins_door, ins}
 use Rattle.layers.specs.Labels.{arrive}
 use Rattle.layers.specs.Records.{standing, arcs_in, downs_in, padded, arcs_at}
 use Rattle.layers.specs.Calls.{arrivals as arrivalsIn}

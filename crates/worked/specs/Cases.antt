@@ -1,5 +1,5 @@
 -- The worked cases, in one statement on the definitions: the rule is pairs and load together, the tally late doors.
-use Rattle.std.specs.Prelude.{◌≡◌, ℕ, zero, suc, ◌≤◌, Bool, true, false, ◌⊎◌, List, [], ◌∷◌, length, Some, None, slice_index_or}
+use Rattle.std.specs.Prelude.{◌≡◌, ℕ, zero, suc, Bool, true, false, ◌⊎◌, List, [], ◌∷◌, length, Some, None, slice_index_or}
 use Rattle.std.proofs.Common.{arith}
 use Rattle.doors.specs.Orders.{PartOrder}
 use Rattle.round.specs.declared.table.Round.{Round}

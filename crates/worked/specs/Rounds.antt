@@ -1,6 +1,6 @@
 -- Rounds of three doors with no drive minutes, for the worked cases.
 use Rattle.std.proofs.Common.{sym, subst, arith}
-use Rattle.std.specs.Prelude.{ℕ, zero, suc, ◌≤◌, List, [], ◌∷◌, replicate, ℤ, pos, negsuc, ◌≤ℤ◌}
+use Rattle.std.specs.Prelude.{ℕ, zero, suc, ◌≤◌, List, ◌∷◌, replicate, ℤ, pos, negsuc, ◌≤ℤ◌}
 use Rattle.round.specs.declared.door.Door.{Door}
 use Rattle.round.specs.declared.table.Round.{Round}
 use Rattle.round.specs.Tables.{blank, at}

@@ -1,7 +1,7 @@
-use Rattle.std.proofs.Common.{◌≡◌, ap, ◌∙◌, subst, sym, min}
+use Rattle.std.proofs.Common.{ap, ◌∙◌, min}
 use Rattle.layers.specs.Calls.{refined, opened_on}
 use Rattle.tallies.specs.Late.{late_sense}
-use Rattle.capi.specs.Senses.{side_sense, side_of, late_of}
+use Rattle.capi.specs.Senses.{side_sense, side_of}
 use Rattle.capi.proofs.refine_once.Goals as goal
 
 -- the diagram that is refined is the one that was opened, in the same room

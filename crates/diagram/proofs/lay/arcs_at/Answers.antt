@@ -1,4 +1,4 @@
-use Rattle.std.proofs.Common.{◌≡◌, ℕ, ◌*◌, ◌%◌, sym, arith}
+use Rattle.std.proofs.Common.{◌*◌, sym, arith}
 use Rattle.std.proofs.lemmas.Bool.{lt-ltb, le-ltb, eq-eqb, ne_eqb, and_from, and_left, and_right, cond-true, cond-false}
 use Rattle.diagram.specs.Opening.{arcs_opened}
 use Rattle.diagram.proofs.lay.arcs_at.Goals as goal

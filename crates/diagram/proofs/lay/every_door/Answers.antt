@@ -1,4 +1,4 @@
-use Rattle.std.proofs.Common.{◌≡◌, ℕ, ◌+◌, List, set, sym, refl, ap, ◌∙◌, add-one, arith}
+use Rattle.std.proofs.Common.{◌≡◌, ℕ, List, set, sym, ap, ◌∙◌, add-one, arith}
 use Rattle.layers.specs.Flow.{table}
 use Rattle.layers.specs.Records.{padded}
 use Rattle.diagram.proofs.Arcs_laid.{one_more}

@@ -1,7 +1,6 @@
-use Rattle.std.proofs.Common.{◌≡◌, ℕ, ◌-◌, Bool, true, false, List, length, sym, refl, ap, ◌∙◌, arith}
+use Rattle.std.proofs.Common.{◌≡◌, ℕ, ◌-◌, List, length, sym, ap, ◌∙◌, arith}
 use Rattle.layers.specs.declared.node.Node.{Node}
 use Rattle.labels.specs.Passes.{fits}
-use Rattle.refine.specs.Steps.{some_layers}
 use Rattle.refine.proofs.Turns.{layers-full, layers-next, layers-none}
 use Rattle.refine.proofs.refine.refine_layers.Goals as goal
 

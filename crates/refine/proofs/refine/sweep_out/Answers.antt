@@ -1,6 +1,5 @@
-use Rattle.std.proofs.Common.{◌≡◌, ℕ, suc, ◌+◌, ◌-◌, Bool, true, List, length, sym, refl, ap, ◌∙◌, arith}
+use Rattle.std.proofs.Common.{◌≡◌, ℕ, suc, ◌+◌, ◌-◌, true, length, sym, ap, ◌∙◌, arith}
 use Rattle.std.proofs.lemmas.Bool.{cond-true}
-use Rattle.layers.specs.declared.node.Node.{Node}
 use Rattle.labels.specs.Passes.{fits}
 use Rattle.filter.specs.Steps.{arc_count, sweep_steps}
 use Rattle.refine.specs.Steps.{sweeps_out}

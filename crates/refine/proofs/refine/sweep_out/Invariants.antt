@@ -1,6 +1,5 @@
 use Rattle.std.proofs.Common.{◌≡◌, suc, ◌-◌, true, length}
 use Rattle.labels.specs.Passes.{fits}
-use Rattle.filter.specs.Steps.{arc_count}
 use Rattle.refine.specs.Steps.{sweeps_out}
 use Rattle.refine.proofs.refine.sweep_out.Given as goal
 

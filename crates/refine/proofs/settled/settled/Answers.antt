@@ -1,5 +1,5 @@
-use Rattle.std.proofs.Common.{◌≡◌, ◌-◌, Bool, true, false, cond, ◌&&◌, length, sym, refl, ap, ◌∙◌, ap₂}
-use Rattle.std.proofs.lemmas.Bool.{cond-true, both_ways}
+use Rattle.std.proofs.Common.{◌≡◌, ◌-◌, Bool, true, false, cond, ◌&&◌, length, sym, refl, ap, ◌∙◌}
+use Rattle.std.proofs.lemmas.Bool.{cond-true}
 use Rattle.layers.specs.Calls.{nodes, agreed_all, quiet_from, settled}
 use Rattle.labels.specs.Passes.{fits}
 use Rattle.labels.proofs.Rooms.{room-facts}

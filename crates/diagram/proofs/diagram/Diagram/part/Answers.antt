@@ -1,4 +1,4 @@
-use Rattle.std.proofs.Common.{◌≡◌, sym, subst, arith}
+use Rattle.std.proofs.Common.{sym, subst, arith}
 use Rattle.layers.specs.Shape.{Shaped, Timely}
 use Rattle.split.proofs.PartWords.{part-shaped, part-timely}
 use Rattle.diagram.proofs.diagram.Diagram.part.Goals as goal
