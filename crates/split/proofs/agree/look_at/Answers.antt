@@ -1,25 +1,11 @@
-use Rattle.std.proofs.Common.{◌≡◌, ◌≤◌, true, length, take, None, fold, sym, ap, ◌∙◌, arith}
+use Rattle.std.proofs.Common.{◌≡◌, ◌≤◌, true, length, None, fold, ap, ◌∙◌, arith}
 use Rattle.std.proofs.lemmas.List.{take_all}
 use Rattle.tallies.specs.Tallies.{TallySense}
-use Rattle.labels.specs.Passes.{from_node, arrivals}
+use Rattle.labels.specs.Passes.{arrivals}
 use Rattle.layers.specs.Labels.{first_arrival, agreeing}
 use Rattle.split.specs.Agreed.{seen, met}
-use Rattle.split.proofs.Meets.{Seen, folded-take-more, met_all}
+use Rattle.split.proofs.Meets.{Seen, met_all}
 use Rattle.split.proofs.agree.look_at.Goals as goal
-
-pub loop-u-preserved : goal.loop-u-preserved
-loop-u-preserved g c s =
-    let r = c.args.round.now in
-    let R = g.R.Rule.sense c.args.rule.now in
-    let us = c.args.us.now in
-    let a = c.loop-u.u-index in
-    let x = c.u-item.result in
-    let F = from_node r R s c.args.t in
-    let got = fold (met r R s) (None, true) (arrivals r R s c.args.t (take a us)) in
-    c.meet_node-all.ensures s
-    ∙ ap (λ p. fold (met r R s) p (F x)) (c.loop-u.invariant s)
-    ∙ ap (λ y. fold (met r R s) got (F y)) c.u-item.is
-    ∙ sym (folded-take-more (met r R s) F (None, true) us a x c.loop-u-test.true)
 
 pub returns : goal.returns
 returns g c =

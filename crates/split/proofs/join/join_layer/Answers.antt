@@ -1,11 +1,8 @@
-use Rattle.std.proofs.Common.{◌≡◌, ◌-◌, ◌<◌, [], ◌∷◌, ◌++◌, length, get_or, set, ap, ◌∙◌, arith, rules}
+use Rattle.std.proofs.Common.{◌≡◌, ◌-◌, [], ◌∷◌, ◌++◌, get_or, set, ap, ◌∙◌, arith}
 use Rattle.layers.specs.Flow.{without_at}
 use Rattle.std.proofs.lemmas.List.{get_or_read}
 use Rattle.split.specs.Joined.{joined_node, joined_layer}
 use Rattle.split.proofs.join.join_layer.Goals as goal
-
-pub offset_bounds-us-lo-2 : goal.offset_bounds-us-lo-2
-offset_bounds-us-lo-2 g c = let h : c.args.lo - 1 < length c.args.us.now = omega arith in search rules
 
 pub returns : goal.returns
 unfolding joined_layer

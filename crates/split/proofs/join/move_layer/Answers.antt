@@ -1,5 +1,5 @@
-use Rattle.std.proofs.Common.{◌-◌, ◌≤◌, ◌++◌, map, length, get_or, drop, set, ap, ◌∙◌, append-nil, arith}
-use Rattle.std.proofs.lemmas.List.{drop_all, take_all, get_or_default}
+use Rattle.std.proofs.Common.{◌-◌, get_or, set, ap, ◌∙◌, arith}
+use Rattle.std.proofs.lemmas.List.{get_or_default}
 use Rattle.std.proofs.lemmas.List.Edits.{map_over_more}
 use Rattle.split.specs.Joined.{moved_node}
 use Rattle.split.proofs.join.move_layer.Goals as goal
@@ -11,13 +11,3 @@ loop-x-preserved g c =
     let x = get_or c.loop-x.us c.loop-x.x-index c.x-item.result in
     ap (set c.loop-x.us c.loop-x.x-index) c.move_node.ensures
     ∙ map_over_more f us c.loop-x.us c.loop-x.x-index x (omega arith) c.loop-x.invariant (get_or_default c.loop-x.us c.loop-x.x-index c.x-item.result x (omega arith))
-
-pub returns : goal.returns
-returns g c =
-    let us = c.args.us.now in
-    let past : length us ≤ c.loop-x.x-index = omega arith in
-    let f = moved_node (c.args.lo - 1) (c.args.hi - 1) in
-    c.loop-x.invariant
-    ∙ ap (λ ys. map f ys ++ drop c.loop-x.x-index us) (take_all c.loop-x.x-index us past)
-    ∙ ap (λ ys. map f us ++ ys) (drop_all c.loop-x.x-index us past)
-    ∙ append-nil (map f us)

@@ -40,11 +40,6 @@ overflow_cast-node g c =
     let high : c.args.node ≤ c.count_in-count.result = (node-clear c.count_in-count.result c.args.node c.in_ok-check_node.ensures).1 in
     omega (arith, c.count_in-count.ensures)
 
-pub check_into-requires : goal.check_into-requires
-check_into-requires g c =
-    let fits = placed-fits c.args.round.now.n c.args.width _ c.args.layer (place-clear _ _ _ _ c.in_ok-check_place.ensures) in
-    omega arith
-
 pub returns : goal.returns
 returns g c s =
     let r = c.args.round.now in

@@ -24,20 +24,6 @@ returns-then-count-w g c =
     let n = next-full r R T c.args.at c.args.w c.args.a c.args.count c.args.nodes.now (said r R T c.args.at c.args.w c.args.a c.args.nodes.now (c.look_in-first.ensures.agreed T) c.if-agreed.false) c.if-count-w.true in
     record { answer = n.0; records = n.1 }
 
-pub part_node-requires : goal.part_node-requires
-part_node-requires g c =
-    let r = c.args.round.now in
-    let R = g.R.Rule.sense c.args.rule.now in
-    let T = g.T.Tally.sense c.args.tally.now in
-    record {
-      w_in_bounds = c.requires.w_in_bounds;
-      w_bound = c.requires.w_bound;
-      one_le_a = omega arith;
-      a_le_count = omega (arith, c.requires.a_lt_count);
-      count_lt_w = c.if-count-w.false;
-      is_first = ap (brought_first r R T) (sym c.in-Some.is) ∙ c.look_in-first.ensures.first T;
-    }
-
 pub returns-in-None : goal.returns-in-None
 returns-in-None g c =
     let r = c.args.round.now in
