@@ -12,11 +12,6 @@ room n w long e =
     let c = and_parts _ _ b in
     (leb-true n 16 c.0, leb-true w 128 (and_parts _ _ a).0, leb-true (n * w + 1) long c.1)
 
-pub first_row-row-requires : goal.first_row-row-requires
-first_row-row-requires g c =
-    let r = room c.args.n c.args.width (length c.args.nodes.now) (sym c.if-not-fits.ensures) in
-    record { n_bound = r.0; width_bound = r.1; width_in_bounds = r.2 }
-
 pub returns : goal.returns
 unfolding must seen_from
 returns g c =
