@@ -1,9 +1,9 @@
 use Rattle.std.proofs.Common.{◌≡◌, ◌+◌, ◌-◌, ◌*◌, ◌≤◌, max, length, sym, ap, ◌∙◌, arith}
 use native.Mathlib.Nat.{max-le}
 use Rattle.std.proofs.lemmas.Result.{err_from_is_err_and, MatchResult-weaker}
-use Rattle.split.specs.Steps.{node_code}
+use Rattle.split.specs.Steps.{node_check}
 use Rattle.split.proofs.Asking.{join-place, join_one, join-other, join-pair}
-use Rattle.split.proofs.Codes.{place-clear, node-clear, placed-fits, placed-small}
+use Rattle.split.proofs.Checks.{place-clear, node-clear, placed-fits, placed-small}
 use Rattle.split.proofs.Stands.{count_most}
 use Rattle.split.proofs.joining.check_join.Goals as goal
 
@@ -31,14 +31,14 @@ pub returns-in_err-check_node : goal.returns-in_err-check_node
 returns-in_err-check_node g c z =
     let p = err_from_is_err_and c.from_residual-in_err-check_node.result c.from_residual-in_err-check_node.ensures.1 in
     rw (p.1, p.2) (join_one c.args.n z c.args.width c.args.layer c.args.a c.args.b c.args.nodes.now _
-    c.in_ok-check_place.ensures (ap (λ m. node_code m c.args.a) (sym c.count_in-count.ensures) ∙ c.in_err-check_node.ensures))
+    c.in_ok-check_place.ensures (ap (λ m. node_check m c.args.a) (sym c.count_in-count.ensures) ∙ c.in_err-check_node.ensures))
 
 pub returns-in_err-check_node-2 : goal.returns-in_err-check_node-2
 returns-in_err-check_node-2 g c z =
     let p = err_from_is_err_and c.from_residual-in_err-check_node-2.result c.from_residual-in_err-check_node-2.ensures.1 in
     rw (p.1, p.2) (join-other c.args.n z c.args.width c.args.layer c.args.a c.args.b c.args.nodes.now _
-    c.in_ok-check_place.ensures (ap (λ m. node_code m c.args.a) (sym c.count_in-count.ensures) ∙ c.in_ok-check_node.ensures)
-    (ap (λ m. node_code m c.args.b) (sym c.count_in-count.ensures) ∙ c.in_err-check_node-2.ensures))
+    c.in_ok-check_place.ensures (ap (λ m. node_check m c.args.a) (sym c.count_in-count.ensures) ∙ c.in_ok-check_node.ensures)
+    (ap (λ m. node_check m c.args.b) (sym c.count_in-count.ensures) ∙ c.in_err-check_node-2.ensures))
 
 pub check_pair-requires : goal.check_pair-requires
 check_pair-requires g c =
@@ -57,8 +57,8 @@ check_pair-requires g c =
 
 pub returns : goal.returns
 returns g c z =
-    let a : node_code _ c.args.a ≡ 0 = ap (λ m. node_code m c.args.a) (sym c.count_in-count.ensures) ∙ c.in_ok-check_node.ensures in
-    let b : node_code _ c.args.b ≡ 0 = ap (λ m. node_code m c.args.b) (sym c.count_in-count.ensures) ∙ c.in_ok-check_node-2.ensures in
+    let a : node_check _ c.args.a ≡ 0 = ap (λ m. node_check m c.args.a) (sym c.count_in-count.ensures) ∙ c.in_ok-check_node.ensures in
+    let b : node_check _ c.args.b ≡ 0 = ap (λ m. node_check m c.args.b) (sym c.count_in-count.ensures) ∙ c.in_ok-check_node-2.ensures in
     MatchResult-weaker c.check_pair.result (c.check_pair.ensures z)
     (λ x k. join-pair c.args.n z c.args.width c.args.layer c.args.a c.args.b c.args.nodes.now 0 c.in_ok-check_place.ensures a b k)
     (λ e k. join-pair c.args.n z c.args.width c.args.layer c.args.a c.args.b c.args.nodes.now _ c.in_ok-check_place.ensures a b k)

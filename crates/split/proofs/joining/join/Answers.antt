@@ -5,7 +5,7 @@ use Rattle.split.specs.Joined.{joined_second}
 use Rattle.split.specs.Steps.{joined_one}
 use Rattle.split.specs.Asked.{MayJoin}
 use Rattle.split.proofs.Asking.{join-clear}
-use Rattle.split.proofs.Codes.{placed-fits, placed-small}
+use Rattle.split.proofs.Checks.{placed-fits, placed-small}
 use Rattle.split.proofs.Doing.{join-refused, join-done}
 use Rattle.split.proofs.JoinWords.{join-said}
 use Rattle.split.proofs.Stands.{count_most}

@@ -1,7 +1,7 @@
 use Rattle.std.proofs.Common.{◌≡◌, ◌+◌, ◌-◌, ◌*◌, ◌<◌, ◌≤◌, length, Ok, Err, ap, ◌∙◌, arith}
 use Rattle.std.proofs.lemmas.Result.{err_from_is_err_and}
 use Rattle.split.specs.Steps.{node_count, parted_one}
-use Rattle.split.proofs.Codes.{placed-fits, placed-small}
+use Rattle.split.proofs.Checks.{placed-fits, placed-small}
 use Rattle.split.proofs.Doing.{part-refused, part-done}
 use Rattle.split.proofs.PartWords.{part-said}
 use Rattle.split.proofs.parting.part.Goals as goal

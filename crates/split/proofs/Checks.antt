@@ -4,7 +4,7 @@ use Rattle.std.proofs.lemmas.Bool.{ltb-false, leb-false, le-ltb, or_parts, or_fr
 use Rattle.layers.specs.declared.refusal.Refusal.{Refusal}
 use Rattle.layers.specs.declared.refusal.Refusal.TheVariants.{Width, Short, NoLayer, NoNode, NoDoor, OneGroup, LayerFull, SameNode, Clash, SameDoor}
 use Rattle.layers.specs.Refusals.{number_of}
-use Rattle.split.specs.Steps.{or_else, place_code, node_code, group_code, pair_code}
+use Rattle.split.specs.Steps.{or_else, place_check, node_check, group_check, pair_check}
 use Rattle.split.specs.Asked.{Placed}
 use Rattle.split.proofs.DepthNet.{two-fit}
 
@@ -53,7 +53,7 @@ one_of : (q : Bool) (k c : ℕ) → cond q (suc k) c ≡ 0 → (q ≡ false) × 
 one_of true k c e = absurd (omega arith)
 one_of false k c e = (refl, e)
 
-pub place-clear : (n w long i : ℕ) → place_code n w long i ≡ 0 → Placed n w long i
+pub place-clear : (n w long i : ℕ) → place_check n w long i ≡ 0 → Placed n w long i
 place-clear n w long i e =
     let a = one_of (ltb w 1 || ltb 128 w) 9 _ e in
     let b = one_of (ltb long (n * w + 1)) 10 _ a.1 in
@@ -68,7 +68,7 @@ place-clear n w long i e =
       high = leb-false n i y.1;
     }
 
-pub node-clear : (m a : ℕ) → node_code m a ≡ 0 → (1 ≤ a) × (a ≤ m)
+pub node-clear : (m a : ℕ) → node_check m a ≡ 0 → (1 ≤ a) × (a ≤ m)
 node-clear m a e = let x = or_parts _ _ (one_of (ltb a 1 || ltb m a) 20 0 e).0 in (ltb-false a 1 x.0, ltb-false m a x.1)
 
 -- the layer and the one before it lie within the list
@@ -87,7 +87,7 @@ placed-small n w long i h p =
     omega (arith, two-fit w (i - 1) n (omega arith))
 
 -- ---- a list that fits
-pub place_is : (n w long i : ℕ) → 1 ≤ w → w ≤ 128 → n * w + 1 ≤ long → place_code n w long i ≡ cond (ltb i 1 || leb n i) 20 0
+pub place_is : (n w long i : ℕ) → 1 ≤ w → w ≤ 128 → n * w + 1 ≤ long → place_check n w long i ≡ cond (ltb i 1 || leb n i) 20 0
 place_is n w long i some few fit =
     ap₂ (λ p q. cond p 10 (cond q 11 (cond (ltb i 1 || leb n i) 20 0))) (or_from (ltb w 1) (ltb 128 w) (le-ltb w 1 some) (le-ltb 128 w few)) (le-ltb long (n * w + 1) fit)
 
@@ -100,8 +100,8 @@ pub same_code : {A : Type 0} (k l : ℕ) (x y z : A) → k ≡ l → (k ≡ 0 �
 same_code zero l x y z e f = clear-done 0 x z refl ∙ f refl ∙ sym (clear-done l y z (sym e))
 same_code (suc k) l x y z e f = ap (λ q. cond q x z) (ne_eqb (suc k) 0 (λ h. omega arith)) ∙ sym (ap (λ q. cond q y z) (ne_eqb l 0 (λ h. omega arith)))
 
-pub group-clear : (p q : Bool) → group_code p q ≡ 0 → (p ≡ false) × (q ≡ false)
+pub group-clear : (p q : Bool) → group_check p q ≡ 0 → (p ≡ false) × (q ≡ false)
 group-clear p q e = let a = one_of p 22 _ e in (a.0, (one_of q 23 0 a.1).0)
 
-pub pair_parts : (p q : Bool) → pair_code p q ≡ 0 → (p ≡ false) × (q ≡ false)
+pub pair_parts : (p q : Bool) → pair_check p q ≡ 0 → (p ≡ false) × (q ≡ false)
 pair_parts p q e = let a = one_of p 24 _ e in (a.0, (one_of q 25 0 a.1).0)
