@@ -18,6 +18,7 @@ pub mod Sets
 pub mod Shaped
 pub mod Shapes
 pub mod Standing
+pub mod Tidying
 pub mod Tied
 pub mod Ties
 pub mod Timely

@@ -7,3 +7,4 @@ pub mod Records
 pub mod Refusals
 pub mod Shape
 pub mod Targets
+pub mod TidyLaws
