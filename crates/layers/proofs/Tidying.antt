@@ -1,9 +1,10 @@
 -- Tidying in the subject's words: the paths stay, and exactly the nodes on a path, numbered anew in their order.
-use Rattle.std.proofs.Common.{◌≡◌, ℕ, zero, suc, ◌<◌, Bool, true, false, List, [], ◌∷◌, length, get_or, drop, Some, None, Option, sym, refl, ap, ◌∙◌, subst, inl, inr}
-use Rattle.std.proofs.lemmas.Bool.{true≢false, false≢true}
-use Rattle.layers.specs.Flow.{Layer, Net, node, target, width, PathFrom, each_node, redirect, up, Mark, marks_next, marks_up, flags, rank, compress, renumber, tidy, tidied}
+use Rattle.std.proofs.Common.{◌≡◌, ℕ, zero, suc, ◌<◌, ◌≤◌, Bool, true, false, ◌⊎◌, List, [], ◌∷◌, length, get_or, drop, Some, None, Option, sym, refl, ap, ◌∙◌, subst, inl, inr, not-suc-le-zero, arith}
+use Rattle.std.proofs.lemmas.Bool.{true≢false, false≢true, cases_eq}
+use Rattle.std.proofs.lemmas.List.{ext_get_or}
+use Rattle.layers.specs.Flow.{Outs, Layer, Net, node, target, width, PathFrom, each_node, redirect, up, Mark, marks_next, marks_up, flags, rank, compress, renumber, tidy, tidied}
 use Rattle.layers.specs.LabelLaws.{PathTo}
-use Rattle.layers.specs.TidyLaws.{layer_of, IsOnPath, Stays, CountBelow, Becomes, IsRenumbered, TidyMeans}
+use Rattle.layers.specs.TidyLaws.{layer_of, IsOnPath, Stays, CountBelow, Becomes, IsRenumbered, IsTidied, TidyMeans, IsTidy, TidyStays}
 use Rattle.layers.proofs.Flows.{has-arc, inside, redirect-arc, mark-next, mark-up, flags-at, compress-at, rank-zero, renumber-at, tidy-keeps}
 use Rattle.layers.proofs.Shapes.{each_door-length}
 use Rattle.layers.proofs.Tied.{redirect-back, redirect-length, flags-back, renumber-back, marked_from, climbs-from}
@@ -221,10 +222,125 @@ unfolding tidied
 tidied-layers [] = refl
 tidied-layers (L ∷ Ls) = ap suc (tidy-layers (marks_next start L (width Ls)) Ls)
 
-pub tidy-means : TidyMeans
-tidy-means D = record {
+tidies : (D : Net) → IsTidied D (tidied D)
+tidies D = record {
   paths = λ w. (tidied-back D w, tidy-keeps D w);
   layers = tidied-layers D;
   nodes = as-many D;
   node_at = place D;
 }
+
+-- ---- these facts are so of one net alone
+-- of n that are counted there is one before which k are
+count-find : (P : ℕ → Type 0) (m n k : ℕ) → CountBelow P m n → k < n → (b : ℕ) × (b < m) × P b × CountBelow P b k
+count-find P zero n k h lt = absurd (omega arith)
+count-find P (suc m) zero k h lt = absurd (not-suc-le-zero lt)
+count-find P (suc m) (suc n) k (inl h) lt =
+    elim (cases_eq k n) [
+      | inl e ↦ (m, omega arith, h.0, rw e h.1)
+      | inr ne ↦ (let f = count-find P m n k h.1 (omega arith) in (f.0, omega arith, f.2, f.3))
+    ]
+count-find P (suc m) (suc n) k (inr h) lt = let f = count-find P m (suc n) k h.1 lt in (f.0, omega arith, f.2, f.3)
+
+same-number : (x y : ℕ) → ((c : ℕ) → x ≡ suc c → y ≡ suc c) → ((c : ℕ) → y ≡ suc c → x ≡ suc c) → x ≡ y
+same-number zero zero f g = refl
+same-number zero (suc y) f g = g y refl
+same-number (suc x) y f g = sym (f x refl)
+
+same-outs : (D : Net) (i : ℕ) (old x y : Outs) → IsRenumbered D i old x → IsRenumbered D i old y → x ≡ y
+same-outs D i old x y p q = ext_get_or 0 x y (p.doors ∙ sym q.doors) (λ k lt. same-number (get_or x k 0) (get_or y k 0)
+    (λ c e. (q.arcs (suc k) c).1 ((p.arcs (suc k) c).0 e))
+    (λ c e. (p.arcs (suc k) c).1 ((q.arcs (suc k) c).0 e)))
+
+module _ (D E E' : Net) (x : IsTidied D E) (y : IsTidied D E') where
+  same-layer : (i : ℕ) → layer_of E i ≡ layer_of E' i
+  same-layer i = ext_get_or [] (layer_of E i) (layer_of E' i) (count-only (Stays D i) (length (layer_of D i)) (length (layer_of E i)) (length (layer_of E' i)) (x.nodes i) (y.nodes i)) (λ k lt.
+      let f = count-find (Stays D i) (length (layer_of D i)) (length (layer_of E i)) k (x.nodes i) lt in
+      let u = x.node_at i f.0 f.1 f.2 in
+      let v = y.node_at i f.0 f.1 f.2 in
+      let old = node (layer_of D i) f.0 in
+      same-outs D i old (node (layer_of E i) k) (node (layer_of E' i) k)
+      (subst (λ (m : ℕ). IsRenumbered D i old (node (layer_of E i) m)) (count-only (Stays D i) f.0 u.0 k u.1.before f.3) u.2)
+      (subst (λ (m : ℕ). IsRenumbered D i old (node (layer_of E' i) m)) (count-only (Stays D i) f.0 v.0 k v.1.before f.3) v.2))
+
+  same-net : E ≡ E'
+  same-net = ext_get_or [] E E' (x.layers ∙ sym y.layers) (λ i lt. same-layer i)
+
+pub tidy-means : TidyMeans
+tidy-means D E = (λ x. same-net D E (tidied D) x (tidies D), λ e. rw e (tidies D))
+
+-- ---- what tidying leaves alone
+count-le : (P : ℕ → Type 0) (m n : ℕ) → CountBelow P m n → n ≤ m
+count-le P zero n h = omega arith
+count-le P (suc m) zero h = omega arith
+count-le P (suc m) (suc n) (inl h) = omega (arith, count-le P m n h.1)
+count-le P (suc m) (suc n) (inr h) = omega (arith, count-le P m (suc n) h.1)
+
+count-full : (P : ℕ → Type 0) (m : ℕ) → CountBelow P m m → (b : ℕ) → b < m → P b
+count-full P zero h b lt = absurd (not-suc-le-zero lt)
+count-full P (suc m) (inl h) b lt = elim (cases_eq b m) [ inl e ↦ rw e h.0 | inr ne ↦ count-full P m h.1 b (omega arith) ]
+count-full P (suc m) (inr h) b lt = absurd (omega (arith, count-le P m (suc m) h.1))
+
+count-each : (P : ℕ → Type 0) (m : ℕ) → ((b : ℕ) → b < m → P b) → CountBelow P m m
+count-each P zero h = refl
+count-each P (suc m) h = inl (h m (omega arith), count-each P m (λ b lt. h b (omega arith)))
+
+-- a place from which a path leads on is within its layer, or the end
+place-within : (D : Net) (i c : ℕ) (v : List ℕ) → PathFrom (drop i D) c v → (c < length (layer_of D i)) ⊎ (c ≡ 0)
+place-within [] zero c [] p = inr p
+place-within [] zero c (j ∷ v) p = absurd p
+place-within [] (suc i) c [] p = inr p
+place-within [] (suc i) c (j ∷ v) p = absurd p
+place-within (L ∷ D) zero c [] p = absurd p
+place-within (L ∷ D) zero c (j ∷ v) p = inl (has-arc L c j p.0 p.1)
+place-within (L ∷ D) (suc i) c v p = place-within D i c v p
+
+-- where all stay, each keeps its place
+own-place : (D : Net) (i b k : ℕ) → ((c : ℕ) → c < b → Stays D i c) → CountBelow (Stays D i) b k → b ≡ k
+own-place D i b k h n = count-only (Stays D i) b b k (count-each (Stays D i) b h) n
+
+same-tidy : (D : Net) → IsTidied D D → IsTidy D
+same-tidy D t = record {
+  nodes = λ i b lt. stays (suc i) b lt;
+  arcs = λ i a j b e.
+      let here : a < length (layer_of D i) = has-arc (layer_of D i) a j b e in
+      let s = t.node_at i a here (stays i a here) in
+      let o : a ≡ s.0 = own-place D i a s.0 (λ c lt. stays i c (omega arith)) s.1.before in
+      let q = (s.2.arcs j b).0 (subst (λ (k : ℕ). target (node (layer_of D i) k) j ≡ suc b) o e) in
+      let z : q.0 ≡ b = omega (arith, q.1, e) in
+      subst (IsOnPath D (suc i)) z q.2.stays;
+}
+  where
+    stays : (i b : ℕ) → b < length (layer_of D i) → Stays D i b
+    stays i b lt = count-full (Stays D i) (length (layer_of D i)) (t.nodes i) b lt
+
+tidy-same : (D : Net) → IsTidy D → IsTidied D D
+tidy-same D t = record {
+  paths = λ w. (λ p. p, λ p. p);
+  layers = refl;
+  nodes = λ i. count-each (Stays D i) (length (layer_of D i)) (λ b lt. stays i b lt);
+  node_at = λ i b lt s. (
+    b,
+    record { stays = s; before = count-each (Stays D i) b (λ c l. stays i c (omega arith)) },
+    record {
+      doors = refl;
+      arcs = λ j c. (
+        (λ e. let o = t.arcs i b j c e in (c, e, record { stays = o; before = count-each (Stays D (suc i)) c (before i c o) })),
+        (λ q. e_at i b j c q.0 q.1 (own-place D (suc i) q.0 c (before i q.0 q.2.stays) q.2.before)),
+      );
+    },
+  );
+}
+  where
+    stays : (i b : ℕ) → b < length (layer_of D i) → Stays D i b
+    stays zero b lt = tt
+    stays (suc i) b lt = t.nodes i b lt
+
+    before : (i c : ℕ) → IsOnPath D (suc i) c → (b : ℕ) → b < c → IsOnPath D (suc i) b
+    before i c o b lt = elim (place-within D (suc i) c o.on.0 o.on.1) [ inl h ↦ t.nodes i b (omega arith) | inr e ↦ absurd (omega arith) ]
+
+    e_at : (i b j c d : ℕ) → target (node (layer_of D i) b) j ≡ suc d → d ≡ c → target (node (layer_of D i) b) j ≡ suc c
+    e_at i b j c d e z = e ∙ ap suc z
+
+pub tidy-stays : TidyStays
+tidy-stays D = (λ t. sym ((tidy-means D D).0 (tidy-same D t)), λ e. same-tidy D ((tidy-means D D).1 (sym e)))

@@ -1,4 +1,5 @@
--- What tidying leaves of any layers of arcs: the same paths, and exactly the nodes on a path, in their order. Layers and places in a layer count from 0.
+-- What tidying leaves of any layers of arcs: the same paths, and exactly the nodes on a path, in their order.
+-- Layers and places in a layer count from 0.
 use Rattle.std.specs.Prelude.{◌≡◌, ℕ, zero, suc, ◌<◌, ◌⊎◌, ◌↔◌, List, [], length, slice_index_or, ⊤}
 use Rattle.layers.specs.Flow.{Outs, Layer, Net, node, target, PathFrom, tidied}
 use Rattle.layers.specs.LabelLaws.{LeadsTo, LeadsOn}
@@ -28,8 +29,8 @@ pub record Becomes (D : Net) (i b k : ℕ) : Type 0 where
   pub stays : Stays D i b
   pub before : CountBelow (Stays D i) b k
 
--- the targets by door of a node of layer i, before and after: as many doors, and an arc to place c exactly if the same door led to a place
--- of the next layer that becomes c
+-- the targets by door of a node of layer i, before and after: as many doors, and an arc to place c exactly if by the same door one led
+-- to a place of the next layer that becomes c
 pub record IsRenumbered (D : Net) (i : ℕ) (old new : Outs) : Type 0 where
   pub doors : length new ≡ length old
   pub arcs : (j c : ℕ) → (target new j ≡ suc c) ↔ ((b : ℕ) × (target old j ≡ suc b) × Becomes D (suc i) b c)
@@ -46,6 +47,15 @@ pub record IsTidied (D E : Net) : Type 0 where
   pub node_at : (i b : ℕ) → b < length (layer_of D i) → Stays D i b
       → (k : ℕ) × Becomes D i b k × IsRenumbered D i (node (layer_of D i) b) (node (layer_of E i) k)
 
--- tidying does this to any layers of arcs
+-- this is what tidying leaves of any layers of arcs, and these facts are so of nothing else
 abbrev pub TidyMeans : Type 0
-TidyMeans = (D : Net) → IsTidied D (tidied D)
+TidyMeans = (D E : Net) → IsTidied D E ↔ (E ≡ tidied D)
+
+-- nothing in D is to go: in every layer but layer 0 each node lies on a path, and each arc leads to a place on a path
+pub record IsTidy (D : Net) : Type 0 where
+  pub nodes : (i b : ℕ) → b < length (layer_of D (suc i)) → IsOnPath D (suc i) b
+  pub arcs : (i a j b : ℕ) → target (node (layer_of D i) a) j ≡ suc b → IsOnPath D (suc i) b
+
+-- exactly then tidying alters nothing
+abbrev pub TidyStays : Type 0
+TidyStays = (D : Net) → IsTidy D ↔ (tidied D ≡ D)

@@ -2,7 +2,7 @@
 ghost use Rattle.layers.specs.Claim.{Kept, WorkedOut, SettledMeans, WholeSettlesAlways};
 ghost use Rattle.layers.specs.LabelLaws.{LabelsMean};
 ghost use Rattle.layers.specs.SweepLaws.{RefineSweepsOutAlways};
-ghost use Rattle.layers.specs.TidyLaws.{TidyMeans};
+ghost use Rattle.layers.specs.TidyLaws.{TidyMeans, TidyStays};
 
 use rules::rule::Rule;
 use tallies::tally::Tally;
@@ -41,6 +41,8 @@ pub fn refine_sweeps_out<R: Rule, T: Tally>(rule: &R, tally: &T)
 {}
 
 /// Tidying any layers of arcs keeps every path and adds none, and exactly the nodes on a path stay, renumbered in their order.
+/// It alters nothing exactly if each node lies on a path and no arc leads elsewhere.
 pub fn tidy_means()
-    ensures { TidyMeans }
+    ensures left { TidyMeans }
+    ensures alone { TidyStays }
 {}
