@@ -73,7 +73,8 @@ pub fn list<R: Rule, T: Tally>(
     tally: &T,
 ) -> Result<Vec<Listed<T::Value>>, AllocError>
     ensures sound { R.Rule.serves rule.now round.now.n →
-        IfOk result (λ l. All (Good round.now (R.Rule.keeps rule.now) (T.Tally.sense tally.now)) l.items) }
+        IfOk result (λ l.
+        All (Good round.now (R.Rule.keeps rule.now) (T.Tally.sense tally.now)) l.items) }
     ensures whole { R.Rule.serves rule.now round.now.n →
         IfOk result (λ l. (w : List ℕ) → Allowed round.now (R.Rule.keeps rule.now) w →
         Contains (listed_orders round.now.n l.items) w) }

@@ -4,12 +4,12 @@ ghost use Rattle.std.specs.List.Sorted.{IsPermutation};
 ghost use Rattle.lister.specs.Orders.{IsNext, IsLast};
 
 // The last place whose number is above that one, if there is one.
-fn last_above(doors: &[usize], least: usize) -> Option<usize>
-    ensures { MatchOption result (All (λ j. j ≤ least) doors.now)
-        (λ k. (k < length doors.now) × (least < slice_index doors.now k)
-        × ((m : ℕ) → k < m → m < length doors.now → slice_index doors.now m ≤ least)) }
+fn last_above(doors: &[usize], number: usize) -> Option<usize>
+    ensures { MatchOption result (All (λ j. j ≤ number) doors.now)
+        (λ k. (k < length doors.now) × (number < slice_index doors.now k)
+        × ((m : ℕ) → k < m → m < length doors.now → slice_index doors.now m ≤ number)) }
 {
-    doors.iter().rposition(|j| *j > least)
+    doors.iter().rposition(|j| *j > number)
 }
 
 /// The next list of the same numbers in dictionary order, if there is one.
@@ -31,7 +31,6 @@ pub fn next_order(doors: &mut [usize]) -> bool
         return false;
     };
     doors.swap(0, k + 1);
-    let tail = &mut doors[1..];
-    tail.reverse();
+    doors[1..].reverse();
     true
 }
