@@ -1,8 +1,12 @@
 // What kinds of rounds were met.
 use crate::counts::more;
+use crate::paths::MOST;
 use crate::same::same_value;
 use doors::contains;
-use lister::list::{Listed, list};
+use lister::list::{BY_NUMBER, Listed, list};
+use lister::next::next_order;
+use orders::order::Order;
+use orders::verdict::Verdict;
 use round::table::Round;
 use rules::load::Load;
 use rules::pairs::Pairs;
@@ -102,6 +106,28 @@ fn has_equal<T: Tally>(tally: &T, orders: &[Listed<T::Value>]) -> bool {
     count > 1
 }
 
+// Whether the first fault of the list of doors is one that closes too early.
+fn is_closed<R: Rule>(round: &Round, rule: &R, doors: &[usize]) -> bool {
+    match Order::of(round, doors) {
+        Some(order) => matches!(order.verdict(rule), Verdict::Closes(_)),
+        None => false,
+    }
+}
+
+// Whether that is so of some order of the round.
+fn is_tight<R: Rule>(round: &Round, rule: &R) -> bool {
+    let mut doors = BY_NUMBER;
+    for _ in 0..MOST {
+        if is_closed(round, rule, &doors[..round.n]) {
+            return true;
+        }
+        if !next_order(&mut doors[..round.n]) {
+            return false;
+        }
+    }
+    false
+}
+
 // The kinds of a round with these allowed orders under its pairs and its load.
 pub(crate) fn kinds_of<R: Rule, T: Tally>(
     heap: Global,
@@ -113,9 +139,9 @@ pub(crate) fn kinds_of<R: Rule, T: Tally>(
     let pairs = Pairs::of(round);
     let load = Load::of(round);
     let allowed = orders.len();
-    let by_load = list(heap, round, &load, tally)?.allowed.len();
-    let by_pairs = list(heap, round, &pairs, tally)?.allowed.len();
-    let closed = list(heap, round, rule, tally)?.closed;
+    let by_load = list(heap, round, &load, tally)?.len();
+    let by_pairs = list(heap, round, &pairs, tally)?.len();
+    let tight = is_tight(round, rule);
     let mut kinds = Kinds::none();
     if round.n < 17 {
         kinds.doors[round.n] = 1;
@@ -123,8 +149,8 @@ pub(crate) fn kinds_of<R: Rule, T: Tally>(
     kinds.ring = more(0, has_ring(&pairs, round.n));
     kinds.pairs = more(0, by_load > allowed);
     kinds.load = more(0, by_pairs > allowed);
-    kinds.tight = more(0, closed > 0);
-    kinds.loose = more(0, closed == 0);
+    kinds.tight = more(0, tight);
+    kinds.loose = more(0, !tight);
     kinds.equal = more(0, has_equal(tally, orders));
     Ok(kinds)
 }

@@ -111,7 +111,7 @@ fn late_round(
     let rule = Both::of(round);
     let tally = LateDoors::of(round);
     let listing = list(rt.alloc(), round, &rule, &tally)?;
-    let orders = listing.allowed.as_slice();
+    let orders = listing.as_slice();
     let mut nodes = [mark(&rule, &tally); LENT];
     let mut log = start_log(&tally);
     let outcome = run_round(
@@ -138,7 +138,7 @@ fn driving_round(
     let rule = Both::of(round);
     let tally = Driving;
     let listing = list(rt.alloc(), round, &rule, &tally)?;
-    let orders = listing.allowed.as_slice();
+    let orders = listing.as_slice();
     let mut nodes = [mark(&rule, &tally); LENT];
     let mut log = start_log(&tally);
     let outcome = run_round(

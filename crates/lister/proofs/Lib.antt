@@ -1,1 +1,6 @@
-mod Shuffles
+pub mod Dictionary
+pub mod Doors
+pub mod Permutations
+pub mod Rank
+pub mod SoFar
+pub mod Verdicts

@@ -1,1 +1,2 @@
 pub mod Listed
+pub mod Orders

@@ -1,5 +1,5 @@
--- What a listed order is.
-use Rattle.std.specs.Prelude.{◌≡◌, ℕ, List, take}
+-- What a listed order is, and which orders a list has.
+use Rattle.std.specs.Prelude.{◌≡◌, ℕ, ◌⊎◌, List, [], ◌∷◌, ◌++◌, map, take}
 use Rattle.round.specs.declared.table.Round.{Round}
 use Rattle.tallies.specs.Tallies.{TallySense}
 use Rattle.orders.specs.Allowed.{Allowed}
@@ -10,3 +10,12 @@ use Rattle.lister.specs.declared.list.Listed.{Listed}
 pub record Good {V : Type 0} (r : Round) (Keeps : List ℕ → Type 0) (T : TallySense V) (x : Listed V) : Type 0 where
   pub allowed : Allowed r Keeps (take r.n x.doors)
   pub cost : x.cost ≡ cost r T (take r.n x.doors)
+
+-- the orders of n doors that are listed
+abbrev pub listed_orders : {V : Type 0} → ℕ → List (Listed V) → List (List ℕ)
+listed_orders n xs = map (λ x. take n x.doors) xs
+
+-- the orders after one more was looked at: it is added if it is allowed
+abbrev pub LooksAt : Round → (List ℕ → Type 0) → List ℕ → List (List ℕ) → List (List ℕ) → Type 0
+LooksAt r Keeps w old new =
+    (Allowed r Keeps w × (new ≡ old ++ w ∷ [])) ⊎ ((¬ Allowed r Keeps w) × (new ≡ old))

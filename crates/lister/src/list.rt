@@ -1,8 +1,9 @@
-// The allowed orders of a small round, with their costs.
-ghost use Rattle.std.specs.Prelude.{◌≡◌, ◌≤◌, take, All, IfOk, IfSome};
+//! The allowed orders of a round, with their costs.
+ghost use Rattle.std.specs.Prelude.{◌≡◌, ℕ, List, take, All, AllPairs, Contains, IfOk, OnOk, IfSome, MatchOption};
 ghost use Rattle.orders.specs.Allowed.{Allowed};
 ghost use Rattle.orders.specs.Costs.{cost};
-ghost use Rattle.lister.specs.Listed.{Good};
+ghost use Rattle.lister.specs.Listed.{Good, LooksAt, listed_orders};
+ghost use Rattle.lister.specs.Orders.{ComesBefore};
 
 use crate::next::next_order;
 use orders::order::Order;
@@ -12,36 +13,17 @@ use rules::rule::Rule;
 use std::alloc::{AllocError, Global};
 use tallies::tally::Tally;
 
-// How many orders are looked at, at most: those of 8 doors.
-const MOST: usize = 40_320;
-
-// An allowed order, at the first n places, and its cost.
+/// An allowed order, at the first n places, and its cost.
 #[derive(Clone, Copy)]
 pub struct Listed<V> {
     pub doors: [usize; 16],
     pub cost: V,
 }
 
-// The allowed ones of the orders that were looked at, how many others have a door that closes too early as their first fault, how
-// many were looked at, and whether they were all.
-#[derive(Drop)]
-pub struct Listing<V> {
-    pub allowed: Vec<Listed<V>>,
-    pub closed: usize,
-    pub seen: usize,
-    pub whole: bool,
-}
+/// The doors by number: the first n are the first of all orders of n doors.
+pub const BY_NUMBER: [usize; 16] = [1, 2, 3, 4, 5, 6, 7, 8, 9, 10, 11, 12, 13, 14, 15, 16];
 
-// The doors by number.
-fn by_number() -> [usize; 16] {
-    let mut doors = [0; 16];
-    for k in 0..16 {
-        doors[k] = k + 1;
-    }
-    doors
-}
-
-// The cost of the list of doors, if it is an allowed order.
+/// The cost of the list of doors, if it is an allowed order.
 pub fn cost_if_allowed<'a, R: Rule, T: Tally>(
     round: &'a Round,
     rule: &R,
@@ -49,7 +31,9 @@ pub fn cost_if_allowed<'a, R: Rule, T: Tally>(
     doors: &'a [usize],
 ) -> Option<T::Value>
     ensures cost { IfSome result (λ c. c ≡ cost round.now (T.Tally.sense tally.now) doors.now) }
-    ensures allowed { R.Rule.serves rule.now round.now.n → IfSome result (λ _. Allowed round.now (R.Rule.keeps rule.now) doors.now) }
+    ensures allowed { R.Rule.serves rule.now round.now.n →
+        MatchOption result (¬ Allowed round.now (R.Rule.keeps rule.now) doors.now)
+        (λ _. Allowed round.now (R.Rule.keeps rule.now) doors.now) }
 {
     let order = Order::of(round, doors)?;
     match order.verdict(rule) {
@@ -66,59 +50,43 @@ fn look<R: Rule, T: Tally>(
     doors: [usize; 16],
     allowed: &mut Vec<Listed<T::Value>>,
 ) -> Result<(), AllocError>
-    ensures { R.Rule.serves rule.now round.now.n → All (Good round.now (R.Rule.keeps rule.now) (T.Tally.sense tally.now)) allowed.old.items → All (Good round.now (R.Rule.keeps rule.now) (T.Tally.sense tally.now)) allowed.new.items }
+    ensures good { R.Rule.serves rule.now round.now.n →
+        All (Good round.now (R.Rule.keeps rule.now) (T.Tally.sense tally.now)) allowed.old.items →
+        All (Good round.now (R.Rule.keeps rule.now) (T.Tally.sense tally.now)) allowed.new.items }
+    ensures orders { R.Rule.serves rule.now round.now.n →
+        OnOk result (LooksAt round.now (R.Rule.keeps rule.now) (take round.now.n doors)
+        (listed_orders round.now.n allowed.old.items)
+        (listed_orders round.now.n allowed.new.items)) }
 {
-    if let Some(cost) = cost_if_allowed(round, rule, tally, &doors[0..round.n]) {
+    if let Some(cost) = cost_if_allowed(round, rule, tally, &doors[..round.n]) {
         allowed.push(Listed { doors, cost })?;
     }
     Ok(())
 }
 
-// Whether the first fault of the list of doors is one that closes too early.
-fn is_closed<R: Rule>(round: &Round, rule: &R, doors: &[usize]) -> bool {
-    match Order::of(round, doors) {
-        Some(order) => matches!(order.verdict(rule), Verdict::Closes(_)),
-        None => false,
-    }
-}
-
-// The next order of the first n doors, if there is one.
-fn step(doors: &mut [usize; 16], n: usize) -> bool
-    requires { n ≤ 16 }
-{
-    next_order(&mut doors[0..n])
-}
-
-// All allowed orders of a round of up to 8 doors, each once, by number of the first door, then of the second, and so on.
+/// All allowed orders of the round, each once, in dictionary order: by number of the first door, then of the second, and so on.
+/// Each order of the doors is looked at, allowed or not: 40,320 of 8 doors, and about 20 million million of 16.
 pub fn list<R: Rule, T: Tally>(
     heap: Global,
     round: &Round,
     rule: &R,
     tally: &T,
-) -> Result<Listing<T::Value>, AllocError>
-    ensures { R.Rule.serves rule.now round.now.n → IfOk result (λ l. All (Good round.now (R.Rule.keeps rule.now) (T.Tally.sense tally.now)) l.allowed.items) }
+) -> Result<Vec<Listed<T::Value>>, AllocError>
+    ensures sound { R.Rule.serves rule.now round.now.n →
+        IfOk result (λ l.
+        All (Good round.now (R.Rule.keeps rule.now) (T.Tally.sense tally.now)) l.items) }
+    ensures whole { R.Rule.serves rule.now round.now.n →
+        IfOk result (λ l. (w : List ℕ) → Allowed round.now (R.Rule.keeps rule.now) w →
+        Contains (listed_orders round.now.n l.items) w) }
+    ensures ascending { R.Rule.serves rule.now round.now.n →
+        IfOk result (λ l. AllPairs ComesBefore (listed_orders round.now.n l.items)) }
 {
     let mut allowed = Vec::new(heap);
-    let mut doors = by_number();
-    let mut closed: usize = 0;
-    for seen in 0..MOST {
+    let mut doors = BY_NUMBER;
+    loop {
         look(round, rule, tally, doors, &mut allowed)?;
-        if is_closed(round, rule, &doors[0..round.n]) {
-            closed = closed.saturating_add(1);
-        }
-        if !step(&mut doors, round.n) {
-            return Ok(Listing {
-                allowed,
-                closed,
-                seen: seen + 1,
-                whole: true,
-            });
+        if !next_order(&mut doors[..round.n]) {
+            return Ok(allowed);
         }
     }
-    Ok(Listing {
-        allowed,
-        closed,
-        seen: MOST,
-        whole: false,
-    })
 }

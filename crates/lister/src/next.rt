@@ -1,46 +1,36 @@
-// From one order to the next, as in a dictionary.
-ghost use Rattle.std.specs.Prelude.{◌≡◌, ◌-◌, ◌<◌, ◌≤◌, false, length};
+//! From one order to the next, as in a dictionary.
+ghost use Rattle.std.specs.Prelude.{◌≡◌, ℕ, ◌<◌, ◌≤◌, false, true, length, All, MatchOption, slice_index};
 ghost use Rattle.std.specs.List.Sorted.{IsPermutation};
+ghost use Rattle.lister.specs.Orders.{IsNext, IsLast};
 
-// The last place whose number is above the one before it; 0 if there is none.
-fn last_rise(doors: &[usize]) -> usize
-    ensures { result ≤ length doors.now - 1 }
+// The last place whose number is above that one, if there is one.
+fn last_above(doors: &[usize], number: usize) -> Option<usize>
+    ensures { MatchOption result (All (λ j. j ≤ number) doors.now)
+        (λ k. (k < length doors.now) × (number < slice_index doors.now k)
+        × ((m : ℕ) → k < m → m < length doors.now → slice_index doors.now m ≤ number)) }
 {
-    let mut rise = 0;
-    for k in 1..doors.len() {
-        if doors[k - 1] < doors[k] {
-            rise = k;
-        }
-    }
-    rise
+    doors.iter().rposition(|j| *j > number)
 }
 
-// The last place after k whose number is above the one at k, or k.
-fn last_above(doors: &[usize], k: usize) -> usize
-    requires { k < length doors.now }
-    ensures { result < length doors.now }
-{
-    let mut last = k;
-    for m in k..doors.len() {
-        if doors[k] < doors[m] {
-            last = m;
-        }
-    }
-    last
-}
-
-// The next list of the same numbers, if this is not the last one.
+/// The next list of the same numbers in dictionary order, if there is one.
 pub fn next_order(doors: &mut [usize]) -> bool
     ensures same_doors { IsPermutation doors.old doors.new }
-    ensures last { result ≡ false → doors.new ≡ doors.old }
+    ensures next { result ≡ true → IsNext doors.old doors.new }
+    ensures last { result ≡ false → IsLast doors.old }
+    ensures unaltered { result ≡ false → doors.new ≡ doors.old }
 {
-    let rise = last_rise(doors);
-    if rise == 0 {
+    if doors.is_empty() {
         return false;
     }
-    let last = last_above(doors, rise - 1);
-    doors.swap(rise - 1, last);
-    let tail = &mut doors[rise..];
-    tail.reverse();
+    let first = doors[0];
+    let rest = &mut doors[1..];
+    if next_order(rest) {
+        return true;
+    }
+    let Some(k) = last_above(rest, first) else {
+        return false;
+    };
+    doors.swap(0, k + 1);
+    doors[1..].reverse();
     true
 }
