@@ -1,0 +1,3 @@
+pub mod SheetClaims
+pub mod SheetSets
+pub mod SheetTexts

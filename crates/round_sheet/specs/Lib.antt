@@ -1,0 +1,4 @@
+pub mod Claims
+pub mod Orders
+pub mod Sheets
+pub mod Texts

@@ -1,0 +1,61 @@
+-- What a sheet of a round has, read off the round's diagram of width 16 once it is refined.
+use Rattle.std.specs.Prelude.{ℕ, zero, suc, ◌+◌, ◌*◌, ◌^◌, Bool, ◌&&◌, ◌==◌, List, map, bit_or, if◌then◌else◌}
+use Rattle.std.specs.List.{range_with_len}
+use Rattle.round.specs.declared.table.Round.{Round}
+use Rattle.rules.specs.declared.load.Interval.{Interval}
+use Rattle.rules.specs.Boths.{both_sense}
+use Rattle.rules.specs.Loads.{load_sense}
+use Rattle.rules.specs.Pairs.{pairs_sense}
+use Rattle.rules.specs.Rules.{RuleSense}
+use Rattle.tallies.specs.Late.{late_sense}
+use Rattle.tallies.specs.Tallies.{TallySense}
+use Rattle.layers.specs.declared.node.Node.{Node}
+use Rattle.layers.specs.Calls.{opened_on, refined, must, must_answer, settled}
+
+-- a record of the diagram: its rule's state is a set of doors and an interval of loads, its tally's value late doors and minutes
+abbrev pub Place : Type 0
+Place = Node (ℕ × Interval) (ℕ × ℕ)
+
+-- the side rule of a round: its pairs, and its load
+abbrev pub side_of : Round → RuleSense (ℕ × Interval)
+side_of r = both_sense (pairs_sense r.n r.ahead) (load_sense r.n r.load r.cap r.doors)
+
+-- the tally of a round: its late doors
+abbrev pub late_of : Round → TallySense (ℕ × ℕ)
+late_of r = late_sense r.n r.doors
+
+-- how many records the diagram of a round takes
+abbrev pub places_of : Round → ℕ
+places_of r = r.n * 16 + 1
+
+-- the round's diagram as it is opened on a lent list
+abbrev pub opened_for : Round → List Place → List Place
+opened_for r xs = opened_on r (side_of r) (late_of r) 16 xs
+
+-- what refine answers there, and the records that it leaves
+abbrev pub refined_for : Round → List Place → ℕ × List Place
+refined_for r xs = refined r (side_of r) (late_of r) 16 (opened_for r xs)
+
+-- whether the diagram in these records is settled
+abbrev pub settled_for : Round → List Place → Bool
+settled_for r xs = settled r (side_of r) (late_of r) 16 xs
+
+-- door i has to come ahead of door j, in the diagram in these records: two doors of the round, and no path has j at an
+-- earlier place than i
+abbrev pub must_of : Round → List Place → ℕ → ℕ → Bool
+must_of r xs i j = must_answer r.n i j == 0 && must r.n 16 i j xs
+
+-- the set of the doors 1 to k for which the test says yes
+unfoldable pub set_where : (ℕ → Bool) → ℕ → ℕ
+set_where p zero = 0
+set_where p (suc k) = if p (suc k) then bit_or (set_where p k) (2 ^ suc k) else set_where p k
+
+-- the doors that have to come behind door i; none where i is no door
+unfoldable pub behind : Round → List Place → ℕ → ℕ
+unfolding set_where
+behind r xs i = set_where (must_of r xs i) 16
+
+-- the same for each number from 0 to 16
+unfoldable pub musts_of : Round → List Place → List ℕ
+unfolding behind
+musts_of r xs = map (behind r xs) (range_with_len 0 17)

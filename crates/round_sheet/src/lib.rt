@@ -1,0 +1,6 @@
+//! The round sheet as a value: what the refined diagram of a round says of the round's allowed orders.
+#![tactic(auto)]
+
+mod read;
+pub mod sheet;
+pub mod text;
