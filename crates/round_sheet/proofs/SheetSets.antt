@@ -1,6 +1,7 @@
 -- The sets of a sheet, door by door.
-use Rattle.std.proofs.Common.{◌≡◌, ◌≢◌, ℕ, zero, suc, ◌+◌, ◌-◌, ◌<◌, ◌≤◌, ◌^◌, Bool, true, false, cond, ◌&&◌, ◌==◌, List, get_or, refl, sym, ap, subst, ◌∙◌, ⊎_elim, bit_or, slice_index, arith}
-use Rattle.std.proofs.lemmas.Bool.{cases_Bool, cases_lt, cond-true, cond-false, and_parts, and_from, eq-eqb, eqb-true}
+use Rattle.std.proofs.Common.{◌≡◌, ◌≢◌, ℕ, zero, suc, ◌+◌, ◌-◌, ◌<◌, ◌≤◌, ◌^◌, Bool, true, false, cond, ◌&&◌, ◌==◌, List, get_or, refl, sym, ap, subst, ◌∙◌, ⊎_elim, bit_or, slice_index, Ok, Err, if◌then◌else◌, arith}
+use Rattle.std.specs.Result.{result_unwrap_or}
+use Rattle.std.proofs.lemmas.Bool.{cases_Bool, cases_lt, cond-true, cond-false, eqb-false, ne_eqb, false≢true, true≢false}
 use Rattle.std.proofs.lemmas.List.FromFn.{get_or-map-range_with_len, length-map-range_with_len}
 use Rattle.std.proofs.lemmas.List.{get_or_past}
 use Rattle.std.specs.List.{range_with_len}
@@ -8,8 +9,9 @@ use Rattle.doors.specs.Orders.{Door}
 use Rattle.doors.specs.Sets.{Has}
 use Rattle.doors.proofs.Sets.{has-none, has_left, has_more, has-added}
 use Rattle.round.specs.declared.table.Round.{Round}
-use Rattle.layers.specs.Calls.{must, must_answer}
-use Rattle.round_sheet.specs.Sheets.{Place, set_where, must_of, behind, musts_of}
+use Rattle.layers.specs.declared.refusal.Refusal.TheVariants.{NoDoor, SameDoor}
+use Rattle.layers.specs.Calls.{must, bad_door}
+use Rattle.round_sheet.specs.Sheets.{Records, set_where, must_of, behind, musts_of}
 use Rattle.round_sheet.specs.Claims.{Must}
 
 -- the set of the doors 1 to k + 1 has one door more than that of 1 to k, or is that set
@@ -53,23 +55,39 @@ one_more p (suc k) h =
     let here : suc k - 1 ≡ k = omega arith in
     ap (set_where p) next ∙ ap (λ m. cond (p (suc k)) (bit_or (set_where p m) (2 ^ suc k)) (set_where p m)) (sym here)
 
--- two different doors of the round are not refused
-pub answered : (n i j : ℕ) → Door n i → Door n j → i ≢ j → must_answer n i j ≡ 0
-answered n i j a b d = let la = a.low in let ha = a.high in let lb = b.low in let hb = b.high in grind (arith, d)
+-- an answer yes is to two different doors of the round
+yes_parts : (bad same ahead : Bool) → result_unwrap_or (if bad then Err NoDoor else if same then Err SameDoor else Ok ahead) false ≡ true
+    → (bad ≡ false) × (same ≡ false) × (ahead ≡ true)
+yes_parts true same ahead e = absurd (false≢true e)
+yes_parts false true ahead e = absurd (false≢true e)
+yes_parts false false ahead e = (refl, refl, e)
 
-pub first_door : (n i j : ℕ) → must_answer n i j ≡ 0 → Door n i
-first_door n i j e = record { low = grind arith; high = grind arith }
+yes_from : (bad same ahead : Bool) → bad ≡ false → same ≡ false → ahead ≡ true
+    → result_unwrap_or (if bad then Err NoDoor else if same then Err SameDoor else Ok ahead) false ≡ true
+yes_from true same ahead a b e = absurd (true≢false a)
+yes_from false true ahead a b e = absurd (true≢false b)
+yes_from false false ahead a b e = e
 
-pub second_door : (n i j : ℕ) → must_answer n i j ≡ 0 → Door n j
-second_door n i j e = record { low = grind arith; high = grind arith }
+good_doors : (n i j : ℕ) → bad_door n i j ≡ false → Door n i × Door n j
+good_doors n i j e = (record { low = grind arith; high = grind arith }, record { low = grind arith; high = grind arith })
 
-pub different : (n i j : ℕ) → must_answer n i j ≡ 0 → i ≢ j
-different n i j e = λ same. grind arith
+doors_good : (n i j : ℕ) → Door n i → Door n j → bad_door n i j ≡ false
+doors_good n i j a b = let la = a.low in let ha = a.high in let lb = b.low in let hb = b.high in grind arith
 
-module _ (r : Round) (xs : List Place) where
+module _ (r : Round) (xs : Records) where
   at_place : (i : ℕ) → i < 17 → get_or (musts_of r xs) i 0 ≡ behind r xs i
   unfolding musts_of
   at_place i l = get_or-map-range_with_len (behind r xs) 0 17 i i 0 l (omega arith)
+
+  -- a must of the diagram: two different doors of the round, and yes
+  pub must_parts : (i j : ℕ) → must_of r xs i j ≡ true → Door r.n i × Door r.n j × (i ≢ j) × (must r.n 16 i j xs ≡ true)
+  must_parts i j e =
+      let p = yes_parts (bad_door r.n i j) (i == j) (must r.n 16 i j xs) e in
+      let d = good_doors r.n i j p.0 in
+      (d.0, d.1, eqb-false i j p.1, p.2)
+
+  pub must_from : (i j : ℕ) → Door r.n i → Door r.n j → i ≢ j → must r.n 16 i j xs ≡ true → must_of r xs i j ≡ true
+  must_from i j a b d e = yes_from (bad_door r.n i j) (i == j) (must r.n 16 i j xs) (doors_good r.n i j a b) (ne_eqb i j d) e
 
   -- a must on the sheet is one that the diagram answers yes
   pub must-yes : (i j : ℕ) → Must (musts_of r xs) i j → must_of r xs i j ≡ true

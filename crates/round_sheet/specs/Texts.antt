@@ -2,8 +2,8 @@
 use Rattle.std.specs.Prelude.{ℕ, List, [], ◌∷◌, ◌++◌, codes, decimal, Option, None, Some, slice_index, if◌then◌else◌}
 use Rattle.std.specs.List.{flat_map, range_with_len}
 use Rattle.doors.specs.Sets.{has}
-use Rattle.refine.specs.declared.answer.Refined.{Refined}
-use Rattle.refine.specs.declared.answer.Refined.TheVariants.{Whole, Full}
+use Rattle.layers.specs.declared.refined.Refined.{Refined}
+use Rattle.layers.specs.declared.refined.Refined.TheVariants.{Whole, Full}
 
 -- the line of these fields
 abbrev pub line_of : List (List ℕ) → List ℕ

@@ -13,10 +13,7 @@ fn is_must(diagram: &SheetDiagram<'_, '_>, i: usize, j: usize) -> bool
     requires { diagram.now.room.width ≡ 16 }
     ensures { result ≡ must_of diagram.now.room.round.now diagram.now.nodes.now i j }
 {
-    match diagram.must(i, j) {
-        Ok(must) => must,
-        Err(_) => false,
-    }
+    diagram.must(i, j).unwrap_or(false)
 }
 
 // The doors that have to come behind door i.

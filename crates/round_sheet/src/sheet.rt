@@ -1,19 +1,17 @@
 //! The sheet of a round, made over a lent list of records.
 ghost use Rattle.std.specs.Prelude.{◌≡◌, ◌+◌, ◌*◌, ◌<◌, ◌≤◌, ◌↔◌, true, length, IsOk, IfOk, IfErr, OnOk, OnErr};
-ghost use Rattle.layers.specs.Calls.{bound};
-ghost use Rattle.refine.specs.Answers.{answer_of};
 ghost use Rattle.layers.specs.declared.refusal.Refusal.TheVariants.{Short};
-ghost use Rattle.refine.specs.declared.answer.Refined.TheVariants.{Whole};
+ghost use Rattle.layers.specs.declared.refined.Refined.TheVariants.{Whole};
 ghost use Rattle.round_sheet.specs.Claims.{NoneUndercuts, MustsHold, BoundIsReached, NoMustMissing};
-ghost use Rattle.round_sheet.specs.Sheets.{places_of, refined_for, settled_for, musts_of};
+ghost use Rattle.round_sheet.specs.Sheets.{places_of, refined_for, sheet_of};
 
 use crate::read::musts_of;
 use diagram::diagram::Diagram;
 use diagram::room::Room;
 use doors::DoorSet;
 use layers::node::{Arcs, Down, Label, Node, Up};
+use layers::refined::Refined;
 use layers::refusal::Refusal;
-use refine::answer::Refined;
 use round::table::Round;
 use rules::both::Both;
 use rules::load::Interval;
@@ -65,10 +63,7 @@ fn sheet_on(room: Room<'_>, records: &mut [Place]) -> Sheet
     requires fits { room.round.now.n * room.width + 1 ≤ length records.old }
     requires width { room.width ≡ 16 }
     ensures records { records.new ≡ (refined_for room.entry.round.now records.old).1 }
-    ensures bound { result.bound ≡ bound room.entry.round.now.n 16 records.new }
-    ensures refined { answer_of result.refined ≡ (refined_for room.entry.round.now records.old).0 }
-    ensures settled { result.settled ≡ settled_for room.entry.round.now records.new }
-    ensures musts { result.musts ≡ musts_of room.entry.round.now records.new }
+    ensures sheet { result ≡ sheet_of room.entry.round.now records.old }
     ensures none_undercuts { NoneUndercuts room.entry.round.now result.bound }
     ensures musts_hold { MustsHold room.entry.round.now result.musts }
     ensures whole_settles { result.refined ≡ Whole → result.settled ≡ true }
@@ -95,11 +90,7 @@ impl Sheet {
         ensures refusal { IfErr result (λ e. e ≡ Short) }
         ensures left { OnErr result (records.new ≡ records.old) }
         ensures records { OnOk result (records.new ≡ (refined_for round.now records.old).1) }
-        ensures bound { IfOk result (λ s. s.bound ≡ bound round.now.n 16 records.new) }
-        ensures refined { IfOk result
-            (λ s. answer_of s.refined ≡ (refined_for round.now records.old).0) }
-        ensures settled { IfOk result (λ s. s.settled ≡ settled_for round.now records.new) }
-        ensures musts { IfOk result (λ s. s.musts ≡ musts_of round.now records.new) }
+        ensures sheet { IfOk result (λ s. s ≡ sheet_of round.now records.old) }
         ensures none_undercuts { IfOk result (λ s. NoneUndercuts round.now s.bound) }
         ensures musts_hold { IfOk result (λ s. MustsHold round.now s.musts) }
         ensures whole_settles { IfOk result (λ s. s.refined ≡ Whole → s.settled ≡ true) }

@@ -2,7 +2,7 @@ use Rattle.std.proofs.Common.{rules}
 use Rattle.std.proofs.Output.{has_written_append, has_written_of_eq}
 use Rattle.round_sheet.specs.Texts.{must_lines}
 use Rattle.round_sheet.proofs.SheetTexts.{must_lines-more}
-use Rattle.round_sheet.proofs.text.SheetDisplay.fmt.Goals as goal
+use Rattle.round_sheet.proofs.lines.SheetDisplay.fmt.Goals as goal
 
 pub loop-door-init : goal.loop-door-init
 unfolding must_lines

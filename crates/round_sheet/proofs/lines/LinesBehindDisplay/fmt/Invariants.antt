@@ -2,7 +2,7 @@
 use Rattle.std.proofs.Common.{◌-◌}
 use Rattle.std.specs.Fmt.{HasWritten, IsPlainFormatter}
 use Rattle.round_sheet.specs.Texts.{lines_behind}
-use Rattle.round_sheet.proofs.text.LinesBehindDisplay.fmt.Given as goal
+use Rattle.round_sheet.proofs.lines.LinesBehindDisplay.fmt.Given as goal
 
 abbrev pub invariant-loop-j : goal.invariant-loop-j
 invariant-loop-j g l =

@@ -2,7 +2,7 @@
 use Rattle.std.proofs.Common.{◌-◌}
 use Rattle.std.specs.Fmt.{HasWritten, IsPlainFormatter}
 use Rattle.round_sheet.specs.Texts.{must_lines}
-use Rattle.round_sheet.proofs.text.SheetDisplay.fmt.Given as goal
+use Rattle.round_sheet.proofs.lines.SheetDisplay.fmt.Given as goal
 
 abbrev pub invariant-loop-door : goal.invariant-loop-door
 invariant-loop-door g l =

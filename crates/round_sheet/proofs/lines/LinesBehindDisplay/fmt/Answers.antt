@@ -4,8 +4,8 @@ use Rattle.std.proofs.lemmas.Bool.{cond-true, cond-false}
 use Rattle.doors.specs.Sets.{has}
 use Rattle.round_sheet.specs.Texts.{lines_behind, must_line}
 use Rattle.round_sheet.proofs.SheetTexts.{lines_behind-more}
-use Rattle.round_sheet.proofs.text.LinesBehindDisplay.fmt.Goals as goal
-use Rattle.round_sheet.proofs.text.LinesBehindDisplay.fmt.Goals.{then-contains+in_ok-writeln, else-contains}
+use Rattle.round_sheet.proofs.lines.LinesBehindDisplay.fmt.Goals as goal
+use Rattle.round_sheet.proofs.lines.LinesBehindDisplay.fmt.Goals.{then-contains+in_ok-writeln, else-contains}
 
 pub loop-j-init : goal.loop-j-init
 unfolding lines_behind

@@ -1,7 +1,7 @@
 //! The text of a sheet, line by line.
 use crate::sheet::Sheet;
 use doors::{DoorSet, contains};
-use refine::answer::Refined;
+use layers::refined::Refined;
 use std::fmt;
 
 // The line of the bound.
