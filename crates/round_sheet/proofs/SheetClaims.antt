@@ -3,34 +3,29 @@ use Rattle.std.proofs.Common.{◌≡◌, ◌≢◌, ℕ, ◌≤◌, Bool, true, 
 use Rattle.std.proofs.lemmas.Bool.{cases_Bool}
 use Rattle.doors.specs.Orders.{Door}
 use Rattle.round.specs.declared.table.Round.{Round}
-use Rattle.rules.specs.Pairs.{Ordered}
-use Rattle.rules.specs.Loads.{Within}
 use Rattle.tallies.specs.Late.{lex}
 use Rattle.orders.specs.Allowed.{Allowed}
 use Rattle.layers.specs.Calls.{Call, Refine, bound, must, settled}
 use Rattle.layers.specs.Claim.{Sure, Wanted, Ahead}
-use Rattle.round_sheet.specs.Orders.{AllowedOrder, NotAbove, late_cost}
+use Rattle.allowed.specs.Orders.{AllowedOrder, KeepsRules, NotAbove, late_cost}
+use Rattle.allowed.specs.Senses.{side_of, late_of}
 use Rattle.round_sheet.specs.Claims.{NoneUndercuts, MustsHold, BoundIsReached, NoMustMissing}
-use Rattle.round_sheet.specs.Sheets.{Records, side_of, late_of, must_of, musts_of}
+use Rattle.round_sheet.specs.Sheets.{Records, must_of, musts_of}
 use Rattle.round_sheet.proofs.SheetSets.{must_parts, must_from, must-yes, yes-must}
 
 -- the order on costs, as a test and in words
 pub lex-not_above : (a b : ℕ × ℕ) → lex a b ≡ true → NotAbove a b
 lex-not_above a b e = grind arith
 
--- which orders keep the pairs and the load of a round
-abbrev pub Keeps : Round → List ℕ → Type 0
-Keeps r w = Ordered r.ahead w × Within r.load r.cap r.doors w
-
 -- what is claimed of the records xs once the diagram is refined
 abbrev pub Claimed : Round → Records → Type 0
-Claimed r xs = Sure r (side_of r) (Keeps r) (late_of r) 16 (Refine ∷ []) xs
+Claimed r xs = Sure r (side_of r) (KeepsRules r) (late_of r) 16 (Refine ∷ []) xs
 
-allowed-order : (r : Round) (w : List ℕ) → Allowed r (Keeps r) w → AllowedOrder r w
-allowed-order r w a = record { part = a.part; whole = a.whole; ordered = a.keeps.0; within = a.keeps.1; timely = a.timely }
+allowed-order : (r : Round) (w : List ℕ) → Allowed r (KeepsRules r) w → AllowedOrder r w
+allowed-order r w a = record { full = record { part = a.part; whole = a.whole }; ordered = a.keeps.0; within = a.keeps.1; timely = a.timely }
 
-order-wanted : (r : Round) (w : List ℕ) → AllowedOrder r w → Wanted r (side_of r) (Keeps r) (late_of r) 16 (Refine ∷ []) w
-order-wanted r w a = (record { part = a.part; whole = a.whole; keeps = (a.ordered, a.within); timely = a.timely }, tt)
+order-wanted : (r : Round) (w : List ℕ) → AllowedOrder r w → Wanted r (side_of r) (KeepsRules r) (late_of r) 16 (Refine ∷ []) w
+order-wanted r w a = (record { part = a.full.part; whole = a.full.whole; keeps = (a.ordered, a.within); timely = a.timely }, tt)
 
 module _ (r : Round) (xs : Records) (sure : Claimed r xs) where
   undercuts_of : (o : Option (ℕ × ℕ)) → bound r.n 16 xs ≡ o → NoneUndercuts r o

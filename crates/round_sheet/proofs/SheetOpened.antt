@@ -13,8 +13,9 @@ use Rattle.layers.specs.declared.refined.Refined.TheVariants.{Whole}
 use Rattle.layers.specs.Calls.{Call, Refine, does, run, opened_on, refined, bound, settled}
 use Rattle.layers.specs.Claim.{Sure, WholeSettles}
 use Rattle.diagram.specs.declared.room.Room.{Room}
+use Rattle.allowed.specs.Senses.{side_of, late_of}
 use Rattle.round_sheet.specs.declared.sheet.Sheet.{Sheet}
-use Rattle.round_sheet.specs.Sheets.{Records, side_of, late_of, opened_for, refined_for, musts_of, sheet_of}
+use Rattle.round_sheet.specs.Sheets.{Records, opened_for, refined_for, musts_of, sheet_of}
 use Rattle.round_sheet.proofs.SheetClaims.{Claimed}
 
 -- what pairs on the round a and load on the round b answer, and late doors on the round t

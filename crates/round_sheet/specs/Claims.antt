@@ -4,7 +4,7 @@ use Rattle.doors.specs.Orders.{Door}
 use Rattle.doors.specs.Sets.{Has}
 use Rattle.round.specs.declared.table.Round.{Round}
 use Rattle.layers.specs.Claim.{Ahead}
-use Rattle.round_sheet.specs.Orders.{AllowedOrder, late_cost, NotAbove}
+use Rattle.allowed.specs.Orders.{AllowedOrder, late_cost, NotAbove}
 
 -- the sets say that door i has to come ahead of door j
 abbrev pub Must : List ℕ → ℕ → ℕ → Type 0

@@ -1,4 +1,3 @@
 pub mod Claims
-pub mod Orders
 pub mod Sheets
 pub mod Texts

@@ -2,14 +2,9 @@
 use Rattle.std.specs.Prelude.{ℕ, zero, suc, ◌+◌, ◌*◌, ◌^◌, Bool, false, List, map, bit_or, if◌then◌else◌}
 use Rattle.std.specs.Result.{result_unwrap_or}
 use Rattle.std.specs.List.{range_with_len}
+use Rattle.allowed.specs.Senses.{side_of, late_of}
 use Rattle.round.specs.declared.table.Round.{Round}
 use Rattle.rules.specs.declared.load.Interval.{Interval}
-use Rattle.rules.specs.Boths.{both_sense}
-use Rattle.rules.specs.Loads.{load_sense}
-use Rattle.rules.specs.Pairs.{pairs_sense}
-use Rattle.rules.specs.Rules.{RuleSense}
-use Rattle.tallies.specs.Late.{late_sense}
-use Rattle.tallies.specs.Tallies.{TallySense}
 use Rattle.layers.specs.declared.node.Node.{Node}
 use Rattle.layers.specs.declared.refined.Refined.{Refined}
 use Rattle.layers.specs.Calls.{opened_on, refined, bound, must_answer, settled}
@@ -19,14 +14,6 @@ use Rattle.round_sheet.specs.declared.sheet.Sheet.{Sheet}
 -- late minutes
 abbrev pub Records : Type 0
 Records = List (Node (ℕ × Interval) (ℕ × ℕ))
-
--- the side rule of a round: its pairs, and its load
-abbrev pub side_of : Round → RuleSense (ℕ × Interval)
-side_of r = both_sense (pairs_sense r.n r.ahead) (load_sense r.n r.load r.cap r.doors)
-
--- the tally of a round: its late doors
-abbrev pub late_of : Round → TallySense (ℕ × ℕ)
-late_of r = late_sense r.n r.doors
 
 -- how many records the diagram of a round takes
 abbrev pub places_of : Round → ℕ

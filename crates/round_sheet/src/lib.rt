@@ -4,4 +4,5 @@
 mod lines;
 mod read;
 pub mod sheet;
-
+#[cfg(test)]
+mod tests;
