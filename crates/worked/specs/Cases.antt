@@ -125,7 +125,7 @@ pub record WorkedOut (lent : List Place) : Type 0 where
   pub loads : TwoKeep boxes
   -- the verdicts of the six say so: all but these two break the rule, with door 3 as their first fault
   pub says : map (verdict boxes (rule boxes)) six
-    ≡ is.Allowed ∷ is.Allowed ∷ is.Breaks 3 ∷ is.Breaks 3 ∷ is.Breaks 3 ∷ is.Breaks 3 ∷ []
+      ≡ is.Allowed ∷ is.Allowed ∷ is.Breaks 3 ∷ is.Breaks 3 ∷ is.Breaks 3 ∷ is.Breaks 3 ∷ []
 
 abbrev pub WorkedCases : Type 0
 WorkedCases = (lent : List Place) → WorkedOut lent
