@@ -1,5 +1,6 @@
-// Works out the labels of a full diagram of width 128 again and again, for the time that it takes.
-// The round's text comes on standard input; every node of every layer has an arc for every door.
+//! Works out the labels of a full diagram of width 128 again and again, for the time that it takes.
+//! The round's text comes on standard input; every node of every layer has an arc for every door. After each turn one arc leads to
+//! the next node, and all labels go into a sum, so that the sum tells of every turn.
 #![tactic(auto)]
 
 use anyhow::anyhow;
@@ -16,7 +17,7 @@ use text::reading::read_bounded;
 
 const TIMES: usize = 1000;
 
-// The arcs of a node at place a of its layer: by door k to the k-th node after it.
+/// The arcs of a node at place a of its layer: by door k to the k-th node after it.
 fn arcs_of(a: usize) -> Arcs {
     let mut to = [0u8; 16];
     for (k, t) in to.iter_mut().enumerate() {
@@ -25,15 +26,49 @@ fn arcs_of(a: usize) -> Arcs {
     Arcs { to }
 }
 
+/// After this turn, one arc of a node of the later half leads to the node after its target.
+fn move_arc<S: Copy, V: Copy>(nodes: &mut [Node<S, V>], turn: usize) {
+    let place = 1024 + turn % 1024;
+    if place < nodes.len() {
+        let t = nodes[place].arcs.to[turn % 16];
+        nodes[place].arcs.to[turn % 16] = t % 128 + 1;
+    }
+}
+
+/// The sum, with all sets and finishes of all places.
+fn sum_with<S: Copy, V: Copy>(sum: u64, nodes: &[Node<S, V>]) -> u64 {
+    let mut sum = sum;
+    for node in nodes {
+        let down = node.label.down;
+        let up = node.label.up;
+        for x in [
+            down.all,
+            down.some,
+            down.finish,
+            down.lasts,
+            up.allup,
+            up.someup,
+        ] {
+            sum = sum.wrapping_mul(1_000_003).wrapping_add(u64::from(x));
+        }
+    }
+    sum
+}
+
+/// The sum over all turns.
 fn relabel_often<R: Rule, T: Tally>(
     round: &Round,
     rule: &R,
     tally: &T,
     nodes: &mut [Node<R::State, T::Value>],
-) {
-    for _ in 0..TIMES {
+) -> u64 {
+    let mut sum = 0;
+    for turn in 0..TIMES {
         relabel(round, rule, tally, nodes, 128);
+        sum = sum_with(sum, nodes);
+        move_arc(nodes, turn);
     }
+    sum
 }
 
 fn measure(rt: &HostRuntime, round: &Round) -> anyhow::Result<()> {
@@ -43,9 +78,9 @@ fn measure(rt: &HostRuntime, round: &Round) -> anyhow::Result<()> {
     for (a, node) in nodes.iter_mut().enumerate() {
         node.arcs = arcs_of(a);
     }
-    relabel_often(round, &rule, &tally, &mut nodes);
+    let sum = relabel_often(round, &rule, &tally, &mut nodes);
     let last = nodes[2048].label.down.some;
-    println!(rt; "relabelled\t{TIMES}\t{last}")?;
+    println!(rt; "relabelled\t{TIMES}\t{last}\t{sum}")?;
     Ok(())
 }
 

@@ -60,4 +60,12 @@ module _ (lent : List Place) where
   paired = record { sweep_one = refl; parts = refl; before_part = refl; after_part = refl; sweep_three = refl; full_at_2 = refl; not_settled = refl; whole_at_3 = refl; must_two = refl; must_three = refl }
 
 pub computed : WorkedCases
-computed lent = record { printed_at_9 = printed-9 lent (omega arith); printed_at_8 = printed-8 lent (omega arith); closed_at_7 = closed-7 lent (omega arith); paired = paired lent; loads = two-keep }
+unfolding finish
+computed lent = record {
+  printed_at_9 = printed-9 lent (omega arith);
+  printed_at_8 = printed-8 lent (omega arith);
+  closed_at_7 = closed-7 lent (omega arith);
+  paired = paired lent;
+  loads = two-keep;
+  says = refl;
+}

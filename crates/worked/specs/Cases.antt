@@ -1,5 +1,5 @@
 -- The worked cases, in one statement on the definitions: the rule is pairs and load together, the tally late doors.
-use Rattle.std.specs.Prelude.{◌≡◌, ℕ, zero, suc, Bool, true, false, ◌⊎◌, List, [], ◌∷◌, length, Some, None, Ok, slice_index_or}
+use Rattle.std.specs.Prelude.{◌≡◌, ℕ, zero, suc, Bool, true, false, ◌⊎◌, List, [], ◌∷◌, length, map, Some, None, Ok, slice_index_or}
 use Rattle.std.proofs.Common.{arith}
 use Rattle.doors.specs.Orders.{PartOrder}
 use Rattle.round.specs.declared.table.Round.{Round}
@@ -111,6 +111,10 @@ pub record TwoKeep (r : Round) : Type 0 where
   -- and whatever order of the doors 1 to 3 keeps it is one of these two
   pub only : (w : List ℕ) → PartOrder 3 w → length w ≡ 3 → Loaded r w → (w ≡ 1 ∷ 2 ∷ 3 ∷ []) ⊎ (w ≡ 2 ∷ 1 ∷ 3 ∷ [])
 
+-- the six orders of three doors
+abbrev pub six : List (List ℕ)
+six = (1 ∷ 2 ∷ 3 ∷ []) ∷ (2 ∷ 1 ∷ 3 ∷ []) ∷ (1 ∷ 3 ∷ 2 ∷ []) ∷ (2 ∷ 3 ∷ 1 ∷ []) ∷ (3 ∷ 1 ∷ 2 ∷ []) ∷ (3 ∷ 2 ∷ 1 ∷ []) ∷ []
+
 pub record WorkedOut (lent : List Place) : Type 0 where
   pub printed_at_9 : AsPrinted (trio 9 (omega arith)) lent
   -- with door 2 closing at 8 nothing changes
@@ -119,6 +123,9 @@ pub record WorkedOut (lent : List Place) : Type 0 where
   pub paired : Paired loose lent
   -- an empty van that holds 2, changes 1, 1 and −2: exactly 1, 2, 3 and 2, 1, 3 keep the load
   pub loads : TwoKeep boxes
+  -- the verdicts of the six say so: all but these two break the rule, with door 3 as their first fault
+  pub says : map (verdict boxes (rule boxes)) six
+      ≡ is.Allowed ∷ is.Allowed ∷ is.Breaks 3 ∷ is.Breaks 3 ∷ is.Breaks 3 ∷ is.Breaks 3 ∷ []
 
 abbrev pub WorkedCases : Type 0
 WorkedCases = (lent : List Place) → WorkedOut lent
