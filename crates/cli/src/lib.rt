@@ -1,0 +1,6 @@
+//! What the programs do with standard input, their arguments and standard output. Each gives the status that its
+//! program is to end with, and prints nothing of its own on any other stream.
+#![tactic(auto)]
+
+pub mod input;
+pub mod order;

@@ -1,0 +1,8 @@
+//! The same program on an order that comes to a door after it closes.
+#![tactic(auto)]
+
+use std::process::ExitCode;
+
+fn main(rt: HostRuntime) -> anyhow::Result<ExitCode> {
+    cli::order::order_program(&rt)
+}

@@ -1,0 +1,8 @@
+//! The same program on an order with which the van would hold less than nothing.
+#![tactic(auto)]
+
+use std::process::ExitCode;
+
+fn main(rt: HostRuntime) -> anyhow::Result<ExitCode> {
+    cli::order::order_program(&rt)
+}

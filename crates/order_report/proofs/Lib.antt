@@ -1,0 +1,3 @@
+mod DoorTexts
+mod Lines
+mod Meaning

@@ -1,0 +1,4 @@
+pub mod Named
+pub mod Reports
+pub mod Texts
+pub mod VerdictTexts

@@ -1,0 +1,8 @@
+//! The same program with doors that are not all of the round.
+#![tactic(auto)]
+
+use std::process::ExitCode;
+
+fn main(rt: HostRuntime) -> anyhow::Result<ExitCode> {
+    cli::order::order_program(&rt)
+}
