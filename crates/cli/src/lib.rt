@@ -4,3 +4,4 @@
 
 pub mod input;
 pub mod order;
+pub mod sheet;
