@@ -64,8 +64,9 @@ fn look<R: Rule, T: Tally>(
     Ok(())
 }
 
-/// All allowed orders of the round, each once, in dictionary order: by number of the first door, then of the second, and so on.
-/// Each order of the doors is looked at, allowed or not: 40,320 of 8 doors, and about 20 million million of 16.
+/// All allowed orders of the round, each once, in dictionary order: by number of the first door,
+/// then of the second, and so on. Every order of the doors is looked at, allowed or not: 40,320 of
+/// 8 doors, and some 20,000,000,000,000 of 16.
 pub fn list<R: Rule, T: Tally>(
     heap: Global,
     round: &Round,
