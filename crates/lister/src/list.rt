@@ -1,5 +1,6 @@
 //! The allowed orders of a round, with their costs.
-ghost use Rattle.std.specs.Prelude.{◌≡◌, ℕ, List, take, All, AllPairs, Contains, IfOk, OnOk, IfSome, MatchOption};
+ghost use Rattle.std.specs.Prelude.{◌≡◌, ℕ, List, take, drop, All, AllPairs, Contains, IfOk, OnOk, IfSome, MatchOption};
+ghost use Rattle.std.specs.List.{range_with_len};
 ghost use Rattle.orders.specs.Allowed.{Allowed};
 ghost use Rattle.orders.specs.Costs.{cost};
 ghost use Rattle.lister.specs.Listed.{Good, LooksAt, listed_orders};
@@ -13,7 +14,8 @@ use rules::rule::Rule;
 use std::alloc::{AllocError, Global};
 use tallies::tally::Tally;
 
-/// An allowed order, at the first n places, and its cost.
+/// An allowed order, at the first n places, and its cost. The later places have the later doors by
+/// number.
 #[derive(Clone, Copy)]
 pub struct Listed<V> {
     pub doors: [usize; 16],
@@ -50,6 +52,7 @@ fn look<R: Rule, T: Tally>(
     doors: [usize; 16],
     allowed: &mut Vec<Listed<T::Value>>,
 ) -> Result<(), AllocError>
+    requires { drop round.now.n doors ≡ drop round.now.n (range_with_len 1 16) }
     ensures good { R.Rule.serves rule.now round.now.n →
         All (Good round.now (R.Rule.keeps rule.now) (T.Tally.sense tally.now)) allowed.old.items →
         All (Good round.now (R.Rule.keeps rule.now) (T.Tally.sense tally.now)) allowed.new.items }
@@ -64,8 +67,9 @@ fn look<R: Rule, T: Tally>(
     Ok(())
 }
 
-/// All allowed orders of the round, each once, in dictionary order: by number of the first door, then of the second, and so on.
-/// Each order of the doors is looked at, allowed or not: 40,320 of 8 doors, and about 20 million million of 16.
+/// All allowed orders of the round, each once, in dictionary order: by number of the first door,
+/// then of the second, and so on. Every order of the doors is looked at, allowed or not: 40,320 of
+/// 8 doors, and some 20,000,000,000,000 of 16.
 pub fn list<R: Rule, T: Tally>(
     heap: Global,
     round: &Round,

@@ -12,7 +12,8 @@ fn last_above(doors: &[usize], number: usize) -> Option<usize>
     doors.iter().rposition(|j| *j > number)
 }
 
-/// The next list of the same numbers in dictionary order, if there is one.
+/// The next list of the same numbers in dictionary order, if there is one: else the answer is no,
+/// and the list stays.
 pub fn next_order(doors: &mut [usize]) -> bool
     ensures same_doors { IsPermutation doors.old doors.new }
     ensures next { result ≡ true → IsNext doors.old doors.new }

@@ -1,8 +1,9 @@
 -- From each order to the next one, and at the last.
-use Rattle.std.proofs.Common.{◌≡◌, ℕ, ◌-◌, ◌^◌, ◌<◌, ◌≤◌, List, ◌++◌, length, take, drop, All, sym, ap, ◌∙◌, subst, take_all, arith}
+use Rattle.std.proofs.Common.{◌≡◌, ℕ, ◌-◌, ◌^◌, ◌<◌, ◌≤◌, List, ◌++◌, length, take, drop, All, refl, sym, ap, ◌∙◌, subst, take_all, le_refl, arith}
 use Rattle.std.specs.List.{range_with_len}
 use Rattle.std.specs.List.Sorted.{IsPermutation}
 use Rattle.std.proofs.lemmas.List.{take-append-le}
+use Rattle.std.proofs.lemmas.Slice.{drop-append-drop}
 use Rattle.std.proofs.lemmas.List.Elements.{All-nil}
 use Rattle.std.proofs.lemmas.List.Sorted.{IsPermutation-refl, IsPermutation-trans}
 use Rattle.lister.specs.Listed.{Good, listed_orders}
@@ -30,6 +31,7 @@ loop-allowed-init g c =
     let first = by_number n c.args.round.now.most in
     record {
       reordered = subst (IsPermutation (range_with_len 1 n)) (sym first) (IsPermutation-refl (range_with_len 1 n));
+      later = refl {a = drop n (range_with_len 1 16)};
       good = λ s. subst (All (Good c.args.round.now K (g.T.Tally.sense c.args.tally.now))) (sym c.new-allowed.ensures.items) (All-nil (Good c.args.round.now K (g.T.Tally.sense c.args.tally.now)));
       so_far = λ s.
           subst (λ (v : List ℕ). SoFar c.args.round.now K v (listed_orders n c.new-allowed.result.items)) (sym first)
@@ -48,6 +50,7 @@ loop-allowed-preserved g c =
     let t = taken n w (drop n c.loop-allowed.doors) moved in
     record {
       reordered = subst (IsPermutation (range_with_len 1 n)) (sym t) moved;
+      later = drop-append-drop n c.loop-allowed.doors w n (le_refl n) (long n w moved) ∙ h.later;
       good = λ s. c.look.ensures.good s (h.good s);
       so_far = λ s.
           subst (λ (u : List ℕ). SoFar c.args.round.now K u us) (sym t)

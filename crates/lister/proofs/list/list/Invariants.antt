@@ -1,5 +1,5 @@
 -- All allowed orders that come before the one to be looked at are listed, and no others; and each order is a greater number than the one before.
-use Rattle.std.proofs.Common.{◌-◌, ◌^◌, take, All}
+use Rattle.std.proofs.Common.{◌≡◌, ◌-◌, ◌^◌, take, drop, All}
 use Rattle.std.specs.List.{range_with_len}
 use Rattle.std.specs.List.Sorted.{IsPermutation}
 use Rattle.lister.specs.Listed.{Good, listed_orders}
@@ -10,6 +10,7 @@ use Rattle.lister.proofs.list.list.Given as goal
 abbrev pub invariant-loop-allowed : goal.invariant-loop-allowed
 invariant-loop-allowed g l = record {
   reordered : IsPermutation (range_with_len 1 l.round.n) (take l.round.n l.doors);
+  later : drop l.round.n l.doors ≡ drop l.round.n (range_with_len 1 16);
   good : g.R.Rule.serves l.rule l.round.n → All (Good l.round (g.R.Rule.keeps l.rule) (g.T.Tally.sense l.tally)) l.allowed.items;
   so_far : g.R.Rule.serves l.rule l.round.n → SoFar l.round (g.R.Rule.keeps l.rule) (take l.round.n l.doors) (listed_orders l.round.n l.allowed.items);
 }
