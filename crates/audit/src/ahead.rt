@@ -27,6 +27,13 @@ impl Ahead {
         }
     }
 
+    // With door j after door i.
+    pub(crate) fn add_one(&mut self, i: usize, j: usize) {
+        if i < 32 {
+            self.after[i] = with(self.after[i], j);
+        }
+    }
+
     // Whether a list has door i at an earlier place than door j.
     pub(crate) fn has(&self, i: usize, j: usize) -> bool {
         i < 32 && contains(self.after[i], j)

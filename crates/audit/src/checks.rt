@@ -19,6 +19,14 @@ pub(crate) struct Ceilings<V> {
     pub(crate) count: usize,
 }
 
+// Before any cut.
+pub(crate) fn no_ceilings<T: Tally>(tally: &T) -> Ceilings<T::Value> {
+    Ceilings {
+        values: [tally.start(); 16],
+        count: 0,
+    }
+}
+
 // Whether the cost is above none of the ceilings.
 fn is_wanted<T: Tally>(tally: &T, cost: T::Value, ceilings: &Ceilings<T::Value>) -> bool {
     for ceiling in ceilings.values.iter().take(ceilings.count) {
@@ -93,33 +101,50 @@ fn check_must(
     }
 }
 
-fn check_musts_of<S: Copy, V: Copy>(
-    nodes: &[Node<S, V>],
+fn check_musts_of(
+    musts: &Ahead,
     n: usize,
-    width: usize,
     wanted: &Ahead,
     paths: Option<Ahead>,
     i: usize,
 ) -> Result<(), Fault> {
     for j in 1..=n {
         if i != j {
-            check_must(must(nodes, n, width, i, j), wanted, paths, i, j)?;
+            check_must(musts.has(i, j), wanted, paths, i, j)?;
         }
     }
     Ok(())
 }
 
-fn check_musts<S: Copy, V: Copy>(
+fn check_musts(musts: &Ahead, n: usize, wanted: &Ahead, paths: Option<Ahead>) -> Result<(), Fault> {
+    for i in 1..=n {
+        check_musts_of(musts, n, wanted, paths, i)?;
+    }
+    Ok(())
+}
+
+// The musts from i on that are answered yes.
+fn add_musts<S: Copy, V: Copy>(
+    musts: &mut Ahead,
     nodes: &[Node<S, V>],
     n: usize,
     width: usize,
-    wanted: &Ahead,
-    paths: Option<Ahead>,
-) -> Result<(), Fault> {
-    for i in 1..=n {
-        check_musts_of(nodes, n, width, wanted, paths, i)?;
+    i: usize,
+) {
+    for j in 1..=n {
+        if i != j && must(nodes, n, width, i, j) {
+            musts.add_one(i, j);
+        }
     }
-    Ok(())
+}
+
+// Which doors come after which by the musts that are answered yes.
+pub(crate) fn musts_of<S: Copy, V: Copy>(nodes: &[Node<S, V>], n: usize, width: usize) -> Ahead {
+    let mut musts = Ahead::none();
+    for i in 1..=n {
+        add_musts(&mut musts, nodes, n, width, i);
+    }
+    musts
 }
 
 // The bound is the least cost of a path, or none if there is no path.
@@ -159,14 +184,15 @@ fn check_settled<R: Rule, T: Tally>(
 pub(crate) fn check_all<R: Rule, T: Tally>(
     case: &Case<'_, R, T, T::Value>,
     nodes: &[Node<R::State, T::Value>],
+    musts: &Ahead,
     ceilings: &Ceilings<T::Value>,
 ) -> Result<bool, Fault> {
     let wanted = check_orders(case, nodes, ceilings)?;
     if settled(case.round, case.rule, nodes, case.width) {
         let paths = check_settled(case, nodes, ceilings.count)?;
-        check_musts(nodes, case.round.n, case.width, &wanted, Some(paths.ahead))?;
+        check_musts(musts, case.round.n, &wanted, Some(paths.ahead))?;
         return Ok(true);
     }
-    check_musts(nodes, case.round.n, case.width, &wanted, None)?;
+    check_musts(musts, case.round.n, &wanted, None)?;
     Ok(false)
 }

@@ -1,7 +1,7 @@
 // What the audit finds wrong.
 use std::fmt;
 
-#[derive(Clone, Copy)]
+#[derive(Clone, Copy, PartialEq)]
 pub(crate) enum Fault {
     WholeNotSettled,
     MiscountedArcs,

@@ -9,6 +9,7 @@ mod checks;
 mod counts;
 mod dice;
 mod draw;
+mod ending;
 mod fault;
 mod kinds;
 mod paths;
@@ -16,6 +17,7 @@ mod run;
 mod same;
 mod sets;
 mod shape;
+mod spoilt;
 mod walk;
 
 use anyhow::anyhow;
@@ -23,11 +25,13 @@ use case::LENT;
 use counts::{Counts, more};
 use dice::Dice;
 use draw::draw;
+use ending::Ending;
 use kinds::{Kinds, kinds_of};
 use lister::list::list;
 use round::table::Round;
 use rules::both::Both;
 use run::{Outcome, mark, run_round, start_log};
+use spoilt::{THREE, run_spoilt, spoil_count, spoil_three};
 use tallies::driving::Driving;
 use tallies::late::LateDoors;
 use text::reading::read;
@@ -51,6 +55,24 @@ struct Sums {
     faults: usize,
     kinds: Kinds,
     counts: Counts,
+}
+
+impl Sums {
+    fn none() -> Sums {
+        Sums {
+            rounds: 0,
+            allowed: 0,
+            none: 0,
+            one: 0,
+            many: 0,
+            between: 0,
+            settled: 0,
+            telling: 0,
+            faults: 0,
+            kinds: Kinds::none(),
+            counts: Counts::none(),
+        }
+    }
 }
 
 // What is printed of a round.
@@ -92,12 +114,16 @@ fn print_start<V: Copy>(
     Ok(())
 }
 
-fn print_end<V: Copy>(rt: &HostRuntime, outcome: &Outcome<V>) -> anyhow::Result<()> {
-    let settled = if outcome.settled { "yes" } else { "no" };
-    match outcome.fault {
-        Some(fault) => println!(rt; "\tsettled\t{settled}\t{fault}")?,
-        None => println!(rt; "\tsettled\t{settled}\tok")?,
+fn ending_of<V: Copy>(outcome: &Outcome<V>) -> Ending {
+    Ending {
+        settled: outcome.settled,
+        fault: outcome.fault,
     }
+}
+
+fn print_end<V: Copy>(rt: &HostRuntime, outcome: &Outcome<V>) -> anyhow::Result<()> {
+    let ending = ending_of(outcome);
+    println!(rt; "\t{ending}")?;
     Ok(())
 }
 
@@ -273,21 +299,40 @@ fn print_sums(rt: &HostRuntime, sums: &Sums) -> anyhow::Result<()> {
     Ok(())
 }
 
+// A run with a fault is counted, and says so.
+fn check_sums(rt: &HostRuntime, outcome: &Outcome<(u32, u32)>) -> anyhow::Result<()> {
+    let mut sums = Sums::none();
+    note(&mut sums, outcome);
+    let ending = ending_of(outcome);
+    let shown = format!(in rt.alloc(); "{ending}")?;
+    if sums.faults == 1 && shown.as_str() == "settled\tno\ta wanted order is no path" {
+        return Ok(());
+    }
+    Err(anyhow!("a fault is not counted, or shown as {shown}"))
+}
+
+// Each check finds its fault on a spoilt diagram.
+fn check_checks(rt: &HostRuntime) -> anyhow::Result<()> {
+    let mut three = Round::fresh();
+    let mut eight = Round::fresh();
+    let mut dice = Dice::of(1);
+    let text = draw(rt.alloc(), &mut dice, 8)?;
+    if read(&mut three, THREE).is_err() || read(&mut eight, text.as_bytes()).is_err() {
+        return Err(anyhow!("a round to spoil is refused"));
+    }
+    if let Err(fault) = spoil_three(&three) {
+        return Err(anyhow!("not found: {fault}"));
+    }
+    if let Err(fault) = spoil_count(&eight) {
+        return Err(anyhow!("not found: {fault}"));
+    }
+    check_sums(rt, &run_spoilt(&three))
+}
+
 fn main(rt: HostRuntime) -> anyhow::Result<()> {
+    check_checks(&rt)?;
     let mut dice = Dice::of(20_240_607);
-    let mut sums = Sums {
-        rounds: 0,
-        allowed: 0,
-        none: 0,
-        one: 0,
-        many: 0,
-        between: 0,
-        settled: 0,
-        telling: 0,
-        faults: 0,
-        kinds: Kinds::none(),
-        counts: Counts::none(),
-    };
+    let mut sums = Sums::none();
     all_rounds(&rt, &mut dice, true, &mut sums)?;
     all_rounds(&rt, &mut dice, false, &mut sums)?;
     print_mix(&rt, &sums)?;

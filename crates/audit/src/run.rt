@@ -1,10 +1,10 @@
 // One round: opens its diagram twice, runs the same calls on the records of the one and on the other as it lives, and checks
 // after each.
-ghost use Rattle.std.specs.Prelude.{◌+◌, ◌*◌, ◌≤◌, length};
+ghost use Rattle.std.specs.Prelude.{◌+◌, ◌*◌, ◌≤◌, length, IfOk};
 
 use crate::calls::{draw_call, on_diagram, on_records};
 use crate::case::{Answer, Call, Case, LENT, bound_of, end_place};
-use crate::checks::{Ceilings, check_all, count_wanted};
+use crate::checks::{Ceilings, check_all, count_wanted, musts_of, no_ceilings};
 use crate::counts::{Counts, more, sort_of};
 use crate::dice::Dice;
 use crate::fault::Fault;
@@ -64,7 +64,7 @@ pub(crate) fn mark<R: Rule, T: Tally>(rule: &R, tally: &T) -> Node<R::State, T::
 }
 
 // The records as they are.
-fn copied<R: Rule, T: Tally>(
+pub(crate) fn copied<R: Rule, T: Tally>(
     rule: &R,
     tally: &T,
     nodes: &[Node<R::State, T::Value>; LENT],
@@ -77,7 +77,7 @@ fn copied<R: Rule, T: Tally>(
 }
 
 // Opens the diagram on the list, which is free again at the return.
-fn open<R: Rule, T: Tally>(
+pub(crate) fn open<R: Rule, T: Tally>(
     room: Room<'_>,
     rule: &R,
     tally: &T,
@@ -97,7 +97,7 @@ fn same_bound<T: Tally>(tally: &T, a: Option<T::Value>, b: Option<T::Value>) -> 
 }
 
 // A refusal leaves all records as they were, and the records after the end stay in any case. A sweep or a cut counts what went.
-fn check_change<R: Rule, T: Tally>(
+pub(crate) fn check_change<R: Rule, T: Tally>(
     case: &Case<'_, R, T, T::Value>,
     before: &[Node<R::State, T::Value>],
     after: &[Node<R::State, T::Value>],
@@ -176,7 +176,7 @@ fn check_all_asked<S: Copy, V: Copy>(
 }
 
 // The diagram that lives answers as the records say.
-fn check_diagram<R: Rule, T: Tally>(
+pub(crate) fn check_diagram<R: Rule, T: Tally>(
     case: &Case<'_, R, T, T::Value>,
     nodes: &[Node<R::State, T::Value>],
     diagram: &Diagram<'_, '_, R::State, T::Value>,
@@ -234,8 +234,20 @@ fn is_settled<R: Rule, T: Tally>(
     on_records(case, &mut copy, Call::Sweep) == Answer::Gone(0)
 }
 
+// Settled says what part and sweep say.
+pub(crate) fn check_judged<R: Rule, T: Tally>(
+    case: &Case<'_, R, T, T::Value>,
+    nodes: &[Node<R::State, T::Value>; LENT],
+    settled: bool,
+) -> Result<(), Fault> {
+    if settled != is_settled(case, nodes) {
+        return Err(Fault::SettledMisjudged);
+    }
+    Ok(())
+}
+
 // All that holds of the records as they are.
-fn check_now<R: Rule, T: Tally>(
+pub(crate) fn check_now<R: Rule, T: Tally>(
     case: &Case<'_, R, T, T::Value>,
     nodes: &[Node<R::State, T::Value>; LENT],
     diagram: &Diagram<'_, '_, R::State, T::Value>,
@@ -244,10 +256,9 @@ fn check_now<R: Rule, T: Tally>(
 ) -> Result<bool, Fault> {
     check_shape(case, nodes)?;
     check_sets(case, nodes)?;
-    let settled = check_all(case, nodes, ceilings)?;
-    if settled != is_settled(case, nodes) {
-        return Err(Fault::SettledMisjudged);
-    }
+    let musts = musts_of(nodes, case.round.n, case.width);
+    let settled = check_all(case, nodes, &musts, ceilings)?;
+    check_judged(case, nodes, settled)?;
     check_diagram(case, nodes, diagram, settled, counts)?;
     Ok(settled)
 }
@@ -281,7 +292,7 @@ fn is_equalled<R: Rule, T: Tally>(case: &Case<'_, R, T, T::Value>, call: Call<T:
 }
 
 // Does the call on both, and looks at what it altered.
-fn call_both<R: Rule, T: Tally>(
+pub(crate) fn call_both<R: Rule, T: Tally>(
     case: &Case<'_, R, T, T::Value>,
     nodes: &mut [Node<R::State, T::Value>; LENT],
     diagram: &mut Diagram<'_, '_, R::State, T::Value>,
@@ -295,6 +306,14 @@ fn call_both<R: Rule, T: Tally>(
     }
     check_change(case, &before, nodes, answer)?;
     Ok(answer)
+}
+
+// A refine that answers whole leaves the diagram settled.
+pub(crate) fn check_whole(answer: Answer, settled: bool) -> Result<(), Fault> {
+    if answer == Answer::Whole && !settled {
+        return Err(Fault::WholeNotSettled);
+    }
+    Ok(())
 }
 
 fn one_call<R: Rule, T: Tally>(
@@ -312,10 +331,7 @@ fn one_call<R: Rule, T: Tally>(
     let answer = call_both(case, nodes, diagram, call)?;
     log.counts.note(sort_of(call), answer);
     log.settled = check_now(case, nodes, diagram, &log.ceilings, &mut log.counts)?;
-    if answer == Answer::Whole && !log.settled {
-        return Err(Fault::WholeNotSettled);
-    }
-    Ok(())
+    check_whole(answer, log.settled)
 }
 
 fn some_calls<R: Rule, T: Tally>(
@@ -342,7 +358,7 @@ fn room_number(round: &Round, width: usize, len: usize) -> u8 {
 }
 
 // A width out of range is refused with 10, also where the list is too short, and a list that is too short by one record with 11.
-fn check_rooms(round: &Round, width: usize, counts: &mut Counts) -> Result<(), Fault> {
+pub(crate) fn check_rooms(round: &Round, width: usize, counts: &mut Counts) -> Result<(), Fault> {
     let end = end_place(round, width);
     let asked = [
         (0, LENT, 10),
@@ -381,6 +397,20 @@ fn on_short<R: Rule, T: Tally>(
     on_records(case, part, call)
 }
 
+// A call on a list that is too short answers so, and leaves it as it was.
+pub(crate) fn check_left<R: Rule, T: Tally>(
+    case: &Case<'_, R, T, T::Value>,
+    before: &[Node<R::State, T::Value>],
+    after: &[Node<R::State, T::Value>],
+    call: Call<T::Value>,
+    answer: Answer,
+) -> Result<(), Fault> {
+    if answer != short_answer(call) || !same_from(case.rule, case.tally, before, after, 0) {
+        return Err(Fault::ShortNotRefused);
+    }
+    Ok(())
+}
+
 // A list that is too short by one record is left alone.
 fn check_short<R: Rule, T: Tally>(
     case: &Case<'_, R, T, T::Value>,
@@ -390,11 +420,28 @@ fn check_short<R: Rule, T: Tally>(
 ) -> Result<(), Fault> {
     let before = copied(case.rule, case.tally, nodes);
     let answer = on_short(case, nodes, call);
-    if answer != short_answer(call) || !same_from(case.rule, case.tally, &before, nodes, 0) {
-        return Err(Fault::ShortNotRefused);
-    }
+    check_left(case, &before, nodes, call, answer)?;
     if let Answer::Refused(number) = answer {
         counts.refuse(number);
+    }
+    Ok(())
+}
+
+// The room for the diagram.
+pub(crate) fn room_of(round: &Round, width: usize) -> Result<Room<'_>, Fault>
+    ensures { IfOk result (λ m. m.round.now.n * m.width + 1 ≤ LENT) }
+{
+    Room::check(round, width, LENT).map_err(|_| Fault::RoomRefused)
+}
+
+// Both lists hold the same records.
+pub(crate) fn check_same<R: Rule, T: Tally>(
+    case: &Case<'_, R, T, T::Value>,
+    nodes: &[Node<R::State, T::Value>],
+    others: &[Node<R::State, T::Value>],
+) -> Result<(), Fault> {
+    if !same_from(case.rule, case.tally, others, nodes, 0) {
+        return Err(Fault::OtherRecords);
     }
     Ok(())
 }
@@ -407,9 +454,7 @@ fn run_calls<R: Rule, T: Tally>(
     log: &mut Log<T::Value>,
 ) -> Result<(), Fault> {
     check_rooms(case.round, case.width, &mut log.counts)?;
-    let Ok(room) = Room::check(case.round, case.width, LENT) else {
-        return Err(Fault::RoomRefused);
-    };
+    let room = room_of(case.round, case.width)?;
     let mut others = copied(case.rule, case.tally, nodes);
     open(room, case.rule, case.tally, nodes);
     check_change(case, &others, nodes, Answer::Done)?;
@@ -417,18 +462,12 @@ fn run_calls<R: Rule, T: Tally>(
         let mut diagram = Diagram::open(room, case.rule, case.tally, &mut others);
         some_calls(case, dice, nodes, &mut diagram, log)?;
     }
-    if !same_from(case.rule, case.tally, &others, nodes, 0) {
-        return Err(Fault::OtherRecords);
-    }
-    Ok(())
+    check_same(case, nodes, &others)
 }
 
 pub(crate) fn start_log<T: Tally>(tally: &T) -> Log<T::Value> {
     Log {
-        ceilings: Ceilings {
-            values: [tally.start(); 16],
-            count: 0,
-        },
+        ceilings: no_ceilings(tally),
         last: Call::Sweep,
         counts: Counts::none(),
         settled: false,

@@ -15,6 +15,8 @@ use rules::rule::Rule;
 use tallies::tally::Tally;
 
 pub mod call;
+#[cfg(test)]
+mod cases;
 
 /// A round, the width of its diagram, and the rule and the tally that are lent to each call.
 pub struct Setting<'a, R, T> {
