@@ -30,7 +30,7 @@ impl<'a> Answer<'a> {
         };
         let verdict = order.verdict(&Both::of(round));
         if let Verdict::Incomplete = verdict {
-            return Ok(Answer::NoOrder);
+            return Ok(Answer::NoOrder); // a door is missing
         }
         let finishes = order.finishes(heap)?;
         Ok(Answer::Report(Report {

@@ -6,9 +6,13 @@ use Rattle.order_report.specs.Named.{IsDoorText}
 use Rattle.order_report.proofs.named.doors_named.Goals as goal
 
 pub returns-in-None : goal.returns-in-None
-returns-in-None c =
-    (c.loop-text.text-index, c.text-item.result, omega arith, search rules,
-    λ j h. c.in-None.ensures j (subst (λ (t : List ℕ). IsDoorText t j) (sym c.as_str.ensures.value) h))
+returns-in-None c = (
+  c.loop-text.text-index,
+  c.text-item.result,
+  omega arith,
+  search rules,
+  λ j h. c.in-None.ensures j (subst (λ (t : List ℕ). IsDoorText t j) (sym c.as_str.ensures.value) h),
+)
 
 pub loop-text-preserved : goal.loop-text-preserved
 loop-text-preserved c =
