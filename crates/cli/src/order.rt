@@ -36,7 +36,7 @@ fn answer_for(rt: &HostRuntime, round: &Round) -> anyhow::Result<ExitCode> {
 /// Reads a round, and reports on the order of its doors that the arguments give. A text that is refused and doors
 /// that are no order are printed as refused, with status 1.
 pub fn order_program(rt: &HostRuntime) -> anyhow::Result<ExitCode> {
-    match read_round(rt)? {
+    match read_round(rt.stdin(), rt.alloc())? {
         Ok(round) => answer_for(rt, &round),
         Err(refusal) => {
             println!(rt; "{refusal}")?;
