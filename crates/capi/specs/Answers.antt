@@ -1,6 +1,10 @@
 -- What a call from C answers: a refusal as a number below 0, or else what the round of the text gives.
 use Rattle.std.specs.Prelude.{◌≡◌, ℕ, ◌+◌, ◌*◌, ◌/◌, ◌<◌, ◌≤◌, min, cond, ◌⊎◌, ℤ, pos, negsuc, List, length, Ok, Err, Result, nat_lt}
 use Rattle.layers.specs.declared.node.Node.{Node}
+use Rattle.layers.specs.declared.refined.Refined.{Refined}
+use Rattle.layers.specs.declared.refined.Refined.TheVariants.{Whole, Full}
+use Rattle.layers.specs.declared.refusal.Refusal.{Refusal as CallRefusal}
+use Rattle.layers.specs.Refusals.{number_of as call_number}
 use Rattle.layers.specs.Calls.{open_answer, opened_on, refined}
 use Rattle.round.specs.declared.table.Round.{Round}
 use Rattle.rules.specs.declared.load.Interval.{Interval}
@@ -28,8 +32,8 @@ Read text r = read_text text ≡ Ok (contents r)
 
 -- an answer on a round that is read: Made k, if there is room for its diagram at the width W, or why it is refused, Other m, as the number m
 abbrev pub AnswersOn : Round → ℕ → (ℕ → Type 0) → (ℕ → Type 0) → ℤ → Type 0
-AnswersOn r W Made Other (pos k) = (open_answer r.n W 2049 ≡ 0) × Made k
-AnswersOn r W Made Other (negsuc m) = (open_answer r.n W 2049 ≡ m + 1) ⊎ Other (m + 1)
+AnswersOn r W Made Other (pos k) = (open_answer r.n W 2049 ≡ Ok tt) × Made k
+AnswersOn r W Made Other (negsuc m) = ((e : CallRefusal) × (open_answer r.n W 2049 ≡ Err e) × (call_number e ≡ m + 1)) ⊎ Other (m + 1)
 
 -- the same on a text, which may be refused itself
 abbrev pub Answers : List ℕ → (Round → ℤ → Type 0) → ℤ → Type 0
@@ -40,9 +44,14 @@ Answers text On (negsuc m) = (text_number text ≡ m + 1) ⊎ ((r : Round) × Re
 abbrev pub Sheeted : ℕ → ℕ → Round → ℕ → ℤ → Type 0
 Sheeted calls room r W = AnswersOn r W (λ k. k ≡ 88 + calls / 4) (λ m. (m ≡ 30) ⊎ ((m ≡ 31) × (room < 88 + calls / 4)))
 
+-- refine's answer to C: 0 for whole, or the layer that was full
+abbrev pub layer_number : Refined → ℕ
+layer_number Whole = 0
+layer_number (Full i) = i
+
 -- k is what refine answers on a diagram of the round that is just opened, whatever stood in its records
 abbrev pub Refines : Round → ℕ → ℕ → Type 0
-Refines r W k = (xs : Recs) × (r.n * W + 1 ≤ length xs) × (k ≡ min (refined r (side_of r) (late_of r) W (opened_on r (side_of r) (late_of r) W xs)).0 4294967295)
+Refines r W k = (xs : Recs) × (r.n * W + 1 ≤ length xs) × (k ≡ min (layer_number (refined r (side_of r) (late_of r) W (opened_on r (side_of r) (late_of r) W xs)).0) 4294967295)
 
 -- the answer of the last refine of so many; 0 if there is none
 abbrev pub RefinesTimes : Round → ℕ → ℕ → ℕ → Type 0

@@ -1,6 +1,6 @@
 // A diagram over records of its own: made, put to work, and asked.
 ghost use Rattle.std.specs.Prelude.{◌≡◌, ◌+◌, ◌*◌, ◌/◌, ◌≤◌, min, length};
-ghost use Rattle.refine.specs.Answers.{answer_of};
+ghost use Rattle.capi.specs.Answers.{layer_number};
 ghost use Rattle.capi.specs.Bytes.{Kept};
 ghost use Rattle.capi.specs.Senses.{side_sense, side_of};
 
@@ -9,8 +9,8 @@ use crate::words::{put_word, word};
 use diagram::diagram::Diagram;
 use doors::DoorSet;
 use layers::node::Node;
+use layers::refined::Refined;
 use layers::refusal::Refusal;
-use refine::answer::Refined;
 use round::table::Round;
 use rules::both::Both;
 use rules::load::{Interval, Load};
@@ -40,7 +40,7 @@ fn done(answer: Result<(), Refusal>) -> u32 {
 }
 
 pub(crate) fn layer_of(refined: Refined) -> u32
-    ensures { result ≡ min (answer_of refined) 4294967295 }
+    ensures { result ≡ min (layer_number refined) 4294967295 }
 {
     match refined {
         Refined::Whole => 0,

@@ -3,6 +3,7 @@ ghost use Rattle.std.specs.Prelude.{◌≡◌, ◌+◌, ◌*◌, ◌≤◌, List
 ghost use Rattle.layers.specs.Calls.{Call, opened_on, run};
 ghost use Rattle.layers.specs.Claim.{Sure, WholeSettles};
 ghost use Rattle.layers.specs.Shape.{Shaped, Timely};
+ghost use Rattle.layers.specs.SweepLaws.{RefineSweepsOutFrom};
 ghost use Rattle.std.proofs.Props.{props};
 
 use crate::lay::lay_arcs;
@@ -26,8 +27,8 @@ pub struct Diagram<'a, 'n, S, V> {
 
 impl<'a, 'n, S: Copy, V: Copy> Diagram<'a, 'n, S, V> {
     // A node in each layer, and an arc for every door from each but the end. The list is long enough, as the check has found.
-    // Whatever calls follow, and in whatever order, nothing allowed is lost that no ceiling rules out, and a refine that answers
-    // whole leaves the diagram settled.
+    // Whatever calls follow, and in whatever order, nothing allowed is lost that no ceiling rules out, a refine that answers
+    // whole leaves the diagram settled, and after any refine a sweep takes out nothing.
     pub fn open<R: Rule<State = S>, T: Tally<Value = V>>(
         room: Room<'a>,
         rule: &R,
@@ -40,6 +41,9 @@ impl<'a, 'n, S: Copy, V: Copy> Diagram<'a, 'n, S, V> {
         ensures lender { result.nodes.ghost_name ≡ nodes.entry.ghost_name }
         ensures claim { R.Rule.serves rule.now room.entry.round.now.n → T.Tally.serves tally.now room.entry.round.now.n → (cs : List (Call V)) → Sure room.entry.round.now (R.Rule.sense rule.now) (R.Rule.keeps rule.now) (T.Tally.sense tally.now) room.entry.width cs (run room.entry.round.now (R.Rule.sense rule.now) (T.Tally.sense tally.now) room.entry.width cs result.nodes.now) }
         ensures whole { R.Rule.serves rule.now room.entry.round.now.n → (cs : List (Call V)) → WholeSettles room.entry.round.now (R.Rule.sense rule.now) (T.Tally.sense tally.now) room.entry.width (run room.entry.round.now (R.Rule.sense rule.now) (T.Tally.sense tally.now) room.entry.width cs result.nodes.now) }
+        ensures swept_out { R.Rule.serves rule.now room.entry.round.now.n
+            → RefineSweepsOutFrom room.entry.round.now (R.Rule.sense rule.now)
+            (T.Tally.sense tally.now) room.entry.width result.nodes.now }
     {
         lay_arcs(nodes, room.round.n, room.width);
         relabel(room.round, rule, tally, nodes, room.width);

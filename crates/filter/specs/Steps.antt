@@ -25,7 +25,7 @@ unfolding arcs_within
 arc_count n W xs = arcs_within (take (n * W) xs)
 
 -- a call has left the records ys and answered m, as its definition says; and ys are again the records of a diagram
-pub record Done {S V : Type 0} (n W : ℕ) (defined ys : List (Node S V)) (answered m : ℕ) : Type 0 where
+pub record Done {S V A : Type 0} (n W : ℕ) (defined ys : List (Node S V)) (answered m : A) : Type 0 where
   pub records : ys ≡ defined
   pub answer : m ≡ answered
   pub shaped : Shaped n W ys

@@ -14,6 +14,8 @@ use Rattle.layers.specs.Labels.{Lab, arrive, merge, firsts, labels_next, dear, o
 use Rattle.layers.specs.Calls.{Call, Sweep, Part, Join, Cut, Refine, EachCut}
 use Rattle.layers.proofs.Flows.{redirect-arc, inside, table_at, tidy-keeps}
 use Rattle.layers.proofs.Ways.{trip-snoc, length-snoc, snoc-assoc}
+use Rattle.layers.specs.declared.refined.Refined.{Refined}
+use Rattle.layers.specs.declared.refined.Refined.TheVariants.{Full}
 use Rattle.layers.proofs.Model.{part_at, one_group, sweeps, sweep, cuts, cut, count, done, refused, bad_layer, bad_node, part, join, swept, parted, refines, refine, unless, act, after, bound, valueO}
 use Rattle.layers.proofs.Walk.{within, Neat, Going, going_next, Told, told_none, told-next, Good, good-first, good-next, At, at_first, at_next, arrive-fits, going-facts, setting-out, sweep-keeps}
 use Rattle.layers.proofs.Shapes.{part-keeps, join-keeps, neat-tidied, neat-join, neat-part, neat-sweeps, neat-cuts}
@@ -70,7 +72,7 @@ module _ {S V : Type 0} (r : Round) (rule : RuleSense S) (tally : TallySense V) 
   safe-refines (suc k) i Ls o s =
       let p = parted r rule tally W W i 0 (sweep r rule tally Ls) in
       let sp = safe-parted W i 0 (sweep r rule tally Ls) o (safe-sweep Ls s) in
-      either (λ (z : ℕ × Net). Safe z.1) p.0 (i, p.1) (refines r rule tally W k (suc i) p.1) (λ e. sp) (λ e. safe-refines k (suc i) p.1 (omega arith) sp)
+      either (λ (z : Refined × Net). Safe z.1) p.0 (Full i, p.1) (refines r rule tally W k (suc i) p.1) (λ e. sp) (λ e. safe-refines k (suc i) p.1 (omega arith) sp)
 
   pub safe-refine : (Ls : Net) → Safe Ls → Safe (refine r rule tally W Ls).1
   unfolding refine

@@ -198,6 +198,14 @@ module _ {S V : Type 0} (r : Round) (rule : RuleSense S) (tally : TallySense V) 
       let p : every_arc (λ a j b. not (t a j b)) 0 L ≡ true = layer-quiet t 0 L (omega arith) in
       rw p (sweeps-quiet (suc i) (labels_next r rule tally labs L (width Ls)) Ls (omega arith))
 
+  -- a sweep that takes out no arc leaves all as it is
+  pub sweep-same : (Ls : Net) → width Ls ≡ 1 → Tied Ls → count_arcs (sweep r rule tally Ls) ≡ count_arcs Ls → sweep r rule tally Ls ≡ Ls
+  unfolding sweep
+  sweep-same Ls w t c =
+      let x = tidied-fewer (sweeps r rule tally 0 (firsts r rule tally) Ls) in
+      let y = sweeps-fewer r rule tally 0 (firsts r rule tally) Ls in
+      ap tidied (quiet_same 0 (firsts r rule tally) Ls (sweeps-quiet 0 (firsts r rule tally) Ls (omega arith))) ∙ tidied-same Ls w t
+
   -- settled is yes exactly when the in-arcs agree and a sweep would answer 0
   pub settled-yes : (Ls : Net) → width Ls ≡ 1 → Tied Ls → settled r rule tally Ls ≡ true → (agrees r rule tally (firsts r rule tally) Ls ≡ true) × (sweep r rule tally Ls ≡ Ls)
   unfolding settled settles sweep

@@ -142,7 +142,7 @@ unfolding marks_next
 mark-next fr L count a j b e g h =
     let q = next-at {A = Mark} (λ x y. tt) (λ x y. Unit {0}) (λ x. tt) (λ x y z p q. tt) (λ x y. tt) (λ x y. tt) (λ m k. tt) fr L count a j b tt e g h in q.1
 
-mark-up : (Ls : Net) (a : ℕ) (w : List ℕ) → PathFrom Ls a w → get_or (marks_up Ls) a None ≡ Some tt
+pub mark-up : (Ls : Net) (a : ℕ) (w : List ℕ) → PathFrom Ls a w → get_or (marks_up Ls) a None ≡ Some tt
 unfolding marks_up
 mark-up [] a [] p = unfold up in ap (λ (x : ℕ). get_or {A = Option Mark} (Some tt ∷ []) x None) p
 mark-up [] a (j ∷ w) p = absurd p

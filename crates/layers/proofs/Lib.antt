@@ -18,6 +18,8 @@ pub mod Sets
 pub mod Shaped
 pub mod Shapes
 pub mod Standing
+pub mod Sweeping
+pub mod Tidying
 pub mod Tied
 pub mod Ties
 pub mod Timely

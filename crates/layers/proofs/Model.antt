@@ -4,6 +4,8 @@ use lib.Count.{ones}
 use Rattle.round.specs.declared.table.Round.{Round}
 use Rattle.rules.specs.Rules.{RuleSense}
 use Rattle.tallies.specs.Tallies.{TallySense}
+use Rattle.layers.specs.declared.refined.Refined.{Refined}
+use Rattle.layers.specs.declared.refined.Refined.TheVariants.{Whole, Full}
 use Rattle.layers.specs.Flow.{Layer, Net, node, width, redirect, count_arcs, every_arc, ins, final, tidied, clash, join_at, seeks}
 use Rattle.layers.specs.Labels.{leg, ups, Lab, firsts, arrive, merge, labels_next, barred, dear, agree, agreeing, first_arrival, leaves}
 use Rattle.layers.specs.Calls.{Call, Sweep, Part, Join, Cut, Refine}
@@ -119,13 +121,13 @@ module _ {S V : Type 0} (r : Round) (rule : RuleSense S) (tally : TallySense V) 
               ]
         ]
 
-    -- layers i, i + 1, .. , k of them; answers 0 for whole, or the layer that was full
-    unfoldable pub refines : ℕ → ℕ → Net → ℕ × Net
+    -- layers i, i + 1, .. , k of them, up to one that was full
+    unfoldable pub refines : ℕ → ℕ → Net → Refined × Net
     unfolding sweep parted
-    refines zero i Ls = (0, Ls)
-    refines (suc k) i Ls = let p = parted W i 0 (sweep Ls) in elim p.0 [ true ↦ (i, p.1) | false ↦ refines k (suc i) p.1 ]
+    refines zero i Ls = (Whole, Ls)
+    refines (suc k) i Ls = let p = parted W i 0 (sweep Ls) in elim p.0 [ true ↦ (Full i, p.1) | false ↦ refines k (suc i) p.1 ]
 
-    unfoldable pub refine : Net → ℕ × Net
+    unfoldable pub refine : Net → Refined × Net
     unfolding refines swept
     refine Ls = let p = refines (r.n - 1) 1 Ls in (p.0, swept (suc (count_arcs p.1)) p.1)
 

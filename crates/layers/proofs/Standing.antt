@@ -1,14 +1,18 @@
 -- In a run with one rule and one tally, from opened records on, the labels that stand are those worked out from the arcs: each call on records is the call on arcs.
-use Rattle.std.proofs.Common.{◌≡◌, ℕ, zero, suc, ◌+◌, ◌-◌, ◌*◌, ◌<◌, ◌≤◌, min, max, Bool, true, false, cond, not, ◌&&◌, ◌||◌, eqb, ltb, leb, List, [], ◌∷◌, ◌++◌, length, get_or, drop, sym, refl, ap, ◌∙◌, ap₂, arith}
+use Rattle.std.proofs.Common.{◌≡◌, ℕ, zero, suc, ◌+◌, ◌-◌, ◌*◌, ◌<◌, ◌≤◌, min, max, Bool, true, false, cond, not, ◌&&◌, ◌||◌, eqb, ltb, leb, List, [], ◌∷◌, ◌++◌, length, get_or, drop, is_ok, Ok, Err, sym, refl, ap, ◌∙◌, ap₂, arith}
 use Rattle.std.proofs.lemmas.Bool.{ltb-true, ltb-false, leb-true, leb-false, eqb-true, lt-ltb, le-leb, eq-eqb, ne_eqb, and_parts, or_parts}
 use Rattle.round.specs.declared.table.Round.{Round}
 use Rattle.rules.specs.Rules.{RuleSense}
 use Rattle.tallies.specs.Tallies.{TallySense}
 use Rattle.layers.specs.declared.node.Node.{Node}
+use Rattle.layers.specs.declared.refined.Refined.{Refined}
+use Rattle.layers.specs.declared.refined.Refined.TheVariants.{Full as FullLayer}
+use Rattle.layers.specs.declared.refusal.Refusal.{Refusal}
+use Rattle.layers.specs.declared.refusal.Refusal.TheVariants.{NoLayer, NoNode, OneGroup, LayerFull, SameNode, Clash}
 use Rattle.layers.specs.Flow.{Net, node, count_arcs, ins, tidied, clash, join_at, seeks}
 use Rattle.layers.specs.Labels.{firsts, arrive, opened}
 use Rattle.layers.specs.Records.{arcs_in, downs_in, laid}
-use Rattle.layers.specs.Calls.{Call, Sweep, Part, Join, Cut, Refine, arrivals, parted_at, nodes, arcs, layer, relaid, opened_on, fewer, swept, sweep_answer, cut_at, part_answer, split, join_answer, joined, splits, splits_all, swept_out, refined, does, run, bound, must, settled, agreed_all, value_in, one_group as oneGroupIn, is_full, parted as partedIn, bad_node as badNodeIn}
+use Rattle.layers.specs.Calls.{Answer, Call, Sweep, Part, Join, Cut, Refine, arrivals, parted_at, nodes, arcs, layer, relaid, opened_on, fewer, swept, sweep_answer, cut_at, part_answer, split, join_answer, joined, splits, splits_all, swept_out, refined, does, run, bound, must, settled, agreed_all, value_in, one_group as oneGroupIn, is_full, parted as partedIn, bad_node as badNodeIn}
 use Rattle.layers.proofs.Model.{sweep, cut, one_group, part_at, count, done, refused, bad_layer, bad_node, part, join, unless, swept as untilQuiet, parted as partedArcs, refines, refine, act, after, agrees, settles, bound as boundOf, must as mustOf, settled as settled_of}
 use Rattle.layers.proofs.Counts.{sweep-fewer, settled-yes, settled-if}
 use Rattle.layers.proofs.Bridge.{Full, stood, labsAt, thinned-stood, trimmed-stood, quiet-stood, agrees-stood, stood-at, group_at, part-at, value-stood, later-stays}
@@ -82,12 +86,15 @@ module _ {S V : Type 0} (r : Round) (rule : RuleSense S) (self : (s : S) → rul
       ∙ rw e (part-at r rule tally W w (i - 1) c (firsts r rule tally) Ls))
 
   -- ---- part and join: a refusal leaves the list
-  refusals : (x y z t : Bool) (a b c d : ℕ) (A B : List (Node S V)) → cond (eqb (cond x (suc a) (cond y (suc b) (cond z (suc c) (cond t (suc d) 0)))) 0) A B ≡ cond x B (cond y B (cond z B (cond t B A)))
-  refusals true y z t a b c d A B = ap (λ (q : Bool). cond q A B) (ne_eqb (suc a) 0 (λ e. omega arith))
-  refusals false true z t a b c d A B = ap (λ (q : Bool). cond q A B) (ne_eqb (suc b) 0 (λ e. omega arith))
-  refusals false false true t a b c d A B = ap (λ (q : Bool). cond q A B) (ne_eqb (suc c) 0 (λ e. omega arith))
-  refusals false false false true a b c d A B = ap (λ (q : Bool). cond q A B) (ne_eqb (suc d) 0 (λ e. omega arith))
-  refusals false false false false a b c d A B = refl
+  abbrev barring : Bool → Refusal → Answer → Answer
+  barring q e o = cond q (Err e) o
+
+  refusals : (x y z t : Bool) (a b c d : Refusal) (o : Answer) (A B : List (Node S V)) → is_ok o ≡ true → cond (is_ok (barring x a (barring y b (barring z c (barring t d o))))) A B ≡ cond x B (cond y B (cond z B (cond t B A)))
+  refusals true y z t a b c d o A B e = refl
+  refusals false true z t a b c d o A B e = refl
+  refusals false false true t a b c d o A B e = refl
+  refusals false false false true a b c d o A B e = refl
+  refusals false false false false a b c d o A B e = ap (λ (q : Bool). cond q A B) e
 
   outcomes : (x y z t : Bool) (a b c d : ℕ) (Ls Ms : Net)
       → X (unless r rule tally W Ls (elim x [ true ↦ refused a | false ↦ elim y [ true ↦ refused b | false ↦ elim z [ true ↦ refused c | false ↦ elim t [ true ↦ refused d | false ↦ done Ms ] ] ] ])) ≡ cond x (X Ls) (cond y (X Ls) (cond z (X Ls) (cond t (X Ls) (X Ms))))
@@ -108,7 +115,7 @@ module _ {S V : Type 0} (r : Round) (rule : RuleSense S) (self : (s : S) → rul
   pub part-X : (i a : ℕ) (Ls : Net) → Well Ls → partedIn r rule tally W i a (X Ls) ≡ X (unless r rule tally W Ls (part r rule tally W i a Ls))
   unfolding partedIn part_answer part
   part-X i a Ls p =
-      refusals (bad_layer r rule tally i) (badNodeIn r rule tally W i a (X Ls)) (oneGroupIn r rule tally W i a (X Ls)) (is_full r rule tally W i (X Ls)) 19 20 22 23 (split r rule tally W i a (X Ls)) (X Ls)
+      refusals (bad_layer r rule tally i) (badNodeIn r rule tally W i a (X Ls)) (oneGroupIn r rule tally W i a (X Ls)) (is_full r rule tally W i (X Ls)) NoLayer NoNode OneGroup LayerFull (Ok tt) (split r rule tally W i a (X Ls)) (X Ls) refl
       ∙ four (bad_layer r rule tally i) (badNodeIn r rule tally W i a (X Ls)) (bad_node r rule tally i a Ls) (oneGroupIn r rule tally W i a (X Ls)) (one_group r rule tally (i - 1) (a - 1) (firsts r rule tally) Ls) (is_full r rule tally W i (X Ls)) (leb W (count r rule tally i Ls)) (split r rule tally W i a (X Ls)) (X (part_at r rule tally (i - 1) (a - 1) (firsts r rule tally) Ls)) (X Ls)
       (λ e. let b = placed i e in let n = (at-X i Ls p b.1).2 in
       (ap (λ (m : ℕ). ltb a 1 || ltb m a) n, group-X i a (a - 1) Ls p b.0 b.1 refl, ap (leb W) n, split-X i a (a - 1) Ls p b.0 b.1 refl))
@@ -122,7 +129,7 @@ module _ {S V : Type 0} (r : Round) (rule : RuleSense S) (self : (s : S) → rul
       let C : Net → Bool = λ Ms. clash (node (get_or Ms i []) (min a b - 1)) (node (get_or Ms i []) (max a b - 1)) in
       let B : Bool = badNodeIn r rule tally W i a (X Ls) || badNodeIn r rule tally W i b (X Ls) in
       let B' : Bool = bad_node r rule tally i a Ls || bad_node r rule tally i b Ls in
-      refusals (bad_layer r rule tally i) B (eqb a b) (C D) 19 20 24 25 (relaid r rule tally W (X Ls) (J D)) (X Ls)
+      refusals (bad_layer r rule tally i) B (eqb a b) (C D) NoLayer NoNode SameNode Clash (Ok tt) (relaid r rule tally W (X Ls) (J D)) (X Ls) refl
       ∙ four (bad_layer r rule tally i) B B' (eqb a b) (eqb a b) (C D) (C Ls) (relaid r rule tally W (X Ls) (J D)) (X (J Ls)) (X Ls)
       (λ e. let q = placed i e in
       (ap (λ (m : ℕ). (ltb a 1 || ltb m a) || (ltb b 1 || ltb m b)) (at-X i Ls p q.1).2, refl, ap C (arcs-X Ls p), relaid-X Ls (J D) p ∙ ap (λ (z : Net). X (J z)) (arcs-X Ls p)))
@@ -167,11 +174,11 @@ module _ {S V : Type 0} (r : Round) (rule : RuleSense S) (self : (s : S) → rul
       let s = sweep r rule tally Ls in
       let ps = proper-sweep r rule tally W w Ls p in
       let q = partedArcs r rule tally W W i 0 s in
-      let G : Bool × List (Node S V) → ℕ × List (Node S V) = λ p. cond p.0 (i, p.1) (splits_all r rule tally W k (suc i) p.1) in
+      let G : Bool × List (Node S V) → Refined × List (Node S V) = λ p. cond p.0 (FullLayer i, p.1) (splits_all r rule tally W k (suc i) p.1) in
       ap G (ap (splits r rule tally W W i 1) (swept-X Ls p) ∙ splits-X W i 0 s ps lo (omega arith))
       ∙ go q.0 q.1 (splits_all-X k (suc i) q.1 (proper-parted r rule self tally W w W i 0 s lo ps) (omega arith) (omega arith))
     where
-      go : (x : Bool) (Ms : Net) → splits_all r rule tally W k (suc i) (X Ms) ≡ lift (refines r rule tally W k (suc i) Ms) → cond x (i, X Ms) (splits_all r rule tally W k (suc i) (X Ms)) ≡ lift (elim x [ true ↦ (i, Ms) | false ↦ refines r rule tally W k (suc i) Ms ])
+      go : (x : Bool) (Ms : Net) → splits_all r rule tally W k (suc i) (X Ms) ≡ lift (refines r rule tally W k (suc i) Ms) → cond x (FullLayer i, X Ms) (splits_all r rule tally W k (suc i) (X Ms)) ≡ lift (elim x [ true ↦ (FullLayer i, Ms) | false ↦ refines r rule tally W k (suc i) Ms ])
       go true Ms h = refl
       go false Ms h = h
 
@@ -196,7 +203,7 @@ module _ {S V : Type 0} (r : Round) (rule : RuleSense S) (self : (s : S) → rul
   refined-X Ls p =
       let q = refines r rule tally W (r.n - 1) 1 Ls in
       let pq = proper-refines r rule self tally W w (r.n - 1) 1 Ls (omega arith) p in
-      let G : ℕ × List (Node S V) → ℕ × List (Node S V) = λ p. (p.0, swept_out r rule tally W (suc (count_arcs (arcs r.n W p.1))) p.1) in
+      let G : Refined × List (Node S V) → Refined × List (Node S V) = λ p. (p.0, swept_out r rule tally W (suc (count_arcs (arcs r.n W p.1))) p.1) in
       ap G (splits_all-X (r.n - 1) 1 Ls p (omega arith) (omega (arith, r.one)))
       ∙ ap (λ (m : Net). (q.0, swept_out r rule tally W (suc (count_arcs m)) (X q.1))) (arcs-X q.1 pq)
       ∙ ap (λ (m : List (Node S V)). (q.0, m)) (swept_out-X (suc (count_arcs q.1)) q.1 pq)
@@ -208,7 +215,7 @@ module _ {S V : Type 0} (r : Round) (rule : RuleSense S) (self : (s : S) → rul
   does-X (Part i a) Ls p = part-X i a Ls p
   does-X (Join i a b) Ls p = join-X i a b Ls p
   does-X (Cut c) Ls p = cut-X c Ls p
-  does-X Refine Ls p = ap (λ (z : ℕ × List (Node S V)). z.1) (refined-X Ls p)
+  does-X Refine Ls p = ap (λ (z : Refined × List (Node S V)). z.1) (refined-X Ls p)
 
   run-X : (cs : List (Call V)) (Ls : Net) → Well Ls → run r rule tally W cs (X Ls) ≡ X (after r rule tally W cs Ls)
   run-X [] Ls p = refl

@@ -5,6 +5,8 @@ use Rattle.round.specs.declared.table.Round.{Round}
 use Rattle.rules.specs.Rules.{RuleLaws, RuleSense}
 use Rattle.tallies.specs.Tallies.{TallySense}
 use Rattle.layers.specs.declared.node.Node.{Node}
+use Rattle.layers.specs.declared.refined.Refined.{Refined}
+use Rattle.layers.specs.declared.refined.Refined.TheVariants.{Whole, Full}
 use Rattle.layers.specs.Flow.{Layer, Net, node, target, width, redirect, count_arcs, ins, Tied, Roomy}
 use Rattle.layers.specs.Labels.{Lab, first, firsts, arrive, merge, labels_next, agree, agreeing, first_arrival, leaves, opened}
 use Rattle.layers.specs.Records.{or_blank}
@@ -157,19 +159,19 @@ module _ {S V : Type 0} {Keeps : List ℕ → Type 0} {Stands : S → List ℕ �
         group t y = rw (← less) y
 
     -- k layers, from layer d + 1 on
-    refines-keyed : (k d : ℕ) (Ls : Net) → Proper r.n W Ls → KeyedTo r rule ruled tally d Ls → (refines r rule tally W k (suc d) Ls).0 ≡ 0 → KeyedTo r rule ruled tally (d + k) (refines r rule tally W k (suc d) Ls).1
+    refines-keyed : (k d : ℕ) (Ls : Net) → Proper r.n W Ls → KeyedTo r rule ruled tally d Ls → (refines r rule tally W k (suc d) Ls).0 ≡ Whole → KeyedTo r rule ruled tally (d + k) (refines r rule tally W k (suc d) Ls).1
     unfolding refines
     refines-keyed zero d Ls p q = λ e. subst (λ (m : ℕ). KeyedTo r rule ruled tally m Ls) (omega arith) q
     refines-keyed (suc k) d Ls p q =
         let s = sweep r rule tally Ls in
         let ps = proper-sweep r rule tally W w Ls p in
         let t = parted r rule tally W W (suc d) 0 s in
-        either Done t.0 (suc d, t.1) (refines r rule tally W k (suc (suc d)) t.1) (λ x e. absurd (omega arith)) (λ x e.
+        either Done t.0 (Full (suc d), t.1) (refines r rule tally W k (suc (suc d)) t.1) (λ x e. cc) (λ x e.
         subst (λ (m : ℕ). KeyedTo r rule ruled tally m (refines r rule tally W k (suc (suc d)) t.1).1) (omega arith)
         (refines-keyed k (suc d) t.1 (proper-parted r rule ruled.same_self tally W w W (suc d) 0 s (omega arith) ps) (parted-keyed W d 0 s (omega arith) ps (keyed-sweep r rule ruled tally d Ls q) (λ b h. absurd (not-suc-le-zero h)) x) e))
       where
-        Done : ℕ × Net → Type 0
-        Done z = z.0 ≡ 0 → KeyedTo r rule ruled tally (d + suc k) z.1
+        Done : Refined × Net → Type 0
+        Done z = z.0 ≡ Whole → KeyedTo r rule ruled tally (d + suc k) z.1
 
     -- sweeps until one answers 0, which then is of a settled diagram
     swept-settles : (k : ℕ) (Ls : Net) → count_arcs Ls < k → Proper r.n W Ls → KeyedTo r rule ruled tally (r.n - 1) Ls → settled_of r rule tally (swept r rule tally W k Ls) ≡ true
@@ -182,7 +184,7 @@ module _ {S V : Type 0} {Keeps : List ℕ → Type 0} {Stands : S → List ℕ �
         rw (settled-yes r rule tally Ls p.one_first p.tied t).1 t)
         (λ e. swept-settles k s (omega (arith, sweep-fewer r rule tally Ls, eqb-false (count_arcs s) (count_arcs Ls) e)) (proper-sweep r rule tally W w Ls p) (keyed-sweep r rule ruled tally (r.n - 1) Ls q))
 
-    pub refine-settles : (Ls : Net) → Proper r.n W Ls → (refine r rule tally W Ls).0 ≡ 0 → settled_of r rule tally (refine r rule tally W Ls).1 ≡ true
+    pub refine-settles : (Ls : Net) → Proper r.n W Ls → (refine r rule tally W Ls).0 ≡ Whole → settled_of r rule tally (refine r rule tally W Ls).1 ≡ true
     unfolding refine
     refine-settles Ls p e =
         let q = refines r rule tally W (r.n - 1) 1 Ls in
@@ -197,5 +199,5 @@ whole-settles {S} {V} A rule tally ruled r e W a b lent cs =
     let D = after r rule tally W cs (opened r rule tally) in
     let p = proper-after r rule x.same_self tally W a cs (opened r rule tally) (proper-opened r rule tally W a) in
     let q = proper-after r rule x.same_self tally W a (Refine ∷ []) D p in
-    let Goal : ℕ × List (Node S V) → Type 0 = λ z. z.0 ≡ 0 → settled r rule tally W z.1 ≡ true in
+    let Goal : Refined × List (Node S V) → Type 0 = λ z. z.0 ≡ Whole → settled r rule tally W z.1 ≡ true in
     rw (ap (refined r rule tally W) (run-opened r rule x.same_self tally W a lent cs) ∙ refined-X r rule x.same_self tally W a l D p) (λ h. settled-X r rule x.same_self tally W a l (refine r rule tally W D).1 q ∙ refine-settles r rule x tally W a D p h)

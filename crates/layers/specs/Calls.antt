@@ -1,9 +1,13 @@
 -- The calls, on the lent list of records. Each goes by the labels as they stand in the records, whatever rule or tally wrote them,
 -- and ends with all labels worked out anew with the rule and the tally of this call. Places after the end's are never altered.
-use Rattle.std.specs.Prelude.{ℕ, zero, suc, ◌+◌, ◌-◌, ◌*◌, min, max, Bool, true, false, cond, not, ◌&&◌, ◌||◌, List, [], ◌∷◌, ◌++◌, length, get_or, drop, Some, None, Option, ◌==◌, nat_le, nat_lt, slice_index_or}
+use Rattle.std.specs.Prelude.{ℕ, zero, suc, ◌+◌, ◌-◌, ◌*◌, min, max, Bool, true, false, cond, if◌then◌else◌, not, ◌&&◌, ◌||◌, List, [], ◌∷◌, ◌++◌, length, get_or, drop, Some, None, Option, Ok, Err, Result, is_ok, ◌==◌, nat_le, nat_lt, slice_index_or}
 use Rattle.std.specs.Int.Count.{ones}
 use Rattle.layers.specs.declared.node.Node.{Node}
 use Rattle.layers.specs.declared.node.Down.{Down}
+use Rattle.layers.specs.declared.refined.Refined.{Refined}
+use Rattle.layers.specs.declared.refined.Refined.TheVariants.{Whole, Full}
+use Rattle.layers.specs.declared.refusal.Refusal.{Refusal}
+use Rattle.layers.specs.declared.refusal.Refusal.TheVariants.{Width, Short, NoLayer, NoNode, NoDoor, OneGroup, LayerFull, SameNode, Clash, SameDoor}
 use Rattle.layers.specs.Flow.{Net, node, redirect, count_arcs, every_arc, ins, tidied, clash, join_at, seeks}
 use Rattle.layers.specs.Labels.{leg, arrive, opened, barred, dear, agree, agreeing, first_arrival, leaves}
 use Rattle.layers.specs.Records.{layers, arcs_in, downs_in, ups_in, drawn, laid}
@@ -34,14 +38,17 @@ abbrev pub value_in : {S V : Type 0} → List (Node S V) → Option V
 value_in [] = None
 value_in (x ∷ xs) = Some x.label.down.value
 
--- ---- refusals that the records do not decide: 0, or the number of the refusal
--- opening a diagram of n doors and width W on so many records: 10 for a width other than 1 to 128, 11 for too few records
-abbrev pub open_answer : ℕ → ℕ → ℕ → ℕ
-open_answer n W long = cond (nat_lt W 1 || nat_lt 128 W) 10 (cond (nat_lt long (n * W + 1)) 11 0)
+-- ---- answers: a call that is done, or why it is refused
+abbrev pub Answer : Type 0
+Answer = Result (Unit {0}) Refusal
 
--- must, of i and j in a round of n doors: 22 if either is no door, 27 if they are one
-abbrev pub must_answer : ℕ → ℕ → ℕ → ℕ
-must_answer n i j = cond (nat_lt i 1 || (nat_lt n i || (nat_lt j 1 || nat_lt n j))) 22 (cond (i == j) 27 0)
+-- opening a diagram of n doors and width W on so many records: refused for a width other than 1 to 128, and for too few records
+abbrev pub open_answer : ℕ → ℕ → ℕ → Answer
+open_answer n W long = if nat_lt W 1 || nat_lt 128 W then Err Width else if nat_lt long (n * W + 1) then Err Short else Ok tt
+
+-- i or j is no door of a round of n doors
+abbrev pub bad_door : ℕ → ℕ → ℕ → Bool
+bad_door n i j = nat_lt i 1 || (nat_lt n i || (nat_lt j 1 || nat_lt n j))
 
 -- ---- what needs neither rule nor tally: a diagram of n doors and width W in the records xs
 module _ {S V : Type 0} (n W : ℕ) where
@@ -70,6 +77,10 @@ module _ {S V : Type 0} (n W : ℕ) where
   unfoldable pub must : ℕ → ℕ → List (Node S V) → Bool
   unfolding seeks
   must i j xs = not (seeks (arcs xs) 0 (j ∷ i ∷ []))
+
+  -- what must(i, j) answers: refused if either is no door, and if they are one
+  abbrev pub must_answer : ℕ → ℕ → List (Node S V) → Result Bool Refusal
+  must_answer i j xs = if bad_door n i j then Err NoDoor else if i == j then Err SameDoor else Ok (must i j xs)
 
 module _ {S V : Type 0} (r : Round) (rule : RuleSense S) (tally : TallySense V) where
   -- the records of a diagram, or of one layer
@@ -177,11 +188,15 @@ module _ {S V : Type 0} (r : Round) (rule : RuleSense S) (tally : TallySense V) 
     abbrev pub is_full : ℕ → Recs → Bool
     is_full i xs = nat_le W (length (layer r.n W i xs))
 
-    -- part node a of layer i: 0, or the number of the refusal, which leaves the records as they are
-    -- 20 for the layer, 21 for the node, 23 for one group, 24 for a full layer
-    unfoldable pub part_answer : ℕ → ℕ → Recs → ℕ
+    -- part node a of layer i: done, or refused, which leaves the records as they are
+    unfoldable pub part_answer : ℕ → ℕ → Recs → Answer
     unfolding one_group
-    part_answer i a xs = cond (bad_layer i) 20 (cond (bad_node i a xs) 21 (cond (one_group i a xs) 23 (cond (is_full i xs) 24 0)))
+    part_answer i a xs =
+        if bad_layer i then Err NoLayer
+        else if bad_node i a xs then Err NoNode
+        else if one_group i a xs then Err OneGroup
+        else if is_full i xs then Err LayerFull
+        else Ok tt
 
     -- what it does if it is not refused
     unfoldable pub split : ℕ → ℕ → Recs → Recs
@@ -191,19 +206,23 @@ module _ {S V : Type 0} (r : Round) (rule : RuleSense S) (tally : TallySense V) 
     -- part
     unfoldable pub parted : ℕ → ℕ → Recs → Recs
     unfolding part_answer split
-    parted i a xs = cond (part_answer i a xs == 0) (split i a xs) xs
+    parted i a xs = if is_ok (part_answer i a xs) then split i a xs else xs
 
-    -- join nodes a and b of layer i: likewise, with 25 if they are one node, and 26 if by some door they have arcs to two nodes
-    unfoldable pub join_answer : ℕ → ℕ → ℕ → Recs → ℕ
+    -- join nodes a and b of layer i: likewise; refused if they are one node, and if by some door they have arcs to two nodes
+    unfoldable pub join_answer : ℕ → ℕ → ℕ → Recs → Answer
     unfolding clash
     join_answer i a b xs =
         let L = get_or (arcs r.n W xs) i [] in
-        cond (bad_layer i) 20 (cond (bad_node i a xs || bad_node i b xs) 21 (cond (a == b) 25 (cond (clash (node L (min a b - 1)) (node L (max a b - 1))) 26 0)))
+        if bad_layer i then Err NoLayer
+        else if bad_node i a xs || bad_node i b xs then Err NoNode
+        else if a == b then Err SameNode
+        else if clash (node L (min a b - 1)) (node L (max a b - 1)) then Err Clash
+        else Ok tt
 
     -- join: the out-arcs of both, at the lower of the two places
     unfoldable pub joined : ℕ → ℕ → ℕ → Recs → Recs
     unfolding join_answer relaid join_at
-    joined i a b xs = cond (join_answer i a b xs == 0) (relaid xs (join_at (i - 1) (min a b - 1) (max a b - 1) (arcs r.n W xs))) xs
+    joined i a b xs = if is_ok (join_answer i a b xs) then relaid xs (join_at (i - 1) (min a b - 1) (max a b - 1) (arcs r.n W xs)) else xs
 
     -- refine, in one layer: parts nodes a, a + 1, .. of layer i, k at most, each that is not of one group; yes if one is left since the layer is full
     unfoldable pub splits : ℕ → ℕ → ℕ → Recs → Bool × Recs
@@ -213,11 +232,11 @@ module _ {S V : Type 0} (r : Round) (rule : RuleSense S) (tally : TallySense V) 
         cond (nat_lt (length (layer r.n W i xs)) a) (false, xs)
         (cond (one_group i a xs) (splits k i (suc a) xs) (cond (is_full i xs) (true, xs) (splits k i (suc a) (split i a xs))))
 
-    -- refine, in k layers from i on: a sweep, then the parts of the layer; up to a layer that is full, or 0 if none is
-    unfoldable pub splits_all : ℕ → ℕ → Recs → ℕ × Recs
+    -- refine, in k layers from i on: a sweep, then the parts of the layer; up to a layer that is full, or whole if none is
+    unfoldable pub splits_all : ℕ → ℕ → Recs → Refined × Recs
     unfolding swept splits
-    splits_all zero i xs = (0, xs)
-    splits_all (suc k) i xs = let p = splits W i 1 (swept xs) in cond p.0 (i, p.1) (splits_all k (suc i) p.1)
+    splits_all zero i xs = (Whole, xs)
+    splits_all (suc k) i xs = let p = splits W i 1 (swept xs) in cond p.0 (Full i, p.1) (splits_all k (suc i) p.1)
 
     -- sweeps until one answers 0, k at most
     unfoldable pub swept_out : ℕ → Recs → Recs
@@ -225,8 +244,8 @@ module _ {S V : Type 0} (r : Round) (rule : RuleSense S) (tally : TallySense V) 
     swept_out zero xs = xs
     swept_out (suc k) xs = cond (sweep_answer xs == 0) (swept xs) (swept_out k (swept xs))
 
-    -- refine, and its answer: 0 for whole, or the layer that was full. Each of the sweeps at its end but the last takes out an arc, so there are enough of them
-    unfoldable pub refined : Recs → ℕ × Recs
+    -- refine: its answer, and what it leaves. Each of the sweeps at its end but the last takes out an arc, so there are enough of them
+    unfoldable pub refined : Recs → Refined × Recs
     unfolding splits_all swept_out count_arcs
     refined xs = let p = splits_all (r.n - 1) 1 xs in (p.0, swept_out (suc (count_arcs (arcs r.n W p.1))) p.1)
 

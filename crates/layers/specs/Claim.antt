@@ -7,6 +7,7 @@ use Rattle.tallies.specs.Tallies.{TallySense}
 use Rattle.orders.specs.Allowed.{Allowed}
 use Rattle.orders.specs.Costs.{cost}
 use Rattle.layers.specs.declared.node.Node.{Node}
+use Rattle.layers.specs.declared.refined.Refined.TheVariants.{Whole}
 use Rattle.layers.specs.Flow.{PathFrom}
 use Rattle.layers.specs.Calls.{Call, EachCut, nodes, arcs, relaid, agreed_all, sweep_answer, opened_on, refined, run, bound, must, settled}
 
@@ -76,9 +77,9 @@ SettledMeans {S} {V} RuleServes rule tally =
     (r : Round) → RuleServes r.n → (W : ℕ) → 1 ≤ W → W ≤ 128 → (lent : List (Node S V)) (cs : List (Call V))
     → let xs = run r rule tally W cs (opened_on r rule tally W lent) in settled r rule tally W xs ≡ (agreed_all r rule tally (nodes r.n W xs) && sweep_answer r rule tally W xs == 0)
 
--- refine of these records that answers 0, for whole, leaves the diagram settled
+-- refine of these records that answers whole leaves the diagram settled
 abbrev pub WholeSettles : {S V : Type 0} → Round → RuleSense S → TallySense V → ℕ → List (Node S V) → Type 0
-WholeSettles r rule tally W xs = (refined r rule tally W xs).0 ≡ 0 → settled r rule tally W (refined r rule tally W xs).1 ≡ true
+WholeSettles r rule tally W xs = (refined r rule tally W xs).0 ≡ Whole → settled r rule tally W (refined r rule tally W xs).1 ≡ true
 
 -- so after every list of calls
 abbrev pub WholeSettlesAlways : {S V : Type 0} → (ℕ → Type 0) → RuleSense S → TallySense V → Type 0

@@ -6,4 +6,6 @@ pub mod Labels
 pub mod Records
 pub mod Refusals
 pub mod Shape
+pub mod SweepLaws
 pub mod Targets
+pub mod TidyLaws

@@ -1,6 +1,8 @@
 // What is claimed of every diagram, as contracts for any rule and any tally.
 ghost use Rattle.layers.specs.Claim.{Kept, WorkedOut, SettledMeans, WholeSettlesAlways};
 ghost use Rattle.layers.specs.LabelLaws.{LabelsMean};
+ghost use Rattle.layers.specs.SweepLaws.{RefineSweepsOutAlways};
+ghost use Rattle.layers.specs.TidyLaws.{TidyMeans, TidyStays};
 
 use rules::rule::Rule;
 use tallies::tally::Tally;
@@ -30,4 +32,17 @@ pub fn labels_mean<R: Rule, T: Tally>(rule: &R, tally: &T)
 // In such a run refine that answers whole leaves the diagram settled.
 pub fn whole_settles<R: Rule, T: Tally>(rule: &R, tally: &T)
     ensures { WholeSettlesAlways (R.Rule.serves rule.now) (R.Rule.sense rule.now) (T.Tally.sense tally.now) }
+{}
+
+/// In such a run refine, whether it answers whole or full, leaves a diagram of which a sweep takes out nothing.
+pub fn refine_sweeps_out<R: Rule, T: Tally>(rule: &R, tally: &T)
+    ensures { RefineSweepsOutAlways (R.Rule.serves rule.now) (R.Rule.sense rule.now)
+        (T.Tally.sense tally.now) }
+{}
+
+/// Tidying any layers of arcs keeps every path and adds none, and exactly the nodes on a path stay, renumbered in their order.
+/// It alters nothing exactly if each node lies on a path and no arc leads elsewhere.
+pub fn tidy_means()
+    ensures left { TidyMeans }
+    ensures alone { TidyStays }
 {}

@@ -3,4 +3,5 @@
 
 pub mod claim;
 pub mod node;
+pub mod refined;
 pub mod refusal;

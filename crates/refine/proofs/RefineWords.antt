@@ -6,6 +6,8 @@ use Rattle.round.specs.declared.table.Round.{Round}
 use Rattle.rules.specs.Rules.{RuleSense}
 use Rattle.tallies.specs.Tallies.{TallySense}
 use Rattle.layers.specs.declared.node.Node.{Node}
+use Rattle.layers.specs.declared.refined.Refined.{Refined}
+use Rattle.layers.specs.declared.refined.Refined.TheVariants.{Full}
 use Rattle.layers.specs.Flow.{Net, count_arcs, tidied}
 use Rattle.layers.specs.Labels.{firsts}
 use Rattle.layers.specs.Records.{laid}
@@ -98,11 +100,11 @@ module _ {S V : Type 0} (r : Round) (R : RuleSense S) (self : (s : S) → R.same
       let sY = relaid-shaped r R T W (room-facts n W (length xs) fit).low xs a.1 p in
       let fY = relaid-fits xs a.1 fit p.deep in
       let ih = layers-words k (suc i) Y fY sY (omega arith) (omega arith) in
-      let G : Bool × Recs → ℕ × Recs = λ p. cond p.0 (i, p.1) (some_layers r R T W k (suc i) p.1) in
-      let H : Bool × Recs → ℕ × Recs = λ p. cond p.0 (i, p.1) (splits_all r R T W k (suc i) p.1) in
-      let same : G (a.0, Y) ≡ H (a.0, Y) = ap (λ (z : ℕ × Recs). cond a.0 (i, Y) z) ih.0 in
-      let Good : ℕ × Recs → Type 0 = λ z. Shaped n W z.1 × (fits n W (length z.1) ≡ true) in
-      let good : Good (H (a.0, Y)) = cond_both a.0 (i, Y) (splits_all r R T W k (suc i) Y) Good (λ _. (sY, fY)) (λ _. (ih.1, ih.2)) in
+      let G : Bool × Recs → Refined × Recs = λ p. cond p.0 (Full i, p.1) (some_layers r R T W k (suc i) p.1) in
+      let H : Bool × Recs → Refined × Recs = λ p. cond p.0 (Full i, p.1) (splits_all r R T W k (suc i) p.1) in
+      let same : G (a.0, Y) ≡ H (a.0, Y) = ap (λ (z : Refined × Recs). cond a.0 (Full i, Y) z) ih.0 in
+      let Good : Refined × Recs → Type 0 = λ z. Shaped n W z.1 × (fits n W (length z.1) ≡ true) in
+      let good : Good (H (a.0, Y)) = cond_both a.0 (Full i, Y) (splits_all r R T W k (suc i) Y) Good (λ _. (sY, fY)) (λ _. (ih.1, ih.2)) in
       let there : Good (H (splits r R T W W i 1 (swept r R T W xs))) = subst (λ (z : Bool × Recs). Good (H z)) (sym def) good in
       (ap G is ∙ same ∙ ap H (sym def), there.0, there.1)
 
@@ -146,7 +148,7 @@ module _ {S V : Type 0} (r : Round) (R : RuleSense S) (self : (s : S) → R.same
 
   -- ---- refine
   module _ (xs : Recs) (fit : fits n W (length xs) ≡ true) (s : Shaped n W xs) where
-    abbrev p : ℕ × Recs
+    abbrev p : Refined × Recs
     p = splits_all r R T W (n - 1) 1 xs
 
     all-layers : (some_layers r R T W (n - 1) 1 xs ≡ p) × Shaped n W p.1 × (fits n W (length p.1) ≡ true)
@@ -156,7 +158,7 @@ module _ {S V : Type 0} (r : Round) (R : RuleSense S) (self : (s : S) → R.same
     unfolding refine_steps refined
     refine-words =
         let a = all-layers in
-        let G : ℕ × Recs → ℕ × Recs = λ p. (p.0, sweeps_out r R T W (suc (arc_count n W p.1)) p.1) in
+        let G : Refined × Recs → Refined × Recs = λ p. (p.0, sweeps_out r R T W (suc (arc_count n W p.1)) p.1) in
         ap G a.0
         ∙ ap (λ (m : ℕ). (p.0, sweeps_out r R T W (suc m) p.1)) (shaped-count r R T W p.1 a.2 a.1)
         ∙ ap (λ (ys : Recs). (p.0, ys)) (out-words (suc (count_arcs (arcs n W p.1))) p.1 a.2 a.1).0

@@ -5,18 +5,20 @@ use Rattle.round.specs.declared.table.Round.{Round}
 use Rattle.rules.specs.Rules.{RuleSense}
 use Rattle.tallies.specs.Tallies.{TallySense}
 use Rattle.layers.specs.declared.node.Node.{Node}
+use Rattle.layers.specs.declared.refined.Refined.{Refined}
+use Rattle.layers.specs.declared.refined.Refined.TheVariants.{Whole, Full}
 use Rattle.filter.specs.Steps.{arc_count, sweep_steps}
 use Rattle.refine.specs.Steps.{one_layer, some_layers, sweeps_out}
 
 module _ {S V : Type 0} (r : Round) (R : RuleSense S) (T : TallySense V) (W : ℕ) where
-  layers-more : (k j i : ℕ) (xs : List (Node S V)) → k ≡ suc j → some_layers r R T W k i xs ≡ cond (one_layer r R T W i xs).0 (i, (one_layer r R T W i xs).1) (some_layers r R T W j (suc i) (one_layer r R T W i xs).1)
+  layers-more : (k j i : ℕ) (xs : List (Node S V)) → k ≡ suc j → some_layers r R T W k i xs ≡ cond (one_layer r R T W i xs).0 (Full i, (one_layer r R T W i xs).1) (some_layers r R T W j (suc i) (one_layer r R T W i xs).1)
   unfolding some_layers
   layers-more k j i xs e = ap (λ (m : ℕ). some_layers r R T W m i xs) e
 
   -- the layer i of n was full
-  pub layers-full : (n i : ℕ) (xs ys : List (Node S V)) (b : Bool) → i < n → b ≡ (one_layer r R T W i xs).0 → ys ≡ (one_layer r R T W i xs).1 → b ≡ true → ◌≡◌ {A = ℕ × List (Node S V)} (i, ys) (some_layers r R T W (n - i) i xs)
+  pub layers-full : (n i : ℕ) (xs ys : List (Node S V)) (b : Bool) → i < n → b ≡ (one_layer r R T W i xs).0 → ys ≡ (one_layer r R T W i xs).1 → b ≡ true → ◌≡◌ {A = Refined × List (Node S V)} (Full i, ys) (some_layers r R T W (n - i) i xs)
   layers-full n i xs ys b lt full is on =
-      sym (layers-more (n - i) (n - i - 1) i xs (omega arith) ∙ cond-true (one_layer r R T W i xs).0 _ _ (sym full ∙ on) ∙ ap (λ (zs : List (Node S V)). (i, zs)) (sym is))
+      sym (layers-more (n - i) (n - i - 1) i xs (omega arith) ∙ cond-true (one_layer r R T W i xs).0 _ _ (sym full ∙ on) ∙ ap (λ (zs : List (Node S V)). (Full i, zs)) (sym is))
 
   pub layers-next : (n i : ℕ) (xs ys : List (Node S V)) (b : Bool) → i < n → b ≡ (one_layer r R T W i xs).0 → ys ≡ (one_layer r R T W i xs).1 → b ≡ false → some_layers r R T W (n - (i + 1)) (i + 1) ys ≡ some_layers r R T W (n - i) i xs
   layers-next n i xs ys b lt full is no' =
@@ -24,7 +26,7 @@ module _ {S V : Type 0} (r : Round) (R : RuleSense S) (T : TallySense V) (W : �
       ap (λ (m : ℕ). some_layers r R T W m (i + 1) ys) k ∙ ap (λ (m : ℕ). some_layers r R T W (n - i - 1) m ys) (add-one i) ∙ ap (some_layers r R T W (n - i - 1) (suc i)) is
       ∙ sym (layers-more (n - i) (n - i - 1) i xs (omega arith) ∙ cond-false (one_layer r R T W i xs).0 _ _ (sym full ∙ no'))
 
-  pub layers-none : (k i : ℕ) (xs : List (Node S V)) → k ≡ 0 → some_layers r R T W k i xs ≡ (0, xs)
+  pub layers-none : (k i : ℕ) (xs : List (Node S V)) → k ≡ 0 → some_layers r R T W k i xs ≡ (Whole, xs)
   unfolding some_layers
   layers-none k i xs e = ap (λ (m : ℕ). some_layers r R T W m i xs) e
 

@@ -1,8 +1,9 @@
--- What refine answers: 0 for whole, and a full layer by its number.
-use Rattle.std.specs.Prelude.{ℕ}
-use Rattle.refine.specs.declared.answer.Refined.{Refined}
-use Rattle.refine.specs.declared.answer.Refined.TheVariants.{Whole, Full}
+-- What refine may answer.
+use Rattle.std.specs.Prelude.{ℕ, ◌<◌, ◌≤◌}
+use Rattle.layers.specs.declared.refined.Refined.{Refined}
+use Rattle.layers.specs.declared.refined.Refined.TheVariants.{Whole, Full}
 
-abbrev pub answer_of : Refined → ℕ
-answer_of Whole = 0
-answer_of (Full i) = i
+-- a layer that was full lies between the first node and the end, in a diagram of n doors
+abbrev pub IsInnerIfFull : ℕ → Refined → Type 0
+IsInnerIfFull n Whole = Unit {0}
+IsInnerIfFull n (Full i) = (1 ≤ i) × (i < n)

@@ -5,6 +5,8 @@ use Rattle.round.specs.declared.table.Round.{Round}
 use Rattle.rules.specs.Rules.{RuleSense}
 use Rattle.tallies.specs.Tallies.{TallySense}
 use Rattle.layers.specs.declared.node.Node.{Node}
+use Rattle.layers.specs.declared.refined.Refined.{Refined}
+use Rattle.layers.specs.declared.refined.Refined.TheVariants.{Whole, Full}
 use Rattle.layers.specs.Calls.{refined, settled}
 use Rattle.layers.specs.Shape.{Shaped}
 use Rattle.labels.specs.Passes.{fits, relabelled}
@@ -17,11 +19,11 @@ module _ {S V : Type 0} (r : Round) (rule : RuleSense S) (tally : TallySense V) 
   unfolding sweep_steps layer_steps relabelled
   one_layer i xs = let p = layer_steps r rule tally W i (sweep_steps r rule tally W xs) in (p.0, relabelled r rule tally W p.1)
 
-  -- k layers from i on: the layer that was full, or 0
-  unfoldable pub some_layers : ℕ → ℕ → List (Node S V) → ℕ × List (Node S V)
+  -- k layers from i on, up to one that was full
+  unfoldable pub some_layers : ℕ → ℕ → List (Node S V) → Refined × List (Node S V)
   unfolding one_layer
-  some_layers zero i xs = (0, xs)
-  some_layers (suc k) i xs = let p = one_layer i xs in cond p.0 (i, p.1) (some_layers k (suc i) p.1)
+  some_layers zero i xs = (Whole, xs)
+  some_layers (suc k) i xs = let p = one_layer i xs in cond p.0 (Full i, p.1) (some_layers k (suc i) p.1)
 
   -- sweeps until one takes out nothing, k at most
   unfoldable pub sweeps_out : ℕ → List (Node S V) → List (Node S V)
@@ -29,7 +31,7 @@ module _ {S V : Type 0} (r : Round) (rule : RuleSense S) (tally : TallySense V) 
   sweeps_out zero xs = xs
   sweeps_out (suc k) xs = let ys = sweep_steps r rule tally W xs in cond (arc_count r.n W xs - arc_count r.n W ys == 0) ys (sweeps_out k ys)
 
-  unfoldable pub refine_steps : List (Node S V) → ℕ × List (Node S V)
+  unfoldable pub refine_steps : List (Node S V) → Refined × List (Node S V)
   unfolding some_layers sweeps_out arc_count
   refine_steps xs = let p = some_layers (r.n - 1) 1 xs in (p.0, sweeps_out (suc (arc_count r.n W p.1)) p.1)
 
@@ -38,7 +40,7 @@ module _ {S V : Type 0} (r : Round) (rule : RuleSense S) (tally : TallySense V) 
   settled_steps xs = agreed_steps r rule tally W xs && quiet_steps r rule tally W xs
 
   -- on the records of a diagram: what the definitions of the calls say
-  abbrev pub RefineDone : List (Node S V) → List (Node S V) → ℕ → Type 0
+  abbrev pub RefineDone : List (Node S V) → List (Node S V) → Refined → Type 0
   RefineDone xs ys m = fits r.n W (length xs) ≡ true → Shaped r.n W xs → Done r.n W (refined r rule tally W xs).1 ys (refined r rule tally W xs).0 m
 
   abbrev pub SettledDone : List (Node S V) → Bool → Type 0

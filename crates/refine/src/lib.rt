@@ -1,6 +1,5 @@
 // Refining a diagram layer by layer, and whether it is settled.
 #![tactic(auto)]
 
-pub mod answer;
 pub mod refine;
 pub mod settled;

@@ -2,14 +2,14 @@
 ghost use Rattle.std.specs.Prelude.{◌≡◌, suc, ◌+◌, ◌-◌, ◌*◌, ◌<◌, ◌≤◌, true, length, if◌then◌else◌};
 ghost use Rattle.labels.specs.Passes.{fits};
 ghost use Rattle.filter.specs.Steps.{arc_count};
-ghost use Rattle.refine.specs.Answers.{answer_of};
+ghost use Rattle.refine.specs.Answers.{IsInnerIfFull};
 ghost use Rattle.refine.specs.Steps.{one_layer, some_layers, sweeps_out, refine_steps, RefineDone};
 
-use crate::answer::Refined;
 use filter::sweep::sweep;
 use labels::relabel::relabel;
 use labels::room::has_room;
 use layers::node::Node;
+use layers::refined::Refined;
 use round::table::Round;
 use rules::rule::Rule;
 use split::parting::part_layer;
@@ -43,7 +43,8 @@ fn refine_layers<R: Rule, T: Tally>(
     width: usize,
 ) -> Refined
     requires { fits round.now.n width (length nodes.old) ≡ true }
-    ensures answer { answer_of result ≡ (some_layers round.now (R.Rule.sense rule.now) (T.Tally.sense tally.now) width (round.now.n - 1) 1 nodes.old).0 }
+    ensures within { IsInnerIfFull round.now.n result }
+    ensures answer { result ≡ (some_layers round.now (R.Rule.sense rule.now) (T.Tally.sense tally.now) width (round.now.n - 1) 1 nodes.old).0 }
     ensures records { nodes.new ≡ (some_layers round.now (R.Rule.sense rule.now) (T.Tally.sense tally.now) width (round.now.n - 1) 1 nodes.old).1 }
 {
     for i in 1..round.n {
@@ -84,8 +85,9 @@ pub fn refine<R: Rule, T: Tally>(
     width: usize,
 ) -> Refined
     ensures steps { nodes.new ≡ (if fits round.now.n width (length nodes.old) then (refine_steps round.now (R.Rule.sense rule.now) (T.Tally.sense tally.now) width nodes.old).1 else nodes.old) }
-    ensures answer { answer_of result ≡ (if fits round.now.n width (length nodes.old) then (refine_steps round.now (R.Rule.sense rule.now) (T.Tally.sense tally.now) width nodes.old).0 else 0) }
-    ensures words { RefineDone round.now (R.Rule.sense rule.now) (T.Tally.sense tally.now) width nodes.old nodes.new (answer_of result) }
+    ensures within { IsInnerIfFull round.now.n result }
+    ensures answer { result ≡ (if fits round.now.n width (length nodes.old) then (refine_steps round.now (R.Rule.sense rule.now) (T.Tally.sense tally.now) width nodes.old).0 else Refined.Whole) }
+    ensures words { RefineDone round.now (R.Rule.sense rule.now) (T.Tally.sense tally.now) width nodes.old nodes.new result }
 {
     if !has_room(round, width, nodes.len()) {
         return Refined::Whole;

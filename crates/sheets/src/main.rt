@@ -6,7 +6,7 @@ use anyhow::anyhow;
 use diagram::diagram::Diagram;
 use diagram::room::Room;
 use layers::node::{Arcs, Down, Label, Node, Up};
-use refine::answer::Refined;
+use layers::refined::Refined;
 use round::table::Round;
 use rules::both::Both;
 use rules::load::Load;

@@ -1,5 +1,5 @@
 -- What the checks find
-use Rattle.std.proofs.Common.{◌≡◌, ℕ, ◌+◌, ◌-◌, ◌*◌, ◌<◌, ◌≤◌, min, max, Bool, true, eqb, leb, List, [], ◌∷◌, length, Some, None, Option, sym, refl, ap, ⊎_elim, arith}
+use Rattle.std.proofs.Common.{◌≡◌, ℕ, ◌+◌, ◌-◌, ◌*◌, ◌<◌, ◌≤◌, min, max, Bool, true, eqb, leb, List, [], ◌∷◌, length, Some, None, Option, Ok, Err, sym, refl, ap, ⊎_elim, arith}
 use native.Mathlib.Nat.{min-eq_left, min-eq_right, max-eq_left, max-eq_right}
 use Rattle.std.proofs.lemmas.Bool.{cases_lt, eqb-false}
 use Rattle.round.specs.declared.table.Round.{Round}
@@ -8,14 +8,14 @@ use Rattle.tallies.specs.Tallies.{TallySense}
 use Rattle.layers.specs.declared.node.Node.{Node}
 use Rattle.layers.specs.declared.node.Down.{Down}
 use Rattle.layers.specs.declared.refusal.Refusal.{Refusal}
-use Rattle.layers.specs.Refusals.{number_of}
+use Rattle.layers.specs.Calls.{Answer}
 use Rattle.layers.specs.Labels.{agreeing, first_arrival}
 use Rattle.split.specs.declared.source.Source.{Source}
 use Rattle.split.specs.declared.source.Arrived.{Arrived}
 use Rattle.split.specs.Agreed.{brought_first}
-use Rattle.split.specs.Steps.{place_code, node_code, group_code, node_count, alike, part_code, pair_code, clash_at, join_code}
-use Rattle.split.specs.Asked.{MayJoin, got_code}
-use Rattle.split.proofs.Codes.{else-first, else-next, else-parts, place-clear, node-clear, pair_parts}
+use Rattle.split.specs.Steps.{place_check, node_check, group_check, node_count, alike, part_check, pair_check, clash_at, join_check}
+use Rattle.split.specs.Asked.{MayJoin, got_check}
+use Rattle.split.proofs.Checks.{else-first, else-next, else-parts, place-clear, node-clear, pair_parts}
 
 module _ {S V : Type 0} (r : Round) (R : RuleSense S) (T : TallySense V) where
   pub none-agree : (ys : List (Down S V)) → None ≡ first_arrival r R T ys → agreeing r R T ys ≡ true
@@ -25,26 +25,26 @@ module _ {S V : Type 0} (r : Round) (R : RuleSense S) (T : TallySense V) where
 
   -- where nothing arrives all agree
   pub got-group : (got : Arrived S V) (full : Bool) (ys : List (Down S V)) → brought_first r R T got.first ≡ first_arrival r R T ys → got.agreed ≡ agreeing r R T ys
-      → group_code (agreeing r R T ys) full ≡ got_code got.first got.agreed full
+      → group_check (agreeing r R T ys) full ≡ got_check got.first got.agreed full
   got-group got full ys e f = go got.first e
     where
-      go : (o : Option (Source S V)) → brought_first r R T o ≡ first_arrival r R T ys → group_code (agreeing r R T ys) full ≡ got_code o got.agreed full
-      go None h = ap (λ q. group_code q full) (none-agree ys h)
-      go (Some x) h = ap (λ q. group_code q full) (sym f)
+      go : (o : Option (Source S V)) → brought_first r R T o ≡ first_arrival r R T ys → group_check (agreeing r R T ys) full ≡ got_check o got.agreed full
+      go None h = ap (λ (q : Bool). group_check q full) (none-agree ys h)
+      go (Some x) h = ap (λ (q : Bool). group_check q full) (sym f)
 
   -- ---- part: the refusals in their order
   module _ (w i a : ℕ) (xs : List (Node S V)) where
-    pub part-place : (e : Refusal) → place_code r.n w (length xs) i ≡ number_of e → part_code r R T w i a xs ≡ number_of e
-    unfolding part_code
+    pub part-place : (e : Refusal) → place_check r.n w (length xs) i ≡ Err e → part_check r R T w i a xs ≡ Err e
+    unfolding part_check
     part-place e is = else-first _ _ e is
 
-    pub part-node : (e : Refusal) → place_code r.n w (length xs) i ≡ 0 → node_code (node_count ((i - 1) * w + w) w xs) a ≡ number_of e → part_code r R T w i a xs ≡ number_of e
-    unfolding part_code
+    pub part-node : (e : Refusal) → place_check r.n w (length xs) i ≡ Ok tt → node_check (node_count ((i - 1) * w + w) w xs) a ≡ Err e → part_check r R T w i a xs ≡ Err e
+    unfolding part_check
     part-node e none is = else-next _ _ _ none (else-first _ _ e is)
 
-    pub part-group : (k : ℕ) → place_code r.n w (length xs) i ≡ 0 → node_code (node_count ((i - 1) * w + w) w xs) a ≡ 0
-        → group_code (alike r R T ((i - 1) * w) w a xs) (leb w (node_count ((i - 1) * w + w) w xs)) ≡ k → part_code r R T w i a xs ≡ k
-    unfolding part_code
+    pub part-group : (k : Answer) → place_check r.n w (length xs) i ≡ Ok tt → node_check (node_count ((i - 1) * w + w) w xs) a ≡ Ok tt
+        → group_check (alike r R T ((i - 1) * w) w a xs) (leb w (node_count ((i - 1) * w + w) w xs)) ≡ k → part_check r R T w i a xs ≡ k
+    unfolding part_check
     part-group k none one is = else-next _ _ _ none (else-next _ _ _ one is)
 
 -- ---- join
@@ -59,25 +59,25 @@ in_order a b m la lb ha hb ne = ⊎_elim
     (cases_lt a b)
 
 module _ {S V : Type 0} (n : ℕ) (z : Node S V) (w i a b : ℕ) (xs : List (Node S V)) where
-  pub join-place : (e : Refusal) → place_code n w (length xs) i ≡ number_of e → join_code n z w i a b xs ≡ number_of e
-  unfolding join_code
+  pub join-place : (e : Refusal) → place_check n w (length xs) i ≡ Err e → join_check n z w i a b xs ≡ Err e
+  unfolding join_check
   join-place e is = else-first _ _ e is
 
-  pub join_one : (e : Refusal) → place_code n w (length xs) i ≡ 0 → node_code (node_count ((i - 1) * w + w) w xs) a ≡ number_of e → join_code n z w i a b xs ≡ number_of e
-  unfolding join_code
+  pub join_one : (e : Refusal) → place_check n w (length xs) i ≡ Ok tt → node_check (node_count ((i - 1) * w + w) w xs) a ≡ Err e → join_check n z w i a b xs ≡ Err e
+  unfolding join_check
   join_one e none is = else-next _ _ _ none (else-first _ _ e is)
 
-  pub join-other : (e : Refusal) → place_code n w (length xs) i ≡ 0 → node_code (node_count ((i - 1) * w + w) w xs) a ≡ 0 → node_code (node_count ((i - 1) * w + w) w xs) b ≡ number_of e → join_code n z w i a b xs ≡ number_of e
-  unfolding join_code
+  pub join-other : (e : Refusal) → place_check n w (length xs) i ≡ Ok tt → node_check (node_count ((i - 1) * w + w) w xs) a ≡ Ok tt → node_check (node_count ((i - 1) * w + w) w xs) b ≡ Err e → join_check n z w i a b xs ≡ Err e
+  unfolding join_check
   join-other e none one is = else-next _ _ _ none (else-next _ _ _ one (else-first _ _ e is))
 
-  pub join-pair : (k : ℕ) → place_code n w (length xs) i ≡ 0 → node_code (node_count ((i - 1) * w + w) w xs) a ≡ 0 → node_code (node_count ((i - 1) * w + w) w xs) b ≡ 0
-      → pair_code (eqb a b) (clash_at z ((i - 1) * w + w) a b xs) ≡ k → join_code n z w i a b xs ≡ k
-  unfolding join_code
+  pub join-pair : (k : Answer) → place_check n w (length xs) i ≡ Ok tt → node_check (node_count ((i - 1) * w + w) w xs) a ≡ Ok tt → node_check (node_count ((i - 1) * w + w) w xs) b ≡ Ok tt
+      → pair_check (eqb a b) (clash_at z ((i - 1) * w + w) a b xs) ≡ k → join_check n z w i a b xs ≡ k
+  unfolding join_check
   join-pair k none one other is = else-next _ _ _ none (else-next _ _ _ one (else-next _ _ _ other is))
 
-  pub join-clear : join_code n z w i a b xs ≡ 0 → MayJoin n z w i a b xs
-  unfolding join_code
+  pub join-clear : join_check n z w i a b xs ≡ Ok tt → MayJoin n z w i a b xs
+  unfolding join_check
   join-clear is =
       let p = else-parts _ _ is in
       let q = else-parts _ _ p.1 in

@@ -1,17 +1,16 @@
 -- Join, on records that have the shape of a diagram, is join as it is defined.
-use Rattle.std.proofs.Common.{◌≡◌, ℕ, suc, ◌+◌, ◌-◌, ◌*◌, ◌<◌, ◌≤◌, min, max, Bool, true, false, cond, ◌||◌, eqb, ltb, leb, List, [], length, get_or, drop, Result, sym, refl, ap, ◌∙◌, subst, ap₂, ⊎_elim, suc-mul, arith, MatchResult}
+use Rattle.std.proofs.Common.{◌≡◌, ℕ, suc, ◌+◌, ◌-◌, ◌*◌, ◌<◌, ◌≤◌, min, max, Bool, true, false, cond, ◌||◌, eqb, ltb, leb, List, [], length, get_or, drop, Ok, Err, is_ok, sym, refl, ap, ◌∙◌, subst, ap₂, ⊎_elim, suc-mul, arith}
 use native.Mathlib.Nat.{min-eq_left, min-eq_right, max-eq_left, max-eq_right}
-use Rattle.std.proofs.lemmas.Bool.{ltb-false, leb-false, or_parts, cases_lt, eqb-true, cond_both}
-use Rattle.std.proofs.lemmas.Result.{MatchResult-weaker}
+use Rattle.std.proofs.lemmas.Bool.{ltb-false, leb-false, or_parts, cases_lt, cond_both}
 use Rattle.round.specs.declared.table.Round.{Round}
 use Rattle.rules.specs.Rules.{RuleSense}
 use Rattle.tallies.specs.Tallies.{TallySense}
 use Rattle.layers.specs.declared.node.Node.{Node}
 use Rattle.layers.specs.declared.refusal.Refusal.{Refusal}
-use Rattle.layers.specs.Refusals.{number_of}
+use Rattle.layers.specs.declared.refusal.Refusal.TheVariants.{NoLayer, NoNode}
 use Rattle.layers.specs.Flow.{Net, node, clash, join_at}
 use Rattle.layers.specs.Records.{padded}
-use Rattle.layers.specs.Calls.{arcs, layer, relaid, bad_node, join_answer, joined}
+use Rattle.layers.specs.Calls.{Answer, arcs, layer, relaid, bad_node, join_answer, joined}
 use Rattle.layers.specs.Shape.{Shaped, Timely}
 use Rattle.layers.specs.Targets.{targets}
 use Rattle.layers.proofs.Shaped.{relaid-shaped}
@@ -21,22 +20,22 @@ use Rattle.labels.specs.Passes.{part, blank_node, relabelled}
 use Rattle.labels.proofs.Overs.{get_d_part}
 use Rattle.labels.proofs.RedirectNet.{targets-arranged}
 use Rattle.labels.proofs.Shaped_arranged.{proper-good}
-use Rattle.split.specs.Steps.{node_code, pair_code, or_else, node_count, clash_at, joined_one, join_code, join_steps}
+use Rattle.split.specs.Steps.{node_check, pair_check, and_then, node_count, clash_at, joined_one, join_check, join_steps}
 use Rattle.split.specs.Words.{JoinDone}
 use Rattle.split.proofs.Asking.{join-clear}
-use Rattle.split.proofs.Codes.{else-cond, place_is, same_code}
+use Rattle.split.proofs.Checks.{else-cond, place_is, same_check, passed}
 use Rattle.split.proofs.JoinNet.{join-arranged, join-tail, clash-padded}
 use Rattle.split.proofs.LayerNet.{arranged-at, node-few}
 use Rattle.split.proofs.PartWords.{relaid-same}
 use Rattle.split.proofs.ShapedNet.{known-shaped, count_long, count-layer}
 use Rattle.split.proofs.Stands.{count_most}
 
-either-one : (p q : Bool) (k x : ℕ) → or_else (cond p (suc k) 0) (or_else (cond q (suc k) 0) x) ≡ cond (p || q) (suc k) x
+either-one : (p q : Bool) (k : Refusal) (x : Answer) → and_then (cond p (Err k) (Ok tt)) (and_then (cond q (Err k) (Ok tt)) x) ≡ cond (p || q) (Err k) x
 either-one true q k x = refl
 either-one false true k x = refl
 either-one false false k x = refl
 
-when-none : (q : Bool) (k x y : ℕ) → (q ≡ false → x ≡ y) → cond q k x ≡ cond q k y
+when-none : (q : Bool) (k x y : Answer) → (q ≡ false → x ≡ y) → cond q k x ≡ cond q k y
 when-none true k x y f = refl
 when-none false k x y f = f refl
 
@@ -86,26 +85,26 @@ module _ {S V : Type 0} (r : Round) (R : RuleSense S) (T : TallySense V) (W i a 
         ∙ clash-padded (node L (min a b - 1)) (node L (max a b - 1)) (node-few r W i (arcs r.n W xs) k.proper (min a b - 1))
 
     -- the answer
-    pub join-answer : join_code r.n z W i a b xs ≡ join_answer r R T W i a b xs
-    unfolding join_code join_answer
+    pub join-answer : join_check r.n z W i a b xs ≡ join_answer r R T W i a b xs
+    unfolding join_check join_answer
     join-answer =
         let m = node_count ((i - 1) * W + W) W xs in
-        let X : ℕ → ℕ = λ m. or_else (node_code m a) (or_else (node_code m b) (pair_code (eqb a b) (clash_at z ((i - 1) * W + W) a b xs))) in
-        ap (λ (k : ℕ). or_else k (X m)) (place_is r.n W (length xs) i some few fit)
-        ∙ else-cond (ltb i 1 || leb r.n i) 19 (X m) _
+        let X : ℕ → Answer = λ m. and_then (node_check m a) (and_then (node_check m b) (pair_check (eqb a b) (clash_at z ((i - 1) * W + W) a b xs))) in
+        ap (λ (k : Answer). and_then k (X m)) (place_is r.n W (length xs) i some few fit)
+        ∙ else-cond (ltb i 1 || leb r.n i) NoLayer (X m) _
         (λ q.
         let low = ltb-false i 1 (or_parts _ _ q).0 in
         let high = leb-false r.n i (or_parts _ _ q).1 in
         ap X (count_same low high)
-        ∙ either-one (bad_node r R T W i a xs) (bad_node r R T W i b xs) 20 (pair_code (eqb a b) (clash_at z ((i - 1) * W + W) a b xs))
-        ∙ when-none (bad_node r R T W i a xs || bad_node r R T W i b xs) 21 _ _
-        (λ ok. let t = both-within low high (or_parts _ _ ok).0 (or_parts _ _ ok).1 in ap (pair_code (eqb a b)) (clash-same low high t.0 t.1 t.2 t.3)))
+        ∙ either-one (bad_node r R T W i a xs) (bad_node r R T W i b xs) NoNode (pair_check (eqb a b) (clash_at z ((i - 1) * W + W) a b xs))
+        ∙ when-none (bad_node r R T W i a xs || bad_node r R T W i b xs) (Err NoNode) _ _
+        (λ ok. let t = both-within low high (or_parts _ _ ok).0 (or_parts _ _ ok).1 in ap (pair_check (eqb a b)) (clash-same low high t.0 t.1 t.2 t.3)))
 
     -- what it does
     abbrev new : Net
     new = join_at (i - 1) (min a b - 1) (max a b - 1) (arcs r.n W xs)
 
-    join-made : join_code r.n z W i a b xs ≡ 0 → Proper r.n W new × (relabelled r R T W (joined_one r R T ((i - 1) * W) W (min a b - 1) (max a b - 1) xs) ≡ relaid r R T W xs new)
+    join-made : join_check r.n z W i a b xs ≡ Ok tt → Proper r.n W new × (relabelled r R T W (joined_one r R T ((i - 1) * W) W (min a b - 1) (max a b - 1) xs) ≡ relaid r R T W xs new)
     unfolding joined_one
     join-made e =
         let q = join-clear r.n z W i a b xs e in
@@ -137,25 +136,25 @@ module _ {S V : Type 0} (r : Round) (R : RuleSense S) (T : TallySense V) (W i a 
 
     pub join-words : join_steps r R T W i a b xs ≡ joined r R T W i a b xs
     unfolding join_steps joined
-    join-words = same_code (join_code r.n z W i a b xs) (join_answer r R T W i a b xs) _ _ xs join-answer (λ e. (join-made e).1)
+    join-words = same_check (join_check r.n z W i a b xs) (join_answer r R T W i a b xs) _ _ xs join-answer (λ e. (join-made e).1)
 
     -- the shape stays
     pub join-shaped : Shaped r.n W (join_steps r R T W i a b xs)
     unfolding join_steps
-    join-shaped = cond_both (eqb (join_code r.n z W i a b xs) 0) _ xs (Shaped r.n W)
-        (λ e. let q = join-made (eqb-true (join_code r.n z W i a b xs) 0 e) in subst (Shaped r.n W) (sym q.1) (relaid-shaped r R T W some xs new q.0))
+    join-shaped = cond_both (is_ok (join_check r.n z W i a b xs)) _ xs (Shaped r.n W)
+        (λ e. let q = join-made (passed _ e) in subst (Shaped r.n W) (sym q.1) (relaid-shaped r R T W some xs new q.0))
         (λ e. s)
 
     -- and no finish gets late
     pub join-timely : Timely r.n W xs → Timely r.n W (join_steps r R T W i a b xs)
     unfolding join_steps
-    join-timely t = cond_both (eqb (join_code r.n z W i a b xs) 0) _ xs (Timely r.n W)
-        (λ e. let q = join-made (eqb-true (join_code r.n z W i a b xs) 0 e) in subst (Timely r.n W) (sym q.1) (relaid-timely r R T W xs new q.0.deep))
+    join-timely t = cond_both (is_ok (join_check r.n z W i a b xs)) _ xs (Timely r.n W)
+        (λ e. let q = join-made (passed _ e) in subst (Timely r.n W) (sym q.1) (relaid-timely r R T W xs new q.0.deep))
         (λ e. t)
 
 -- the clause
-pub join-said : {S V A : Type 0} (r : Round) (R : RuleSense S) (T : TallySense V) (W i a b : ℕ) (xs ys : List (Node S V)) (o : Result A Refusal)
-    → MatchResult o (λ _. join_code r.n (blank_node r R T) W i a b xs ≡ 0) (λ e. join_code r.n (blank_node r R T) W i a b xs ≡ number_of e) → ys ≡ join_steps r R T W i a b xs → JoinDone r R T W xs i a b o ys
+pub join-said : {S V : Type 0} (r : Round) (R : RuleSense S) (T : TallySense V) (W i a b : ℕ) (xs ys : List (Node S V)) (o : Answer)
+    → o ≡ join_check r.n (blank_node r R T) W i a b xs → ys ≡ join_steps r R T W i a b xs → JoinDone r R T W xs i a b o ys
 join-said r R T W i a b xs ys o said made s =
     let same = join-answer r R T W i a b xs s.some s.few s.fit s.shaped in
-    (MatchResult-weaker o said (λ x e. sym same ∙ e) (λ x e. sym same ∙ e), made ∙ join-words r R T W i a b xs s.some s.few s.fit s.shaped)
+    (said ∙ same, made ∙ join-words r R T W i a b xs s.some s.few s.fit s.shaped)

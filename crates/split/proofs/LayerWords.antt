@@ -1,11 +1,12 @@
 -- Parting a layer of records that are laid out is parting the layer of the net.
-use Rattle.std.proofs.Common.{◌≡◌, ℕ, zero, suc, ◌+◌, ◌-◌, ◌*◌, ◌<◌, ◌≤◌, Bool, true, false, cond, ltb, leb, List, [], ◌∷◌, ◌++◌, length, get_or, take, drop, Option, sym, refl, ap, ◌∙◌, subst, ap₂, arith}
+use Rattle.std.proofs.Common.{◌≡◌, ℕ, zero, suc, ◌+◌, ◌-◌, ◌*◌, ◌<◌, ◌≤◌, Bool, true, false, cond, ltb, leb, List, [], ◌∷◌, ◌++◌, length, get_or, take, drop, Option, Ok, Err, sym, refl, ap, ◌∙◌, subst, ap₂, arith}
 use Rattle.std.proofs.lemmas.List.{length-append}
 use Rattle.std.proofs.lemmas.Bool.{leb-false, le-ltb, lt-leb, or_from, cond-false}
 use Rattle.round.specs.declared.table.Round.{Round}
 use Rattle.rules.specs.Rules.{RuleSense}
 use Rattle.tallies.specs.Tallies.{TallySense}
 use Rattle.layers.specs.declared.node.Node.{Node}
+use Rattle.layers.specs.declared.refusal.Refusal.TheVariants.{NoLayer}
 use Rattle.layers.specs.Flow.{Net, node, width, ins}
 use Rattle.layers.specs.Labels.{Lab, firsts, labels_next, agreeing, arrive}
 use Rattle.layers.specs.Records.{standing, downs_in, arcs_read, laid_arcs, laid}
@@ -21,9 +22,9 @@ use Rattle.layers.proofs.Tied.{redirect-length}
 use Rattle.layers.proofs.Ways.{length-snoc}
 use Rattle.labels.specs.Passes.{part, relabelled}
 use Rattle.labels.proofs.Laying.{Arranged, arranged-of}
-use Rattle.split.specs.Steps.{place_code, node_count, alike, parted_one, parts_from, layer_steps}
+use Rattle.split.specs.Steps.{place_check, node_count, alike, parted_one, parts_from, layer_steps}
 use Rattle.split.specs.Words.{LayerDone}
-use Rattle.split.proofs.Codes.{place_is, clear-done}
+use Rattle.split.proofs.Checks.{place_is, clear-done}
 use Rattle.split.proofs.LayerNet.{Known, labs, downs-same, stands_same, known_alike, known-parted, known-tail, known-length, known-labels}
 use Rattle.split.proofs.PartWords.{relaid-same}
 use Rattle.split.proofs.ShapedNet.{count-layer}
@@ -199,8 +200,8 @@ module _ {S V : Type 0} (r : Round) (R : RuleSense S) (self : (s : S) → R.same
     pub layer-words : W ≤ 128 → Done r.n W xs (parted r R T W W i 0 Ls) (layer_steps r R T W i xs)
     unfolding layer_steps
     layer-words few =
-        let clear : place_code r.n W (length xs) i ≡ 0 = place_is r.n W (length xs) i w few laid-fit ∙ cond-false _ 20 0 (or_from (ltb i 1) (leb r.n i) (le-ltb i 1 low) (lt-leb r.n i high)) in
-        subst (Done r.n W xs (parted r R T W W i 0 Ls)) (sym (clear-done (place_code r.n W (length xs) i) _ (false, xs) clear))
+        let clear : place_check r.n W (length xs) i ≡ Ok tt = place_is r.n W (length xs) i w few laid-fit ∙ cond-false _ (Err NoLayer) (Ok tt) (or_from (ltb i 1) (leb r.n i) (le-ltb i 1 low) (lt-leb r.n i high)) in
+        subst (Done r.n W xs (parted r R T W W i 0 Ls)) (sym (clear-done (place_check r.n W (length xs) i) _ (false, xs) clear))
         (parts-net r R self T W w i low W 0 (node_count ((i - 1) * W + W) W xs) Ls xs laid-state laid-count)
 
 -- the same of an answer and records that are what `layer_steps` says

@@ -1,7 +1,7 @@
 pub mod AgreedWords
 pub mod ArrivalNet
 mod Asking
-mod Codes
+mod Checks
 pub mod DepthNet
 mod Doing
 mod Examples

@@ -1,17 +1,15 @@
 -- Part, on records that have the shape of a diagram, is part as it is defined.
-use Rattle.std.proofs.Common.{◌≡◌, ℕ, suc, ◌+◌, ◌-◌, ◌*◌, ◌<◌, ◌≤◌, true, false, ◌||◌, eqb, ltb, leb, List, [], ◌++◌, length, get_or, drop, Result, sym, ap, ◌∙◌, subst, arith, MatchResult}
-use Rattle.std.proofs.lemmas.Bool.{ltb-false, leb-false, eqb-true, or_parts, cond_both}
-use Rattle.std.proofs.lemmas.Result.{MatchResult-weaker}
+use Rattle.std.proofs.Common.{◌≡◌, ℕ, suc, ◌+◌, ◌-◌, ◌*◌, ◌<◌, ◌≤◌, true, false, ◌||◌, Bool, ltb, leb, List, [], ◌++◌, length, get_or, drop, Ok, is_ok, sym, ap, ◌∙◌, subst, arith}
+use Rattle.std.proofs.lemmas.Bool.{ltb-false, leb-false, or_parts, cond_both}
 use Rattle.round.specs.declared.table.Round.{Round}
 use Rattle.rules.specs.Rules.{RuleSense}
 use Rattle.tallies.specs.Tallies.{TallySense}
 use Rattle.layers.specs.declared.node.Node.{Node}
-use Rattle.layers.specs.declared.refusal.Refusal.{Refusal}
-use Rattle.layers.specs.Refusals.{number_of}
+use Rattle.layers.specs.declared.refusal.Refusal.TheVariants.{NoLayer, NoNode}
 use Rattle.layers.specs.Flow.{Net}
 use Rattle.layers.specs.Labels.{agreeing}
 use Rattle.layers.specs.Records.{standing, downs_in, laid}
-use Rattle.layers.specs.Calls.{arcs, layer, parted_at, relaid, one_group, is_full, bad_node, part_answer, split, parted, arrivals as arrivalsIn}
+use Rattle.layers.specs.Calls.{Answer, arcs, layer, parted_at, relaid, one_group, is_full, bad_node, part_answer, split, parted, arrivals as arrivalsIn}
 use Rattle.layers.specs.Shape.{Shaped, Timely}
 use Rattle.layers.proofs.Places.{layer-at}
 use Rattle.layers.proofs.Shaped.{relaid-shaped}
@@ -19,10 +17,10 @@ use Rattle.layers.proofs.Timely.{relaid-timely}
 use Rattle.layers.proofs.Proper.{Proper, lawful, proper-parted-at}
 use Rattle.labels.specs.Passes.{part, relabelled}
 use Rattle.labels.proofs.Laying.{Arranged, relabelled-lawful}
-use Rattle.split.specs.Steps.{node_code, group_code, or_else, node_count, alike, parted_one, part_code, part_steps}
+use Rattle.split.specs.Steps.{node_check, group_check, and_then, node_count, alike, parted_one, part_check, part_steps}
 use Rattle.split.specs.Asked.{Placed}
 use Rattle.split.specs.Words.{PartDone}
-use Rattle.split.proofs.Codes.{else-parts, else-cond, place_is, place-clear, node-clear, group-clear, same_code}
+use Rattle.split.proofs.Checks.{else-parts, else-cond, place_is, place-clear, node-clear, group-clear, same_check, passed}
 use Rattle.split.proofs.LayerNet.{known-standing, known_alike, known-parted, known-tail}
 use Rattle.split.proofs.ShapedNet.{known-shaped, count_long, count-layer}
 
@@ -34,8 +32,8 @@ relaid-same r R T W xs ys Ms p arr tail = relabelled-lawful r R T W Ms ys (lawfu
 
 module _ {S V : Type 0} (r : Round) (R : RuleSense S) (T : TallySense V) (W i a : ℕ) (xs : List (Node S V)) where
   -- what no refusal tells
-  part-clear : part_code r R T W i a xs ≡ 0 → Placed r.n W (length xs) i × (1 ≤ a) × (a ≤ node_count ((i - 1) * W + W) W xs) × (alike r R T ((i - 1) * W) W a xs ≡ false) × (node_count ((i - 1) * W + W) W xs < W)
-  unfolding part_code
+  part-clear : part_check r R T W i a xs ≡ Ok tt → Placed r.n W (length xs) i × (1 ≤ a) × (a ≤ node_count ((i - 1) * W + W) W xs) × (alike r R T ((i - 1) * W) W a xs ≡ false) × (node_count ((i - 1) * W + W) W xs < W)
+  unfolding part_check
   part-clear e =
       let m = node_count ((i - 1) * W + W) W xs in
       let p = else-parts _ _ e in
@@ -59,25 +57,25 @@ module _ {S V : Type 0} (r : Round) (R : RuleSense S) (T : TallySense V) (W i a 
     count_same low high = let back : suc (i - 1) ≡ i = omega arith in count-layer r.n W xs (i - 1) (omega arith) ∙ ap (λ (k : ℕ). length (layer r.n W k xs)) back
 
     -- the answer
-    pub part-answer : part_code r R T W i a xs ≡ part_answer r R T W i a xs
-    unfolding part_code part_answer
+    pub part-answer : part_check r R T W i a xs ≡ part_answer r R T W i a xs
+    unfolding part_check part_answer
     part-answer =
         let m = node_count ((i - 1) * W + W) W xs in
-        let X : ℕ → ℕ = λ m. or_else (node_code m a) (group_code (alike r R T ((i - 1) * W) W a xs) (leb W m)) in
-        ap (λ (k : ℕ). or_else k (X m)) (place_is r.n W (length xs) i some few fit)
-        ∙ else-cond (ltb i 1 || leb r.n i) 19 (X m) _
+        let X : ℕ → Answer = λ m. and_then (node_check m a) (group_check (alike r R T ((i - 1) * W) W a xs) (leb W m)) in
+        ap (λ (k : Answer). and_then k (X m)) (place_is r.n W (length xs) i some few fit)
+        ∙ else-cond (ltb i 1 || leb r.n i) NoLayer (X m) _
         (λ q.
         let low = ltb-false i 1 (or_parts _ _ q).0 in
         let high = leb-false r.n i (or_parts _ _ q).1 in
         ap X (count_same low high)
-        ∙ else-cond (bad_node r R T W i a xs) 20 (group_code (alike r R T ((i - 1) * W) W a xs) (is_full r R T W i xs)) _
-        (λ b. ap (λ p. group_code p (is_full r R T W i xs)) (group-same low high (ltb-false a 1 (or_parts _ _ b).0))))
+        ∙ else-cond (bad_node r R T W i a xs) NoNode (group_check (alike r R T ((i - 1) * W) W a xs) (is_full r R T W i xs)) _
+        (λ b. ap (λ (p : Bool). group_check p (is_full r R T W i xs)) (group-same low high (ltb-false a 1 (or_parts _ _ b).0))))
 
     -- what it does
     abbrev new : List (Node S V) → Net
     new N = parted_at r R T (i - 1) (a - 1) (downs_in N) (arcs r.n W xs)
 
-    part-made : ((x : S) → R.same x x ≡ true) → part_code r R T W i a xs ≡ 0
+    part-made : ((x : S) → R.same x x ≡ true) → part_check r R T W i a xs ≡ Ok tt
         → Proper r.n W (new (layer r.n W (i - 1) xs)) × (relabelled r R T W (parted_one r R T ((i - 1) * W) W (a - 1) (node_count ((i - 1) * W + W) W xs) xs) ≡ relaid r R T W xs (new (layer r.n W (i - 1) xs)))
     part-made self e =
         let q = part-clear e in
@@ -98,25 +96,25 @@ module _ {S V : Type 0} (r : Round) (R : RuleSense S) (T : TallySense V) (W i a 
 
     pub part-words : ((x : S) → R.same x x ≡ true) → part_steps r R T W i a xs ≡ parted r R T W i a xs
     unfolding part_steps parted split
-    part-words self = same_code (part_code r R T W i a xs) (part_answer r R T W i a xs) _ _ xs part-answer (λ e. (part-made self e).1)
+    part-words self = same_check (part_check r R T W i a xs) (part_answer r R T W i a xs) _ _ xs part-answer (λ e. (part-made self e).1)
 
     -- the shape stays
     pub part-shaped : ((x : S) → R.same x x ≡ true) → Shaped r.n W (part_steps r R T W i a xs)
     unfolding part_steps
-    part-shaped self = cond_both (eqb (part_code r R T W i a xs) 0) _ xs (Shaped r.n W)
-        (λ e. let q = part-made self (eqb-true (part_code r R T W i a xs) 0 e) in subst (Shaped r.n W) (sym q.1) (relaid-shaped r R T W some xs (new (layer r.n W (i - 1) xs)) q.0))
+    part-shaped self = cond_both (is_ok (part_check r R T W i a xs)) _ xs (Shaped r.n W)
+        (λ e. let q = part-made self (passed _ e) in subst (Shaped r.n W) (sym q.1) (relaid-shaped r R T W some xs (new (layer r.n W (i - 1) xs)) q.0))
         (λ e. s)
 
     -- and no finish gets late
     pub part-timely : ((x : S) → R.same x x ≡ true) → Timely r.n W xs → Timely r.n W (part_steps r R T W i a xs)
     unfolding part_steps
-    part-timely self t = cond_both (eqb (part_code r R T W i a xs) 0) _ xs (Timely r.n W)
-        (λ e. let q = part-made self (eqb-true (part_code r R T W i a xs) 0 e) in subst (Timely r.n W) (sym q.1) (relaid-timely r R T W xs (new (layer r.n W (i - 1) xs)) q.0.deep))
+    part-timely self t = cond_both (is_ok (part_check r R T W i a xs)) _ xs (Timely r.n W)
+        (λ e. let q = part-made self (passed _ e) in subst (Timely r.n W) (sym q.1) (relaid-timely r R T W xs (new (layer r.n W (i - 1) xs)) q.0.deep))
         (λ e. t)
 
 -- the clause
-pub part-said : {S V A : Type 0} (r : Round) (R : RuleSense S) (self : (x : S) → R.same x x ≡ true) (T : TallySense V) (W i a : ℕ) (xs ys : List (Node S V)) (o : Result A Refusal)
-    → MatchResult o (λ _. part_code r R T W i a xs ≡ 0) (λ e. part_code r R T W i a xs ≡ number_of e) → ys ≡ part_steps r R T W i a xs → PartDone r R T W xs i a o ys
+pub part-said : {S V : Type 0} (r : Round) (R : RuleSense S) (self : (x : S) → R.same x x ≡ true) (T : TallySense V) (W i a : ℕ) (xs ys : List (Node S V)) (o : Answer)
+    → o ≡ part_check r R T W i a xs → ys ≡ part_steps r R T W i a xs → PartDone r R T W xs i a o ys
 part-said r R self T W i a xs ys o said made s =
     let same = part-answer r R T W i a xs s.some s.few s.fit s.shaped in
-    (MatchResult-weaker o said (λ x e. sym same ∙ e) (λ x e. sym same ∙ e), made ∙ part-words r R T W i a xs s.some s.few s.fit s.shaped self)
+    (said ∙ same, made ∙ part-words r R T W i a xs s.some s.few s.fit s.shaped self)

@@ -1,15 +1,17 @@
 -- What the checks before a part or a join find.
-use Rattle.std.specs.Prelude.{◌≡◌, ℕ, ◌+◌, ◌-◌, ◌*◌, ◌<◌, ◌≤◌, min, max, Bool, false, List, length, Some, None, Option}
+use Rattle.std.specs.Prelude.{◌≡◌, ℕ, ◌+◌, ◌-◌, ◌*◌, ◌<◌, ◌≤◌, min, max, Bool, false, List, length, Some, None, Option, Ok, Err}
 use Rattle.round.specs.declared.table.Round.{Round}
 use Rattle.rules.specs.Rules.{RuleSense}
 use Rattle.tallies.specs.Tallies.{TallySense}
 use Rattle.layers.specs.declared.node.Node.{Node}
+use Rattle.layers.specs.declared.refusal.Refusal.TheVariants.{OneGroup}
+use Rattle.layers.specs.Calls.{Answer}
 use Rattle.layers.specs.Labels.{first_arrival}
 use Rattle.labels.specs.Passes.{part, arrivals}
 use Rattle.split.specs.declared.source.Source.{Source}
 use Rattle.split.specs.declared.source.Arrived.{Arrived}
 use Rattle.split.specs.Agreed.{brought}
-use Rattle.split.specs.Steps.{group_code, node_count, clash_at, alike, part_code, join_code}
+use Rattle.split.specs.Steps.{group_check, node_count, clash_at, alike, part_check, join_check}
 
 -- s is the first of the arrivals, some differ from it, and there is room
 pub record FirstKnown {S V : Type 0} (got : Arrived S V) (full : Bool) (s : Source S V) : Type 0 where
@@ -18,9 +20,9 @@ pub record FirstKnown {S V : Type 0} (got : Arrived S V) (full : Bool) (s : Sour
   pub room : full ≡ false
 
 -- the refusal of a node with these arrivals
-abbrev pub got_code : {S V : Type 0} → Option (Source S V) → Bool → Bool → ℕ
-got_code None agreed full = 23
-got_code (Some x) agreed full = group_code agreed full
+abbrev pub got_check : {S V : Type 0} → Option (Source S V) → Bool → Bool → Answer
+got_check None agreed full = Err OneGroup
+got_check (Some x) agreed full = group_check agreed full
 
 -- layer i of a list of that length lies between the first node and the end
 pub record Placed (n w long i : ℕ) : Type 0 where
@@ -39,7 +41,7 @@ module _ {S V : Type 0} (r : Round) (R : RuleSense S) (T : TallySense V) where
 
   -- node a of layer i can be parted, and s brings the first arrival
   pub record MayPart (w i a : ℕ) (xs : List (Node S V)) (s : Source S V) : Type 0 where
-    pub clear : part_code r R T w i a xs ≡ 0
+    pub clear : part_check r R T w i a xs ≡ Ok tt
     pub placed : Placed r.n w (length xs) i
     pub low : 1 ≤ a
     pub high : a ≤ node_count ((i - 1) * w + w) w xs
@@ -47,7 +49,7 @@ module _ {S V : Type 0} (r : Round) (R : RuleSense S) (T : TallySense V) where
 
 -- nodes a and b of layer i can be joined
 pub record MayJoin {S V : Type 0} (n : ℕ) (z : Node S V) (w i a b : ℕ) (xs : List (Node S V)) : Type 0 where
-  pub clear : join_code n z w i a b xs ≡ 0
+  pub clear : join_check n z w i a b xs ≡ Ok tt
   pub placed : Placed n w (length xs) i
   pub low : 1 ≤ min a b
   pub apart : min a b < max a b

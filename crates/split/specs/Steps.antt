@@ -1,11 +1,13 @@
 -- The calls as the code does them: w records to a layer, in the flat list.
-use Rattle.std.specs.Prelude.{ℕ, zero, suc, ◌+◌, ◌-◌, ◌*◌, min, max, Bool, true, false, cond, ◌&&◌, ◌||◌, List, ◌++◌, length, take, drop, Some, None, Option, ◌==◌, nat_le, nat_lt, slice_index_or}
+use Rattle.std.specs.Prelude.{ℕ, zero, suc, ◌+◌, ◌-◌, ◌*◌, min, max, Bool, true, false, cond, if◌then◌else◌, ◌&&◌, ◌||◌, List, ◌++◌, length, take, drop, Some, None, Option, Ok, Err, is_ok, ◌==◌, nat_le, nat_lt, slice_index_or}
 use Rattle.round.specs.declared.table.Round.{Round}
 use Rattle.rules.specs.Rules.{RuleSense}
 use Rattle.tallies.specs.Tallies.{TallySense}
 use Rattle.layers.specs.declared.node.Node.{Node}
 use Rattle.layers.specs.declared.node.Down.{Down}
 use Rattle.layers.specs.declared.node.Label.{Label}
+use Rattle.layers.specs.declared.refusal.Refusal.TheVariants.{Width, Short, NoLayer, NoNode, OneGroup, LayerFull, SameNode, Clash}
+use Rattle.layers.specs.Calls.{Answer}
 use Rattle.layers.specs.Flow.{clash}
 use Rattle.layers.specs.Labels.{arrive, agree, agreeing, first_arrival}
 use Rattle.layers.specs.Records.{standing}
@@ -14,27 +16,31 @@ use Rattle.labels.specs.Passes.{part, fits, arrivals, blank_node, relabelled}
 use Rattle.split.specs.Joined.{joined_second}
 use Rattle.split.specs.Parted.{parted_second}
 
--- ---- refusals: 0, or the number of the refusal
--- the first of two that is not 0
-abbrev pub or_else : ℕ → ℕ → ℕ
-or_else zero b = b
-or_else (suc a) b = suc a
+-- ---- checks: passed, or the refusal
+-- the second check, if the first is passed
+abbrev pub and_then : Answer → Answer → Answer
+and_then (Ok u) b = b
+and_then (Err e) b = Err e
 
--- 10 for a width other than 1 to 128, 11 for too few records, 20 for a layer that is not 1 to n - 1
-abbrev pub place_code : ℕ → ℕ → ℕ → ℕ → ℕ
-place_code n w long i = cond (nat_lt w 1 || nat_lt 128 w) 10 (cond (nat_lt long (n * w + 1)) 11 (cond (nat_lt i 1 || nat_le n i) 20 0))
+-- a width other than 1 to 128, too few records, a layer that is not 1 to n - 1
+abbrev pub place_check : ℕ → ℕ → ℕ → ℕ → Answer
+place_check n w long i =
+    if nat_lt w 1 || nat_lt 128 w then Err Width
+    else if nat_lt long (n * w + 1) then Err Short
+    else if nat_lt i 1 || nat_le n i then Err NoLayer
+    else Ok tt
 
--- 21 for node a of a layer that has m nodes
-abbrev pub node_code : ℕ → ℕ → ℕ
-node_code m a = cond (nat_lt a 1 || nat_lt m a) 21 0
+-- node a of a layer that has m nodes
+abbrev pub node_check : ℕ → ℕ → Answer
+node_check m a = if nat_lt a 1 || nat_lt m a then Err NoNode else Ok tt
 
--- 23 if the in-arcs agree, 24 if the layer is full
-abbrev pub group_code : Bool → Bool → ℕ
-group_code agreed full = cond agreed 23 (cond full 24 0)
+-- the in-arcs agree, the layer is full
+abbrev pub group_check : Bool → Bool → Answer
+group_check agreed full = if agreed then Err OneGroup else if full then Err LayerFull else Ok tt
 
--- 25 for one node twice, 26 for arcs by one door to two nodes
-abbrev pub pair_code : Bool → Bool → ℕ
-pair_code same apart = cond same 25 (cond apart 26 0)
+-- one node twice, arcs by one door to two nodes
+abbrev pub pair_check : Bool → Bool → Answer
+pair_check same apart = if same then Err SameNode else if apart then Err Clash else Ok tt
 
 -- how many nodes a layer of m has once one is parted, unless its in-arcs agree; none if the layer is full
 abbrev pub next_count : Bool → Bool → ℕ → Option ℕ
@@ -55,12 +61,12 @@ abbrev pub clash_at : {S V : Type 0} → Node S V → ℕ → ℕ → ℕ → Li
 clash_at z at a b xs = clash (targets (record_at z at (min a b) xs)) (targets (record_at z at (max a b) xs))
 
 -- join nodes a and b of layer i, in a diagram of n doors
-unfoldable pub join_code : {S V : Type 0} → ℕ → Node S V → ℕ → ℕ → ℕ → ℕ → List (Node S V) → ℕ
+unfoldable pub join_check : {S V : Type 0} → ℕ → Node S V → ℕ → ℕ → ℕ → ℕ → List (Node S V) → Answer
 unfolding clash targets
-join_code n z w i a b xs =
+join_check n z w i a b xs =
     let at = (i - 1) * w + w in
     let m = node_count at w xs in
-    or_else (place_code n w (length xs) i) (or_else (node_code m a) (or_else (node_code m b) (pair_code (a == b) (clash_at z at a b xs))))
+    and_then (place_check n w (length xs) i) (and_then (node_check m a) (and_then (node_check m b) (pair_check (a == b) (clash_at z at a b xs))))
 
 module _ {S V : Type 0} (r : Round) (R : RuleSense S) (T : TallySense V) where
   -- ---- part
@@ -83,15 +89,15 @@ module _ {S V : Type 0} (r : Round) (R : RuleSense S) (T : TallySense V) where
   next_records at w a m xs = cond (alike at w (suc a) xs) xs (cond (nat_le w m) xs (parted_one at w a m xs))
 
   -- part node a of layer i
-  unfoldable pub part_code : ℕ → ℕ → ℕ → List (Node S V) → ℕ
+  unfoldable pub part_check : ℕ → ℕ → ℕ → List (Node S V) → Answer
   unfolding agreeing
-  part_code w i a xs =
+  part_check w i a xs =
       let m = node_count ((i - 1) * w + w) w xs in
-      or_else (place_code r.n w (length xs) i) (or_else (node_code m a) (group_code (alike ((i - 1) * w) w a xs) (nat_le w m)))
+      and_then (place_check r.n w (length xs) i) (and_then (node_check m a) (group_check (alike ((i - 1) * w) w a xs) (nat_le w m)))
 
   unfoldable pub part_steps : ℕ → ℕ → ℕ → List (Node S V) → List (Node S V)
-  unfolding part_code parted_one relabelled
-  part_steps w i a xs = cond (part_code w i a xs == 0) (relabelled r R T w (parted_one ((i - 1) * w) w (a - 1) (node_count ((i - 1) * w + w) w xs) xs)) xs
+  unfolding part_check parted_one relabelled
+  part_steps w i a xs = if is_ok (part_check w i a xs) then relabelled r R T w (parted_one ((i - 1) * w) w (a - 1) (node_count ((i - 1) * w + w) w xs) xs) else xs
 
   -- part the nodes at the places a, a + 1, .. of the layer at `at + w`, k at most, of the m that it has: whether one is left since the layer is full
   unfoldable pub parts_from : ℕ → ℕ → ℕ → ℕ → ℕ → List (Node S V) → Bool × List (Node S V)
@@ -103,7 +109,7 @@ module _ {S V : Type 0} (r : Round) (R : RuleSense S) (T : TallySense V) where
   -- a layer of the list, or nothing of a list that does not fit or a layer that is not 1 to n - 1
   unfoldable pub layer_steps : ℕ → ℕ → List (Node S V) → Bool × List (Node S V)
   unfolding parts_from
-  layer_steps w i xs = cond (place_code r.n w (length xs) i == 0) (parts_from ((i - 1) * w) w w 0 (node_count ((i - 1) * w + w) w xs) xs) (false, xs)
+  layer_steps w i xs = if is_ok (place_check r.n w (length xs) i) then parts_from ((i - 1) * w) w w 0 (node_count ((i - 1) * w + w) w xs) xs else (false, xs)
 
   -- ---- join
   -- the nodes at the places lo and hi of the layer at `at + w`, joined
@@ -113,8 +119,8 @@ module _ {S V : Type 0} (r : Round) (R : RuleSense S) (T : TallySense V) where
 
   -- join nodes a and b of layer i
   unfoldable pub join_steps : ℕ → ℕ → ℕ → ℕ → List (Node S V) → List (Node S V)
-  unfolding join_code joined_one relabelled
-  join_steps w i a b xs = cond (join_code r.n (blank_node r R T) w i a b xs == 0) (relabelled r R T w (joined_one ((i - 1) * w) w (min a b - 1) (max a b - 1) xs)) xs
+  unfolding join_check joined_one relabelled
+  join_steps w i a b xs = if is_ok (join_check r.n (blank_node r R T) w i a b xs) then relabelled r R T w (joined_one ((i - 1) * w) w (min a b - 1) (max a b - 1) xs) else xs
 
   -- ---- agreed: of the nodes 1 to b of the layer after the records us, and of the layers 1 to k
   unfoldable pub agreed_to : ℕ → List (Node S V) → Bool

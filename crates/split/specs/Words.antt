@@ -1,12 +1,10 @@
 -- What the calls come to on records xs that have the shape of a diagram of width w; ys are the records that they leave.
-use Rattle.std.specs.Prelude.{◌≡◌, ℕ, ◌+◌, ◌*◌, ◌<◌, ◌≤◌, Bool, List, length, Result, MatchResult}
+use Rattle.std.specs.Prelude.{◌≡◌, ℕ, ◌+◌, ◌*◌, ◌<◌, ◌≤◌, Bool, List, length}
 use Rattle.round.specs.declared.table.Round.{Round}
 use Rattle.rules.specs.Rules.{RuleSense}
 use Rattle.tallies.specs.Tallies.{TallySense}
 use Rattle.layers.specs.declared.node.Node.{Node}
-use Rattle.layers.specs.declared.refusal.Refusal.{Refusal}
-use Rattle.layers.specs.Calls.{nodes, arcs, relaid, agreed_all, part_answer, parted, join_answer, joined, splits}
-use Rattle.layers.specs.Refusals.{number_of}
+use Rattle.layers.specs.Calls.{Answer, nodes, arcs, relaid, agreed_all, part_answer, parted, join_answer, joined, splits}
 use Rattle.layers.specs.Shape.{Shaped}
 use Rattle.labels.specs.Passes.{relabelled}
 
@@ -19,12 +17,12 @@ pub record Sound {S V : Type 0} (n w : ℕ) (xs : List (Node S V)) : Type 0 wher
 
 module _ {S V : Type 0} (r : Round) (R : RuleSense S) (T : TallySense V) (w : ℕ) (xs : List (Node S V)) where
   -- part node a of layer i, answered by o
-  abbrev pub PartDone : {A : Type 0} → ℕ → ℕ → Result A Refusal → List (Node S V) → Type 0
-  PartDone i a o ys = Sound r.n w xs → MatchResult o (λ _. part_answer r R T w i a xs ≡ 0) (λ e. part_answer r R T w i a xs ≡ number_of e) × (ys ≡ parted r R T w i a xs)
+  abbrev pub PartDone : ℕ → ℕ → Answer → List (Node S V) → Type 0
+  PartDone i a o ys = Sound r.n w xs → (o ≡ part_answer r R T w i a xs) × (ys ≡ parted r R T w i a xs)
 
   -- join nodes a and b of layer i
-  abbrev pub JoinDone : {A : Type 0} → ℕ → ℕ → ℕ → Result A Refusal → List (Node S V) → Type 0
-  JoinDone i a b o ys = Sound r.n w xs → MatchResult o (λ _. join_answer r R T w i a b xs ≡ 0) (λ e. join_answer r R T w i a b xs ≡ number_of e) × (ys ≡ joined r R T w i a b xs)
+  abbrev pub JoinDone : ℕ → ℕ → ℕ → Answer → List (Node S V) → Type 0
+  JoinDone i a b o ys = Sound r.n w xs → (o ≡ join_answer r R T w i a b xs) × (ys ≡ joined r R T w i a b xs)
 
   -- agreed
   abbrev pub AgreedDone : Bool → Type 0

@@ -1,14 +1,13 @@
 // What is refused before a node is parted, or two are joined.
-ghost use Rattle.std.specs.Prelude.{◌≡◌, ◌≤◌, MatchResult};
-ghost use Rattle.layers.specs.Refusals.{number_of};
-ghost use Rattle.split.specs.Steps.{place_code, node_code};
+ghost use Rattle.std.specs.Prelude.{◌≡◌, ◌≤◌};
+ghost use Rattle.split.specs.Steps.{place_check, node_check};
 
 use layers::refusal::Refusal;
 
 // Whether a list of `len` records has room for a diagram of n doors, and the layer lies between the first and the end.
 pub(crate) fn check_place(n: usize, width: usize, len: usize, layer: usize) -> Result<(), Refusal>
     requires { n ≤ 16 }
-    ensures { MatchResult result (λ _. place_code n width len layer ≡ 0) (λ e. place_code n width len layer ≡ number_of e) }
+    ensures { result ≡ place_check n width len layer }
 {
     if !(1..=128).contains(&width) {
         return Err(Refusal::Width);
@@ -24,7 +23,7 @@ pub(crate) fn check_place(n: usize, width: usize, len: usize, layer: usize) -> R
 
 // Whether a layer of `count` nodes has that one.
 pub(crate) fn check_node(count: usize, node: usize) -> Result<(), Refusal>
-    ensures { MatchResult result (λ _. node_code count node ≡ 0) (λ e. node_code count node ≡ number_of e) }
+    ensures { result ≡ node_check count node }
 {
     if !(1..=count).contains(&node) {
         return Err(Refusal::NoNode);

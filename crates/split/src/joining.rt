@@ -1,9 +1,8 @@
 // Joining two nodes of a layer: one node with the in-arcs and the out-arcs of both.
-ghost use Rattle.std.specs.Prelude.{◌≡◌, ◌+◌, ◌-◌, ◌<◌, ◌≤◌, max, length, MatchResult, ◌==◌};
+ghost use Rattle.std.specs.Prelude.{◌≡◌, ◌+◌, ◌-◌, ◌<◌, ◌≤◌, max, length, ◌==◌};
 ghost use Rattle.layers.specs.declared.node.Node.{Node as ANode};
-ghost use Rattle.layers.specs.Refusals.{number_of};
 ghost use Rattle.labels.specs.Passes.{blank_node};
-ghost use Rattle.split.specs.Steps.{pair_code, clash_at, join_code, join_steps};
+ghost use Rattle.split.specs.Steps.{pair_check, clash_at, join_check, join_steps};
 ghost use Rattle.split.specs.Words.{JoinDone};
 
 use crate::check::{check_node, check_place};
@@ -27,7 +26,7 @@ fn check_pair<S: Copy, V: Copy>(
     requires one_le_a { 1 ≤ a }
     requires one_le_b { 1 ≤ b }
     requires b_in_bounds { at + max a b < length nodes.now }
-    ensures { (z : ANode S V) → MatchResult result (λ _. pair_code (a == b) (clash_at z at a b nodes.now) ≡ 0) (λ e. pair_code (a == b) (clash_at z at a b nodes.now) ≡ number_of e) }
+    ensures { (z : ANode S V) → result ≡ pair_check (a == b) (clash_at z at a b nodes.now) }
 {
     if a == b {
         return Err(Refusal::SameNode);
@@ -50,7 +49,7 @@ fn check_join<S: Copy, V: Copy>(
     b: usize,
 ) -> Result<(), Refusal>
     requires { n ≤ 16 }
-    ensures { (z : ANode S V) → MatchResult result (λ _. join_code n z width layer a b nodes.now ≡ 0) (λ e. join_code n z width layer a b nodes.now ≡ number_of e) }
+    ensures { (z : ANode S V) → result ≡ join_check n z width layer a b nodes.now }
 {
     check_place(n, width, nodes.len(), layer)?;
     let at = (layer - 1) * width + width;
@@ -72,7 +71,7 @@ pub fn join<R: Rule, T: Tally>(
     a: usize,
     b: usize,
 ) -> Result<(), Refusal>
-    ensures answer { MatchResult result (λ _. join_code round.now.n (blank_node round.now (R.Rule.sense rule.now) (T.Tally.sense tally.now)) width layer a b nodes.old ≡ 0) (λ e. join_code round.now.n (blank_node round.now (R.Rule.sense rule.now) (T.Tally.sense tally.now)) width layer a b nodes.old ≡ number_of e) }
+    ensures answer { result ≡ join_check round.now.n (blank_node round.now (R.Rule.sense rule.now) (T.Tally.sense tally.now)) width layer a b nodes.old }
     ensures steps { nodes.new ≡ join_steps round.now (R.Rule.sense rule.now) (T.Tally.sense tally.now) width layer a b nodes.old }
     ensures words { JoinDone round.now (R.Rule.sense rule.now) (T.Tally.sense tally.now) width nodes.old layer a b result nodes.new }
 {

@@ -2,11 +2,10 @@
 ghost use Rattle.std.specs.Prelude.{◌≡◌, suc, ◌+◌, ◌-◌, ◌<◌, ◌≤◌, length, Some, MatchResult, nat_le};
 ghost use Rattle.tallies.specs.Tallies.{TallySense};
 ghost use Rattle.layers.specs.Labels.{first_arrival};
-ghost use Rattle.layers.specs.Refusals.{number_of};
 ghost use Rattle.labels.specs.Passes.{part, arrivals};
 ghost use Rattle.split.specs.Agreed.{brought};
-ghost use Rattle.split.specs.Steps.{node_count, group_code, alike, parted_one, part_code, part_steps, next_count, next_records, parts_from, layer_steps};
-ghost use Rattle.split.specs.Asked.{got_code, FirstKnown, FirstInto, MayPart};
+ghost use Rattle.split.specs.Steps.{node_count, group_check, alike, parted_one, part_check, part_steps, next_count, next_records, parts_from, layer_steps};
+ghost use Rattle.split.specs.Asked.{got_check, FirstKnown, FirstInto, MayPart};
 ghost use Rattle.split.specs.Words.{PartDone, LayerDone};
 
 use crate::agree::{look_in, part_by_first};
@@ -22,7 +21,7 @@ use tallies::tally::Tally;
 
 // The first in-arc of a node that can be parted.
 fn check_group<S: Copy, V: Copy>(got: Arrived<S, V>, full: bool) -> Result<Source<S, V>, Refusal>
-    ensures { MatchResult result (FirstKnown got full) (λ e. got_code got.first got.agreed full ≡ number_of e) }
+    ensures { MatchResult result (FirstKnown got full) (λ e. got_check got.first got.agreed full ≡ Err e) }
 {
     let Arrived { first, agreed } = got;
     match first {
@@ -50,7 +49,7 @@ fn check_into<R: Rule, V: Copy>(
     count: usize,
 ) -> Result<Source<R::State, V>, Refusal>
     requires { at + w ≤ length nodes.now }
-    ensures { (s : TallySense V) → MatchResult result (FirstInto round.now (R.Rule.sense rule.now) s at w t nodes.now count) (λ e. group_code (alike round.now (R.Rule.sense rule.now) s at w t nodes.now) (nat_le w count) ≡ number_of e) }
+    ensures { (s : TallySense V) → MatchResult result (FirstInto round.now (R.Rule.sense rule.now) s at w t nodes.now count) (λ e. group_check (alike round.now (R.Rule.sense rule.now) s at w t nodes.now) (nat_le w count) ≡ Err e) }
 {
     let got = look_in(round, rule, nodes, at, w, t);
     check_group(got, count >= w)
@@ -65,7 +64,7 @@ fn check_part<R: Rule, V: Copy>(
     layer: usize,
     node: usize,
 ) -> Result<Source<R::State, V>, Refusal>
-    ensures { (s : TallySense V) → MatchResult result (MayPart round.now (R.Rule.sense rule.now) s width layer node nodes.now) (λ e. part_code round.now (R.Rule.sense rule.now) s width layer node nodes.now ≡ number_of e) }
+    ensures { (s : TallySense V) → MatchResult result (MayPart round.now (R.Rule.sense rule.now) s width layer node nodes.now) (λ e. part_check round.now (R.Rule.sense rule.now) s width layer node nodes.now ≡ Err e) }
 {
     check_place(round.n, width, nodes.len(), layer)?;
     let at = (layer - 1) * width;
@@ -118,7 +117,7 @@ pub fn part<R: Rule, T: Tally>(
     layer: usize,
     node: usize,
 ) -> Result<(), Refusal>
-    ensures answer { MatchResult result (λ _. part_code round.now (R.Rule.sense rule.now) (T.Tally.sense tally.now) width layer node nodes.old ≡ 0) (λ e. part_code round.now (R.Rule.sense rule.now) (T.Tally.sense tally.now) width layer node nodes.old ≡ number_of e) }
+    ensures answer { result ≡ part_check round.now (R.Rule.sense rule.now) (T.Tally.sense tally.now) width layer node nodes.old }
     ensures steps { nodes.new ≡ part_steps round.now (R.Rule.sense rule.now) (T.Tally.sense tally.now) width layer node nodes.old }
     ensures words { PartDone round.now (R.Rule.sense rule.now) (T.Tally.sense tally.now) width nodes.old layer node result nodes.new }
 {

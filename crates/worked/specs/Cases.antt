@@ -1,5 +1,5 @@
 -- The worked cases, in one statement on the definitions: the rule is pairs and load together, the tally late doors.
-use Rattle.std.specs.Prelude.{◌≡◌, ℕ, zero, suc, Bool, true, false, ◌⊎◌, List, [], ◌∷◌, length, Some, None, slice_index_or}
+use Rattle.std.specs.Prelude.{◌≡◌, ℕ, zero, suc, Bool, true, false, ◌⊎◌, List, [], ◌∷◌, length, Some, None, Ok, slice_index_or}
 use Rattle.std.proofs.Common.{arith}
 use Rattle.doors.specs.Orders.{PartOrder}
 use Rattle.round.specs.declared.table.Round.{Round}
@@ -17,6 +17,8 @@ use Rattle.orders.specs.Costs.{cost}
 use Rattle.orders.specs.Verdicts.{verdict}
 use Rattle.orders.specs.declared.verdict.Verdict.TheVariants as is
 use Rattle.layers.specs.declared.node.Node.{Node}
+use Rattle.layers.specs.declared.refined.Refined.{Refined}
+use Rattle.layers.specs.declared.refined.Refined.TheVariants.{Whole, Full}
 use Rattle.layers.specs.Calls.{opened_on, arcs, swept, sweep_answer, cut_at, cut_answer, part_answer, parted, refined, bound, must, settled}
 use Rattle.worked.specs.Rounds.{trio, loose, boxes}
 
@@ -46,7 +48,7 @@ abbrev pub answer : Round → ℕ → ℕ → List Place → ℕ
 answer r W k lent = sweep_answer r (rule r) (late r) W (sweeps r W k lent)
 
 -- after refining: the answer, and the records
-abbrev pub fine : Round → ℕ → List Place → ℕ × List Place
+abbrev pub fine : Round → ℕ → List Place → Refined × List Place
 fine r W lent = refined r (rule r) (late r) W (opened_on r (rule r) (late r) W lent)
 
 abbrev pub asked : Round → ℕ → ℕ → ℕ → List Place → Bool
@@ -54,7 +56,7 @@ asked r W i j lent = must 3 W i j (fine r W lent).1
 
 -- refine is whole, the bound (1, 1), must yes at (1, 2), (1, 3) and (3, 2) alone, and 1, 3, 2 the one path
 pub record Sheet (r : Round) (lent : List Place) : Type 0 where
-  pub whole : (fine r 16 lent).0 ≡ 0
+  pub whole : (fine r 16 lent).0 ≡ Whole
   pub low : bound 3 16 (fine r 16 lent).1 ≡ Some (1, 1)
   pub yes : asked r 16 1 2 lent ∷ asked r 16 1 3 lent ∷ asked r 16 3 2 lent ∷ [] ≡ true ∷ true ∷ true ∷ []
   pub no' : asked r 16 2 1 lent ∷ asked r 16 3 1 lent ∷ asked r 16 2 3 lent ∷ [] ≡ false ∷ false ∷ false ∷ []
@@ -84,21 +86,21 @@ pub record AsPrinted (r : Round) (lent : List Place) : Type 0 where
 
 -- with door 2 closing at 7, refine is whole and there is no bound
 pub record ClosedEarly (r : Round) (lent : List Place) : Type 0 where
-  pub whole : (fine r 16 lent).0 ≡ 0
+  pub whole : (fine r 16 lent).0 ≡ Whole
   pub none : bound 3 16 (fine r 16 lent).1 ≡ None
 
 -- three doors open 0 to 9,999, due 9,999, work 1, no drive minutes, where 2 has to come ahead of 1
 pub record Paired (r : Round) (lent : List Place) : Type 0 where
   -- at width 2: sweep answers 1; part(1, 1) moves door 3's arc; sweep answers 3
   pub sweep_one : answer r 2 0 lent ≡ 1
-  pub parts : part_answer r (rule r) (late r) 2 1 1 (sweeps r 2 1 lent) ≡ 0
+  pub parts : part_answer r (rule r) (late r) 2 1 1 (sweeps r 2 1 lent) ≡ Ok tt
   pub before_part : slice_index_or (arcs 3 2 (sweeps r 2 1 lent)) 0 [] ≡ (0 ∷ 1 ∷ 1 ∷ []) ∷ []
   pub after_part : slice_index_or (arcs 3 2 (parted r (rule r) (late r) 2 1 1 (sweeps r 2 1 lent))) 0 [] ≡ (0 ∷ 1 ∷ 2 ∷ []) ∷ []
   pub sweep_three : sweep_answer r (rule r) (late r) 2 (parted r (rule r) (late r) 2 1 1 (sweeps r 2 1 lent)) ≡ 3
   -- just opened: refine at width 2 is full at layer 2 and settled no; at width 3 whole, must(2, 1) yes, must(3, 1) no
-  pub full_at_2 : (fine r 2 lent).0 ≡ 2
+  pub full_at_2 : (fine r 2 lent).0 ≡ Full 2
   pub not_settled : settled r (rule r) (late r) 2 (fine r 2 lent).1 ≡ false
-  pub whole_at_3 : (fine r 3 lent).0 ≡ 0
+  pub whole_at_3 : (fine r 3 lent).0 ≡ Whole
   pub must_two : asked r 3 2 1 lent ≡ true
   pub must_three : asked r 3 3 1 lent ≡ false
 

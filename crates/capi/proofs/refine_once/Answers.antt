@@ -1,6 +1,7 @@
 use Rattle.std.proofs.Common.{ap, ◌∙◌, min}
 use Rattle.layers.specs.Calls.{refined, opened_on}
 use Rattle.tallies.specs.Late.{late_sense}
+use Rattle.capi.specs.Answers.{layer_number}
 use Rattle.capi.specs.Senses.{side_sense, side_of}
 use Rattle.capi.proofs.refine_once.Goals as goal
 
@@ -16,7 +17,7 @@ returns c =
       c.args.records.now,
       c.requires.lent,
       c.layer_of.ensures
-          ∙ ap (λ k. min k 4294967295) (
+          ∙ ap (λ k. min (layer_number k) 4294967295) (
           c.refine.ensures.answer
           ∙ ap (λ m. (refined m.round.now R T m.width d.nodes.now).0) e.room
           ∙ ap (λ xs. (refined r R T W xs).0) e.records

@@ -1,9 +1,8 @@
 // What a diagram is asked.
-ghost use Rattle.std.specs.Prelude.{◌≡◌, ◌+◌, ◌*◌, ◌<◌, ◌≤◌, length, IfOk, MatchResult};
+ghost use Rattle.std.specs.Prelude.{◌≡◌, ◌+◌, ◌*◌, ◌<◌, ◌≤◌, length, IfOk};
 ghost use Rattle.tallies.specs.Tallies.{TallySense};
-ghost use Rattle.layers.specs.Calls.{bound, must, must_answer, settled};
+ghost use Rattle.layers.specs.Calls.{bound, must_answer, settled};
 ghost use Rattle.layers.specs.Claim.{MustMeans};
-ghost use Rattle.layers.specs.Refusals.{number_of};
 
 use super::Diagram;
 use crate::room::Room;
@@ -39,7 +38,7 @@ impl<'a, 'n, S: Copy, V: Copy> Diagram<'a, 'n, S, V> {
 
     // Yes if no path has door j at an earlier place than door i, and so if i is ahead of j in every wanted order.
     pub fn must(&self, i: usize, j: usize) -> Result<bool, Refusal>
-        ensures answer { MatchResult result (λ b. (must_answer self.now.room.round.now.n i j ≡ 0) × (b ≡ must self.now.room.round.now.n self.now.room.width i j self.now.nodes.now)) (λ e. must_answer self.now.room.round.now.n i j ≡ number_of e) }
+        ensures answer { result ≡ must_answer self.now.room.round.now.n self.now.room.width i j self.now.nodes.now }
         ensures paths { IfOk result (λ b. MustMeans self.now.room.round.now.n self.now.room.width i j self.now.nodes.now b) }
     {
         let Room { round, width } = self.room;

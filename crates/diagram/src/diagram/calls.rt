@@ -1,17 +1,16 @@
 // The calls that alter a diagram: each hands the lent list to the function that does the work.
-ghost use Rattle.std.specs.Prelude.{◌≡◌, ◌+◌, ◌*◌, ◌≤◌, length, MatchResult};
+ghost use Rattle.std.specs.Prelude.{◌≡◌, ◌+◌, ◌*◌, ◌≤◌, length};
 ghost use Rattle.layers.specs.Calls.{swept, sweep_answer, cut_at, cut_answer, parted, part_answer, joined, join_answer, refined};
-ghost use Rattle.layers.specs.Refusals.{number_of};
 ghost use Rattle.layers.specs.Shape.{Shaped, Timely};
-ghost use Rattle.refine.specs.Answers.{answer_of};
+ghost use Rattle.refine.specs.Answers.{IsInnerIfFull};
 
 use super::Diagram;
 use crate::room::Room;
 use filter::cut::cut;
 use filter::sweep::sweep;
 use layers::node::Node;
+use layers::refined::Refined;
 use layers::refusal::Refusal;
-use refine::answer::Refined;
 use refine::refine::refine;
 use rules::rule::Rule;
 use split::joining::join;
@@ -57,7 +56,7 @@ impl<'a, 'n, S: Copy, V: Copy> Diagram<'a, 'n, S, V> {
     ) -> Result<(), Refusal>
         ensures room { self.new.room ≡ self.old.room }
         ensures records { self.new.nodes.now ≡ parted self.old.room.round.now (R.Rule.sense rule.now) (T.Tally.sense tally.now) self.old.room.width layer node self.old.nodes.now }
-        ensures answer { MatchResult result (λ _. part_answer self.old.room.round.now (R.Rule.sense rule.now) (T.Tally.sense tally.now) self.old.room.width layer node self.old.nodes.now ≡ 0) (λ e. part_answer self.old.room.round.now (R.Rule.sense rule.now) (T.Tally.sense tally.now) self.old.room.width layer node self.old.nodes.now ≡ number_of e) }
+        ensures answer { result ≡ part_answer self.old.room.round.now (R.Rule.sense rule.now) (T.Tally.sense tally.now) self.old.room.width layer node self.old.nodes.now }
         ensures lender { self.new.nodes.ghost_name ≡ self.old.nodes.ghost_name }
     {
         let Room { round, width } = self.room;
@@ -75,7 +74,7 @@ impl<'a, 'n, S: Copy, V: Copy> Diagram<'a, 'n, S, V> {
     ) -> Result<(), Refusal>
         ensures room { self.new.room ≡ self.old.room }
         ensures records { self.new.nodes.now ≡ joined self.old.room.round.now (R.Rule.sense rule.now) (T.Tally.sense tally.now) self.old.room.width layer a b self.old.nodes.now }
-        ensures answer { MatchResult result (λ _. join_answer self.old.room.round.now (R.Rule.sense rule.now) (T.Tally.sense tally.now) self.old.room.width layer a b self.old.nodes.now ≡ 0) (λ e. join_answer self.old.room.round.now (R.Rule.sense rule.now) (T.Tally.sense tally.now) self.old.room.width layer a b self.old.nodes.now ≡ number_of e) }
+        ensures answer { result ≡ join_answer self.old.room.round.now (R.Rule.sense rule.now) (T.Tally.sense tally.now) self.old.room.width layer a b self.old.nodes.now }
         ensures lender { self.new.nodes.ghost_name ≡ self.old.nodes.ghost_name }
     {
         let Room { round, width } = self.room;
@@ -90,7 +89,8 @@ impl<'a, 'n, S: Copy, V: Copy> Diagram<'a, 'n, S, V> {
     ) -> Refined
         ensures room { self.new.room ≡ self.old.room }
         ensures records { self.new.nodes.now ≡ (refined self.old.room.round.now (R.Rule.sense rule.now) (T.Tally.sense tally.now) self.old.room.width self.old.nodes.now).1 }
-        ensures answer { answer_of result ≡ (refined self.old.room.round.now (R.Rule.sense rule.now) (T.Tally.sense tally.now) self.old.room.width self.old.nodes.now).0 }
+        ensures within { IsInnerIfFull self.old.room.round.now.n result }
+        ensures answer { result ≡ (refined self.old.room.round.now (R.Rule.sense rule.now) (T.Tally.sense tally.now) self.old.room.width self.old.nodes.now).0 }
         ensures lender { self.new.nodes.ghost_name ≡ self.old.nodes.ghost_name }
     {
         let Room { round, width } = self.room;

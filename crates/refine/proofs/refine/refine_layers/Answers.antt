@@ -1,5 +1,6 @@
 use Rattle.std.proofs.Common.{◌≡◌, ℕ, ◌-◌, List, length, sym, ap, ◌∙◌, arith}
 use Rattle.layers.specs.declared.node.Node.{Node}
+use Rattle.layers.specs.declared.refined.Refined.{Refined}
 use Rattle.labels.specs.Passes.{fits}
 use Rattle.refine.proofs.Turns.{layers-full, layers-next, layers-none}
 use Rattle.refine.proofs.refine.refine_layers.Goals as goal
@@ -12,8 +13,9 @@ returns-then-refine_layer g c =
     let e = c.refine_layer.ensures in
     let all = layers-full r R T c.args.width r.n c.loop-i.i c.loop-i.nodes c.refine_layer.new.nodes c.refine_layer.result (omega arith) e.full e.records c.if-refine_layer.true ∙ c.loop-i.invariant.1 in
     record {
-      answer = ap (λ (p : ℕ × List (Node g.row.R-State.Denot g.row.T-Value.Denot)). p.0) all;
-      records = ap (λ (p : ℕ × List (Node g.row.R-State.Denot g.row.T-Value.Denot)). p.1) all;
+      within = (omega arith, omega arith);
+      answer = ap (λ (p : Refined × List (Node g.row.R-State.Denot g.row.T-Value.Denot)). p.0) all;
+      records = ap (λ (p : Refined × List (Node g.row.R-State.Denot g.row.T-Value.Denot)). p.1) all;
     }
 
 pub loop-i-preserved : goal.loop-i-preserved
@@ -34,6 +36,7 @@ returns g c =
     let T = g.T.Tally.sense c.args.tally.now in
     let all = sym (layers-none r R T c.args.width (r.n - c.loop-i.i) c.loop-i.i c.loop-i.nodes (omega arith)) ∙ c.loop-i.invariant.1 in
     record {
-      answer = ap (λ (p : ℕ × List (Node g.row.R-State.Denot g.row.T-Value.Denot)). p.0) all;
-      records = ap (λ (p : ℕ × List (Node g.row.R-State.Denot g.row.T-Value.Denot)). p.1) all;
+      within = tt;
+      answer = ap (λ (p : Refined × List (Node g.row.R-State.Denot g.row.T-Value.Denot)). p.0) all;
+      records = ap (λ (p : Refined × List (Node g.row.R-State.Denot g.row.T-Value.Denot)). p.1) all;
     }

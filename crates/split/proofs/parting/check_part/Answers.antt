@@ -1,43 +1,43 @@
-use Rattle.std.proofs.Common.{◌≡◌, ◌+◌, ◌-◌, ◌*◌, ◌≤◌, leb, length, sym, ap, ◌∙◌, ap₂, arith}
+use Rattle.std.proofs.Common.{◌≡◌, ◌+◌, ◌-◌, ◌*◌, ◌≤◌, leb, length, Ok, sym, ap, ◌∙◌, ap₂, arith}
 use Rattle.std.proofs.lemmas.Result.{err_from_is_err_and, MatchResult-weaker}
 use Rattle.std.proofs.lemmas.Bool.{lt-leb}
-use Rattle.split.specs.Steps.{group_code, node_code, node_count, alike}
+use Rattle.split.specs.Steps.{group_check, node_check, node_count, alike}
 use Rattle.split.proofs.Asking.{part-place, part-node, part-group}
-use Rattle.split.proofs.Codes.{place-clear, node-clear, placed-fits, placed-small}
+use Rattle.split.proofs.Checks.{place-clear, node-clear, placed-fits, placed-small}
 use Rattle.split.proofs.Stands.{count_most}
 use Rattle.split.proofs.parting.check_part.Goals as goal
 
 pub returns-in_err-check_place : goal.returns-in_err-check_place
 returns-in_err-check_place g c s =
     let p = err_from_is_err_and c.from_residual.result c.from_residual.ensures.1 in
-    rw (p.1, p.2) (part-place c.args.round.now (g.R.Rule.sense c.args.rule.now) s c.args.width c.args.layer c.args.node c.args.nodes.now _ c.in_err-check_place.ensures)
+    rw (p.1, p.2) (part-place c.args.round.now (g.R.Rule.sense c.args.rule.now) s c.args.width c.args.layer c.args.node c.args.nodes.now _ (sym c.in_err-check_place.ensures))
 
 pub overflow_mul-at : goal.overflow_mul-at
 overflow_mul-at g c =
-    let small = placed-small c.args.round.now.n c.args.width _ c.args.layer c.args.round.now.most (place-clear _ _ _ _ c.in_ok-check_place.ensures) in
+    let small = placed-small c.args.round.now.n c.args.width _ c.args.layer c.args.round.now.most (place-clear _ _ _ _ (sym c.in_ok-check_place.ensures)) in
     omega arith
 
 pub overflow_add-at : goal.overflow_add-at
 overflow_add-at g c =
-    let small = placed-small c.args.round.now.n c.args.width _ c.args.layer c.args.round.now.most (place-clear _ _ _ _ c.in_ok-check_place.ensures) in
+    let small = placed-small c.args.round.now.n c.args.width _ c.args.layer c.args.round.now.most (place-clear _ _ _ _ (sym c.in_ok-check_place.ensures)) in
     omega arith
 
 pub count_in-count-requires : goal.count_in-count-requires
 count_in-count-requires g c =
-    let fits = placed-fits c.args.round.now.n c.args.width _ c.args.layer (place-clear _ _ _ _ c.in_ok-check_place.ensures) in
+    let fits = placed-fits c.args.round.now.n c.args.width _ c.args.layer (place-clear _ _ _ _ (sym c.in_ok-check_place.ensures)) in
     omega arith
 
 pub returns-in_err-check_node : goal.returns-in_err-check_node
 returns-in_err-check_node g c s =
     let p = err_from_is_err_and c.from_residual-in_err-check_node.result c.from_residual-in_err-check_node.ensures.1 in
     rw (p.1, p.2) (part-node c.args.round.now (g.R.Rule.sense c.args.rule.now) s c.args.width c.args.layer c.args.node c.args.nodes.now _
-    c.in_ok-check_place.ensures (ap (λ m. node_code m c.args.node) (sym c.count_in-count.ensures) ∙ c.in_err-check_node.ensures))
+    (sym c.in_ok-check_place.ensures) (ap (λ m. node_check m c.args.node) (sym c.count_in-count.ensures) ∙ sym c.in_err-check_node.ensures))
 
 pub overflow_cast-node : goal.overflow_cast-node
 overflow_cast-node g c =
     let most = count_most ((c.args.layer - 1) * c.args.width + c.args.width) c.args.width c.args.nodes.now in
-    let few : c.args.width ≤ 128 = (place-clear c.args.round.now.n c.args.width (length c.args.nodes.now) c.args.layer c.in_ok-check_place.ensures).few in
-    let high : c.args.node ≤ c.count_in-count.result = (node-clear c.count_in-count.result c.args.node c.in_ok-check_node.ensures).1 in
+    let few : c.args.width ≤ 128 = (place-clear c.args.round.now.n c.args.width (length c.args.nodes.now) c.args.layer (sym c.in_ok-check_place.ensures)).few in
+    let high : c.args.node ≤ c.count_in-count.result = (node-clear c.count_in-count.result c.args.node (sym c.in_ok-check_node.ensures)).1 in
     omega (arith, c.count_in-count.ensures)
 
 pub returns : goal.returns
@@ -51,15 +51,15 @@ returns g c s =
     let at = (i - 1) * w in
     let m = node_count (at + w) w xs in
     let count : c.count_in-count.result ≡ m = c.count_in-count.ensures in
-    let none = c.in_ok-check_place.ensures in
-    let node : node_code m a ≡ 0 = ap (λ m. node_code m a) (sym count) ∙ c.in_ok-check_node.ensures in
+    let none = sym c.in_ok-check_place.ensures in
+    let node : node_check m a ≡ Ok tt = ap (λ m. node_check m a) (sym count) ∙ sym c.in_ok-check_node.ensures in
     let within = node-clear m a node in
     MatchResult-weaker c.check_into.result (c.check_into.ensures s)
     (λ x k. record {
-      clear = part-group r R s w i a xs 0 none node (ap₂ group_code k.differ (lt-leb w m (omega (arith, k.room))));
+      clear = part-group r R s w i a xs (Ok tt) none node (ap₂ group_check k.differ (lt-leb w m (omega (arith, k.room))));
       placed = place-clear _ _ _ _ none;
       low = within.0;
       high = within.1;
       into = record { first = k.first; differ = k.differ; room = omega (arith, k.room) };
     })
-    (λ e k. part-group r R s w i a xs _ none node (ap (λ m. group_code (alike r R s at w a xs) (leb w m)) (sym count) ∙ k))
+    (λ e k. part-group r R s w i a xs _ none node (ap (λ m. group_check (alike r R s at w a xs) (leb w m)) (sym count) ∙ k))

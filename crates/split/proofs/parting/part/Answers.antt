@@ -1,7 +1,7 @@
-use Rattle.std.proofs.Common.{◌≡◌, ◌+◌, ◌-◌, ◌*◌, ◌<◌, ◌≤◌, length, Ok, Err, ap, ◌∙◌, arith}
+use Rattle.std.proofs.Common.{◌≡◌, ◌+◌, ◌-◌, ◌*◌, ◌<◌, ◌≤◌, length, Ok, Err, sym, ap, ◌∙◌, arith}
 use Rattle.std.proofs.lemmas.Result.{err_from_is_err_and}
 use Rattle.split.specs.Steps.{node_count, parted_one}
-use Rattle.split.proofs.Codes.{placed-fits, placed-small}
+use Rattle.split.proofs.Checks.{placed-fits, placed-small}
 use Rattle.split.proofs.Doing.{part-refused, part-done}
 use Rattle.split.proofs.PartWords.{part-said}
 use Rattle.split.proofs.parting.part.Goals as goal
@@ -15,9 +15,9 @@ returns-in_err-first g c =
     let no = c.in_err-first.ensures T in
     let left = part-refused r R T c.args.width c.args.layer c.args.nodes.now c.args.node _ no in
     rw (p.1, p.2) (record {
-      answer = no;
+      answer = sym no;
       steps = left;
-      words = part-said {A = Unit {0}} r R (g.met.R.Rule.reflexive c.args.rule.now) T c.args.width c.args.layer c.args.node c.args.nodes.now c.args.nodes.now (Err c.in_err-first.field-0.0) no left;
+      words = part-said r R (g.met.R.Rule.reflexive c.args.rule.now) T c.args.width c.args.layer c.args.node c.args.nodes.now c.args.nodes.now (Err c.in_err-first.field-0.0) (sym no) left;
     })
 
 pub overflow_sub-at : goal.overflow_sub-at
@@ -69,7 +69,7 @@ returns g c =
     c.part_node.ensures ∙ ap (λ m. parted_one r R T ((i - 1) * w) w (a - 1) m xs) c.count_in-count.ensures in
     let steps = part-done r R T w i xs a ys c.relabel.new.nodes may.placed may.clear long made c.relabel.ensures.passes in
     record {
-      answer = may.clear;
+      answer = sym may.clear;
       steps = steps;
-      words = part-said {A = Unit {0}} r R (g.met.R.Rule.reflexive c.args.rule.now) T w i a xs c.relabel.new.nodes (Ok tt) may.clear steps;
+      words = part-said r R (g.met.R.Rule.reflexive c.args.rule.now) T w i a xs c.relabel.new.nodes (Ok tt) (sym may.clear) steps;
     }

@@ -1,7 +1,7 @@
 use Rattle.std.proofs.Common.{◌≡◌, false, length, sym, ◌∙◌, arith}
-use Rattle.split.specs.Steps.{place_code, layer_steps}
+use Rattle.split.specs.Steps.{place_check, layer_steps}
 use Rattle.split.specs.Asked.{Placed}
-use Rattle.split.proofs.Codes.{ok-clear, err-left, clear-done, place-clear, placed-fits, placed-small}
+use Rattle.split.proofs.Checks.{ok-clear, err-left, clear-done, place-clear, placed-fits, placed-small}
 use Rattle.split.proofs.LayerWords.{layer-said}
 use Rattle.split.proofs.parting.part_layer.Goals as goal
 
@@ -13,7 +13,7 @@ returns-then-is_err g c =
     let T = g.T.Tally.sense c.args.tally.now in
     let xs = c.args.nodes.now in
     let left : (false, xs) ≡ layer_steps r R T c.args.width c.args.layer xs =
-    sym (err-left c.check_place.result (place_code r.n c.args.width (length xs) c.args.layer) _ (false, xs) c.check_place.ensures (sym c.is_err.ensures.value ∙ c.if-is_err.true)) in
+    sym (err-left c.check_place.result (place_check r.n c.args.width (length xs) c.args.layer) _ (false, xs) c.check_place.ensures (sym c.is_err.ensures.value ∙ c.if-is_err.true)) in
     record { steps = left; words = layer-said r R (g.met.R.Rule.reflexive c.args.rule.now) T c.args.width c.args.layer xs xs false left }
 
 pub overflow_mul-layer : goal.overflow_mul-layer
@@ -37,5 +37,5 @@ returns g c =
     let T = g.T.Tally.sense c.args.tally.now in
     let xs = c.args.nodes.now in
     let made : (c.part_from.result, c.part_from.new.nodes) ≡ layer_steps r R T c.args.width c.args.layer xs =
-    c.part_from.ensures ∙ sym (clear-done (place_code r.n c.args.width (length xs) c.args.layer) _ _ (ok-clear c.check_place.result _ c.check_place.ensures (sym c.is_err.ensures.value ∙ c.if-is_err.false))) in
+    c.part_from.ensures ∙ sym (clear-done (place_check r.n c.args.width (length xs) c.args.layer) _ _ (ok-clear c.check_place.result _ c.check_place.ensures (sym c.is_err.ensures.value ∙ c.if-is_err.false))) in
     record { steps = made; words = layer-said r R (g.met.R.Rule.reflexive c.args.rule.now) T c.args.width c.args.layer xs c.part_from.new.nodes c.part_from.result made }

@@ -6,7 +6,9 @@ use Rattle.tallies.specs.Tallies.{TallySense}
 use Rattle.layers.specs.declared.node.Node.{Node}
 use Rattle.layers.specs.Calls.{opened_on, run}
 use Rattle.layers.specs.Claim.{Sure, WholeSettles}
+use Rattle.layers.specs.SweepLaws.{RefineSweepsOutFrom}
 use Rattle.layers.proofs.Main.{kept}
+use Rattle.layers.proofs.Sweeping.{refine-sweeps-out}
 use Rattle.layers.proofs.Wholes.{whole-settles}
 use Rattle.labels.specs.Passes.{fits, relabelled}
 use Rattle.diagram.specs.Opening.{every_door, arcs_opened, arced}
@@ -60,4 +62,6 @@ returns g c =
           (kept _ _ R T (λ n h. g.met.R.Rule.lawful c.args.rule.now n h) (λ n h. g.met.T.Tally.lawful c.args.tally.now n h) r e f W a b xs cs);
       whole = λ e cs. subst (λ (ys : List (Node g.row.S.Denot g.row.V.Denot)). WholeSettles r R T W (run r R T W cs ys)) (sym all)
           (whole-settles _ R T (λ n h. g.met.R.Rule.lawful c.args.rule.now n h) r e W a b xs cs);
+      swept_out = λ e. subst (λ (ys : List (Node g.row.S.Denot g.row.V.Denot)). RefineSweepsOutFrom r R T W ys) (sym all)
+          (refine-sweeps-out _ R T (λ n h. g.met.R.Rule.lawful c.args.rule.now n h) r e W a b xs);
     }

@@ -1,0 +1,2 @@
+pub mod Orders
+pub mod Senses

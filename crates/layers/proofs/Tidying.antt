@@ -1,0 +1,346 @@
+-- Tidying in the subject's words: the paths stay, and exactly the nodes on a path, numbered anew in their order.
+use Rattle.std.proofs.Common.{◌≡◌, ℕ, zero, suc, ◌<◌, ◌≤◌, Bool, true, false, ◌⊎◌, List, [], ◌∷◌, length, get_or, drop, Some, None, Option, sym, refl, ap, ◌∙◌, subst, inl, inr, not-suc-le-zero, arith}
+use Rattle.std.proofs.lemmas.Bool.{true≢false, false≢true, cases_eq}
+use Rattle.std.proofs.lemmas.List.{ext_get_or}
+use Rattle.layers.specs.Flow.{Outs, Layer, Net, node, target, width, PathFrom, each_node, redirect, up, Mark, marks_next, marks_up, flags, rank, compress, renumber, tidy, tidied}
+use Rattle.layers.specs.LabelLaws.{PathTo}
+use Rattle.layers.specs.TidyLaws.{layer_of, IsOnPath, Stays, CountBelow, Becomes, IsRenumbered, IsTidied, TidyMeans, IsTidy, TidyStays}
+use Rattle.layers.proofs.Flows.{has-arc, inside, redirect-arc, mark-next, mark-up, flags-at, compress-at, rank-zero, renumber-at, tidy-keeps}
+use Rattle.layers.proofs.Shapes.{each_door-length}
+use Rattle.layers.proofs.Tied.{redirect-back, redirect-length, flags-back, renumber-back, marked_from, climbs-from}
+
+-- ---- counting
+count-only : (P : ℕ → Type 0) (b k m : ℕ) → CountBelow P b k → CountBelow P b m → k ≡ m
+count-only P zero k m x y = x ∙ sym y
+count-only P (suc b) zero zero x y = refl
+count-only P (suc b) zero (suc m) x (inl y) = absurd (x.0 y.0)
+count-only P (suc b) zero (suc m) x (inr y) = count-only P b zero (suc m) x.1 y.1
+count-only P (suc b) (suc k) zero (inl x) y = absurd (y.0 x.0)
+count-only P (suc b) (suc k) zero (inr x) y = count-only P b (suc k) zero x.1 y.1
+count-only P (suc b) (suc k) (suc m) (inl x) (inl y) = ap suc (count-only P b k m x.1 y.1)
+count-only P (suc b) (suc k) (suc m) (inl x) (inr y) = absurd (y.0 x.0)
+count-only P (suc b) (suc k) (suc m) (inr x) (inl y) = absurd (x.0 y.0)
+count-only P (suc b) (suc k) (suc m) (inr x) (inr y) = count-only P b (suc k) (suc m) x.1 y.1
+
+count-skip : (P : ℕ → Type 0) (b k : ℕ) → ¬ (P b) → CountBelow P b k → CountBelow P (suc b) k
+count-skip P b zero n h = (n, h)
+count-skip P b (suc k) n h = inr (n, h)
+
+rank-on : (fs : List Bool) (b : ℕ) → get_or fs b false ≡ true → rank fs (suc b) ≡ suc (rank fs b)
+unfolding rank
+rank-on [] b e = absurd (false≢true e)
+rank-on (true ∷ fs) zero e = ap suc (rank-zero fs)
+rank-on (false ∷ fs) zero e = absurd (false≢true e)
+rank-on (true ∷ fs) (suc b) e = ap suc (rank-on fs b e)
+rank-on (false ∷ fs) (suc b) e = rank-on fs b e
+
+rank-off : (fs : List Bool) (b : ℕ) → get_or fs b false ≡ false → rank fs (suc b) ≡ rank fs b
+unfolding rank
+rank-off [] b e = refl
+rank-off (true ∷ fs) zero e = absurd (true≢false e)
+rank-off (false ∷ fs) zero e = rank-zero fs
+rank-off (true ∷ fs) (suc b) e = ap suc (rank-off fs b e)
+rank-off (false ∷ fs) (suc b) e = rank-off fs b e
+
+-- a rank is the count of the flags before
+count-rank : (P : ℕ → Type 0) (fs : List Bool) → ((b : ℕ) → get_or fs b false ≡ true → P b) → ((b : ℕ) → P b → get_or fs b false ≡ true) → (b : ℕ) → CountBelow P b (rank fs b)
+count-rank P fs f g zero = rank-zero fs
+count-rank P fs f g (suc b) = go (get_or fs b false) refl (count-rank P fs f g b)
+  where
+    go : (q : Bool) → get_or fs b false ≡ q → CountBelow P b (rank fs b) → CountBelow P (suc b) (rank fs (suc b))
+    go true e h = rw (rank-on fs b e) (inl (f b e, h))
+    go false e h = rw (rank-off fs b e) (count-skip P b (rank fs b) (λ p. true≢false (sym (g b p) ∙ e)) h)
+
+compress-long : (fs : List Bool) (X : Layer) → length (compress fs X) ≡ rank fs (length X)
+unfolding compress rank
+compress-long [] X = refl
+compress-long (f ∷ fs) [] = refl
+compress-long (true ∷ fs) (x ∷ X) = ap suc (compress-long fs X)
+compress-long (false ∷ fs) (x ∷ X) = compress-long fs X
+
+-- ---- the flags of layer i, where fr are the marks of the first layer
+abbrev flags_of : List (Option Mark) → Net → ℕ → List Bool
+flags_of fr Ls zero = flags fr (marks_up Ls)
+flags_of fr [] (suc i) = []
+flags_of fr (L ∷ Ls) (suc i) = flags_of (marks_next fr L (width Ls)) Ls i
+
+compress-none : (fs : List Bool) → compress {A = List ℕ} fs [] ≡ []
+unfolding compress
+compress-none [] = refl
+compress-none (f ∷ fs) = refl
+
+tidy-at : (fr : List (Option Mark)) (Ls : Net) (i : ℕ) → layer_of (tidy fr Ls) i ≡ compress (flags_of fr Ls i) (redirect (λ a j b. renumber (flags_of fr Ls (suc i)) b) (layer_of Ls i))
+unfolding tidy redirect each_node
+tidy-at fr [] i = sym (compress-none (flags_of fr [] i))
+tidy-at fr (L ∷ Ls) zero = refl
+tidy-at fr (L ∷ Ls) (suc i) = tidy-at (marks_next fr L (width Ls)) Ls i
+
+-- a node from which a path leads on is within its layer
+way-within : (Ls : Net) (c : ℕ) (w : List ℕ) (b : ℕ) (v : List ℕ) → PathTo Ls c w b → PathFrom (drop (length w) Ls) b v → c < width Ls
+way-within Ls c [] b v p q = rw p (inside Ls b v q)
+way-within [] c (j ∷ w) b v p q = absurd p
+way-within (L ∷ Ls) c (j ∷ w) b v p q = has-arc L c j p.0 p.1
+
+-- a flag is that a path leads to the node from one that is marked, and one on from it
+flag-on : (fr : List (Option Mark)) (Ls : Net) (w : List ℕ) (a b : ℕ) (v : List ℕ) → get_or fr a None ≡ Some tt → PathTo Ls a w b → PathFrom (drop (length w) Ls) b v → get_or (flags_of fr Ls (length w)) b false ≡ true
+flag-on fr Ls [] a b v m p q = flags-at fr (marks_up Ls) b (rw (← p) m) (mark-up Ls b v q)
+flag-on fr [] (j ∷ w) a b v m p q = absurd p
+flag-on fr (L ∷ Ls) (j ∷ w) a b v m p q =
+    flag-on (marks_next fr L (width Ls)) Ls w p.0 b v (mark-next fr L (width Ls) a j p.0 p.1 m (way-within Ls p.0 w b v p.2 q)) p.2 q
+
+end-only : (b : ℕ) → get_or (marks_up []) b None ≡ Some tt → b ≡ 0
+unfolding marks_up up
+end-only zero e = refl
+end-only (suc b) e = absurd cc
+
+goes-on : (Ls : Net) (b : ℕ) → get_or (marks_up Ls) b None ≡ Some tt → (v : List ℕ) × PathFrom Ls b v
+goes-on [] b e = ([], end-only b e)
+goes-on (L ∷ Ls) b e = let s = climbs-from L Ls b e in let t = goes-on Ls s.1 s.3 in (s.0 ∷ t.0, (s.1, s.2, t.1))
+
+on-flag : (fr : List (Option Mark)) (Ls : Net) (i b : ℕ) → get_or (flags_of fr Ls i) b false ≡ true
+    → (a : ℕ) × (get_or fr a None ≡ Some tt) × (w : List ℕ) × PathTo Ls a w b × (length w ≡ i) × (v : List ℕ) × PathFrom (drop i Ls) b v
+on-flag fr Ls zero b e = let m = flags-back fr (marks_up Ls) b e in let g = goes-on Ls b m.1 in (b, m.0, [], refl, refl, g.0, g.1)
+on-flag fr [] (suc i) b e = absurd (false≢true e)
+on-flag fr (L ∷ Ls) (suc i) b e =
+    let s = on-flag (marks_next fr L (width Ls)) Ls i b e in
+    let m = marked_from fr L (width Ls) s.0 s.1 in
+    (m.0, m.3, m.1 ∷ s.2, (s.0, m.2, s.3), ap suc s.4, s.5, s.6)
+
+-- ---- from the first node
+abbrev start : List (Option Mark)
+start = Some tt ∷ []
+
+only-first : (a : ℕ) → get_or start a None ≡ Some tt → a ≡ 0
+only-first zero e = refl
+only-first (suc a) e = absurd cc
+
+module _ (D : Net) where
+  abbrev F : ℕ → List Bool
+  F = flags_of start D
+
+  on-path : (i b : ℕ) → get_or (F i) b false ≡ true → IsOnPath D i b
+  on-path i b e =
+      let s = on-flag start D i b e in
+      record { to = (s.2, (subst (λ (a : ℕ). PathTo D a s.2 b) (only-first s.0 s.1) s.3, s.4)); on = (s.5, s.6) }
+
+  flagged : (i b : ℕ) → IsOnPath D i b → get_or (F i) b false ≡ true
+  flagged i b o =
+      let w = o.to.0 in let e = o.to.1.1 in
+      subst (λ (k : ℕ). get_or (F k) b false ≡ true) e
+      (flag-on start D w 0 b o.on.0 refl o.to.1.0 (subst (λ (k : ℕ). PathFrom (drop k D) b o.on.0) (sym e) o.on.1))
+
+  -- below the first layer a node that stays has its rank for its new place
+  counted : (i b : ℕ) → CountBelow (Stays D (suc i)) b (rank (F (suc i)) b)
+  counted i b = count-rank (Stays D (suc i)) (F (suc i)) (on-path (suc i)) (flagged (suc i)) b
+
+  first-at : layer_of (tidied D) 0 ≡ redirect (λ a j b. renumber (F 1) b) (layer_of D 0)
+  unfolding tidied redirect each_node
+  first-at = go D
+    where
+      go : (Ls : Net) → layer_of (tidied Ls) 0 ≡ redirect (λ a j b. renumber (flags_of start Ls 1) b) (layer_of Ls 0)
+      go [] = refl
+      go (L ∷ Ls) = refl
+
+  later-at : (i : ℕ) → layer_of (tidied D) (suc i) ≡ compress (F (suc i)) (redirect (λ a j b. renumber (F (suc (suc i))) b) (layer_of D (suc i)))
+  unfolding tidied compress
+  later-at i = go D
+    where
+      go : (Ls : Net) → layer_of (tidied Ls) (suc i) ≡ compress (flags_of start Ls (suc i)) (redirect (λ a j b. renumber (flags_of start Ls (suc (suc i))) b) (layer_of Ls (suc i)))
+      go [] = refl
+      go (L ∷ Ls) = tidy-at (marks_next start L (width Ls)) Ls i
+
+  each_node-long : (f : ℕ → ℕ → ℕ → ℕ) (c : ℕ) (L : Layer) (a : ℕ) → length (node (each_node f c L) a) ≡ length (node L a)
+  unfolding each_node
+  each_node-long f c [] a = refl
+  each_node-long f c (nd ∷ L) zero = each_door-length (f c) 1 nd
+  each_node-long f c (nd ∷ L) (suc a) = each_node-long f (suc c) L a
+
+  renumbered : (i : ℕ) (L : Layer) (a : ℕ) → IsRenumbered D i (node L a) (node (redirect (λ a j b. renumber (F (suc i)) b) L) a)
+  unfolding redirect
+  renumbered i L a =
+      let f : ℕ → ℕ → ℕ → ℕ = λ a j b. renumber (F (suc i)) b in
+      record {
+        doors = each_node-long f 0 L a;
+        arcs = λ j c. (
+          (λ e. let q = redirect-back f L a j c e in let h = renumber-back (F (suc i)) q.0 c q.2 in
+              (q.0, q.1, record { stays = on-path (suc i) q.0 h.0; before = subst (CountBelow (Stays D (suc i)) q.0) h.1 (counted i q.0) })),
+          (λ s. redirect-arc f L a j s.0 s.1 ∙ renumber-at (F (suc i)) s.0 (flagged (suc i) s.0 s.2.stays)
+              ∙ ap suc (count-only (Stays D (suc i)) s.0 (rank (F (suc i)) s.0) c (counted i s.0) s.2.before)),
+        );
+      }
+
+  all-count : (n : ℕ) → CountBelow (Stays D 0) n n
+  all-count zero = refl
+  all-count (suc n) = inl (tt, all-count n)
+
+  as-many : (i : ℕ) → CountBelow (Stays D i) (length (layer_of D i)) (length (layer_of (tidied D) i))
+  as-many zero = rw (first-at, redirect-length) (all-count (length (layer_of D 0)))
+  as-many (suc i) =
+      let f : ℕ → ℕ → ℕ → ℕ = λ a j b. renumber (F (suc (suc i))) b in
+      let n = redirect-length f (layer_of D (suc i)) in
+      rw (later-at i) (subst (CountBelow (Stays D (suc i)) (length (layer_of D (suc i)))) (ap (rank (F (suc i))) (sym n) ∙ sym (compress-long (F (suc i)) (redirect f (layer_of D (suc i))))) (counted i (length (layer_of D (suc i)))))
+
+  place : (i b : ℕ) → b < length (layer_of D i) → Stays D i b → (k : ℕ) × Becomes D i b k × IsRenumbered D i (node (layer_of D i) b) (node (layer_of (tidied D) i) k)
+  place zero b h s = (b, record { stays = tt; before = all-count b }, rw first-at (renumbered 0 (layer_of D 0) b))
+  place (suc i) b h s =
+      let e = flagged (suc i) b s in
+      let X = redirect (λ a j b. renumber (F (suc (suc i))) b) (layer_of D (suc i)) in
+      (rank (F (suc i)) b, record { stays = s; before = counted i b }, rw (later-at i, compress-at (F (suc i)) X b e) (renumbered (suc i) (layer_of D (suc i)) b))
+
+-- ---- the paths
+tidy-back : (fr : List (Option Mark)) (Ls : Net) (a : ℕ) (w : List ℕ) → get_or (flags fr (marks_up Ls)) a false ≡ true → PathFrom (tidy fr Ls) (rank (flags fr (marks_up Ls)) a) w → PathFrom Ls a w
+unfolding tidy
+tidy-back fr [] a [] f p = end-only a (flags-back fr (marks_up []) a f).1
+tidy-back fr [] a (j ∷ w) f p = absurd p
+tidy-back fr (L ∷ Ls) a [] f p = absurd p
+tidy-back fr (L ∷ Ls) a (j ∷ w) f p =
+    let fr' = marks_next fr L (width Ls) in
+    let fs = flags fr' (marks_up Ls) in
+    let r : ℕ → ℕ → ℕ → ℕ = λ a j b. renumber fs b in
+    let q = redirect-back r L a j p.0 (sym (ap (λ (nd : List ℕ). target nd j) (compress-at (flags fr (marks_up (L ∷ Ls))) (redirect r L) a f)) ∙ p.1) in
+    let h = renumber-back fs q.0 p.0 q.2 in
+    (q.0, q.1, tidy-back fr' Ls q.0 w h.0 (subst (λ (c : ℕ). PathFrom (tidy fr' Ls) c w) (sym h.1) p.2))
+
+pub tidied-back : (Ls : Net) (w : List ℕ) → PathFrom (tidied Ls) 0 w → PathFrom Ls 0 w
+unfolding tidied
+tidied-back [] w p = p
+tidied-back (L ∷ Ls) [] p = absurd p
+tidied-back (L ∷ Ls) (j ∷ w) p =
+    let fr = marks_next start L (width Ls) in
+    let fs = flags fr (marks_up Ls) in
+    let q = redirect-back (λ a j b. renumber fs b) L 0 j p.0 p.1 in
+    let h = renumber-back fs q.0 p.0 q.2 in
+    (q.0, q.1, tidy-back fr Ls q.0 w h.0 (subst (λ (c : ℕ). PathFrom (tidy fr Ls) c w) (sym h.1) p.2))
+
+tidy-layers : (fr : List (Option Mark)) (Ls : Net) → length (tidy fr Ls) ≡ length Ls
+unfolding tidy
+tidy-layers fr [] = refl
+tidy-layers fr (L ∷ Ls) = ap suc (tidy-layers (marks_next fr L (width Ls)) Ls)
+
+tidied-layers : (Ls : Net) → length (tidied Ls) ≡ length Ls
+unfolding tidied
+tidied-layers [] = refl
+tidied-layers (L ∷ Ls) = ap suc (tidy-layers (marks_next start L (width Ls)) Ls)
+
+tidies : (D : Net) → IsTidied D (tidied D)
+tidies D = record {
+  paths = λ w. (tidied-back D w, tidy-keeps D w);
+  layers = tidied-layers D;
+  nodes = as-many D;
+  node_at = place D;
+}
+
+-- ---- these facts are so of one net alone
+-- of n that are counted there is one before which k are
+count-find : (P : ℕ → Type 0) (m n k : ℕ) → CountBelow P m n → k < n → (b : ℕ) × (b < m) × P b × CountBelow P b k
+count-find P zero n k h lt = absurd (omega arith)
+count-find P (suc m) zero k h lt = absurd (not-suc-le-zero lt)
+count-find P (suc m) (suc n) k (inl h) lt =
+    elim (cases_eq k n) [
+      | inl e ↦ (m, omega arith, h.0, rw e h.1)
+      | inr ne ↦ (let f = count-find P m n k h.1 (omega arith) in (f.0, omega arith, f.2, f.3))
+    ]
+count-find P (suc m) (suc n) k (inr h) lt = let f = count-find P m (suc n) k h.1 lt in (f.0, omega arith, f.2, f.3)
+
+same-number : (x y : ℕ) → ((c : ℕ) → x ≡ suc c → y ≡ suc c) → ((c : ℕ) → y ≡ suc c → x ≡ suc c) → x ≡ y
+same-number zero zero f g = refl
+same-number zero (suc y) f g = g y refl
+same-number (suc x) y f g = sym (f x refl)
+
+same-outs : (D : Net) (i : ℕ) (old x y : Outs) → IsRenumbered D i old x → IsRenumbered D i old y → x ≡ y
+same-outs D i old x y p q = ext_get_or 0 x y (p.doors ∙ sym q.doors) (λ k lt. same-number (get_or x k 0) (get_or y k 0)
+    (λ c e. (q.arcs (suc k) c).1 ((p.arcs (suc k) c).0 e))
+    (λ c e. (p.arcs (suc k) c).1 ((q.arcs (suc k) c).0 e)))
+
+module _ (D E E' : Net) (x : IsTidied D E) (y : IsTidied D E') where
+  same-layer : (i : ℕ) → layer_of E i ≡ layer_of E' i
+  same-layer i = ext_get_or [] (layer_of E i) (layer_of E' i) (count-only (Stays D i) (length (layer_of D i)) (length (layer_of E i)) (length (layer_of E' i)) (x.nodes i) (y.nodes i)) (λ k lt.
+      let f = count-find (Stays D i) (length (layer_of D i)) (length (layer_of E i)) k (x.nodes i) lt in
+      let u = x.node_at i f.0 f.1 f.2 in
+      let v = y.node_at i f.0 f.1 f.2 in
+      let old = node (layer_of D i) f.0 in
+      same-outs D i old (node (layer_of E i) k) (node (layer_of E' i) k)
+      (subst (λ (m : ℕ). IsRenumbered D i old (node (layer_of E i) m)) (count-only (Stays D i) f.0 u.0 k u.1.before f.3) u.2)
+      (subst (λ (m : ℕ). IsRenumbered D i old (node (layer_of E' i) m)) (count-only (Stays D i) f.0 v.0 k v.1.before f.3) v.2))
+
+  same-net : E ≡ E'
+  same-net = ext_get_or [] E E' (x.layers ∙ sym y.layers) (λ i lt. same-layer i)
+
+pub tidy-means : TidyMeans
+tidy-means D E = (λ x. same-net D E (tidied D) x (tidies D), λ e. rw e (tidies D))
+
+-- ---- what tidying leaves alone
+count-le : (P : ℕ → Type 0) (m n : ℕ) → CountBelow P m n → n ≤ m
+count-le P zero n h = omega arith
+count-le P (suc m) zero h = omega arith
+count-le P (suc m) (suc n) (inl h) = omega (arith, count-le P m n h.1)
+count-le P (suc m) (suc n) (inr h) = omega (arith, count-le P m (suc n) h.1)
+
+count-full : (P : ℕ → Type 0) (m : ℕ) → CountBelow P m m → (b : ℕ) → b < m → P b
+count-full P zero h b lt = absurd (not-suc-le-zero lt)
+count-full P (suc m) (inl h) b lt = elim (cases_eq b m) [ inl e ↦ rw e h.0 | inr ne ↦ count-full P m h.1 b (omega arith) ]
+count-full P (suc m) (inr h) b lt = absurd (omega (arith, count-le P m (suc m) h.1))
+
+count-each : (P : ℕ → Type 0) (m : ℕ) → ((b : ℕ) → b < m → P b) → CountBelow P m m
+count-each P zero h = refl
+count-each P (suc m) h = inl (h m (omega arith), count-each P m (λ b lt. h b (omega arith)))
+
+-- a place from which a path leads on is within its layer, or the end
+place-within : (D : Net) (i c : ℕ) (v : List ℕ) → PathFrom (drop i D) c v → (c < length (layer_of D i)) ⊎ (c ≡ 0)
+place-within [] zero c [] p = inr p
+place-within [] zero c (j ∷ v) p = absurd p
+place-within [] (suc i) c [] p = inr p
+place-within [] (suc i) c (j ∷ v) p = absurd p
+place-within (L ∷ D) zero c [] p = absurd p
+place-within (L ∷ D) zero c (j ∷ v) p = inl (has-arc L c j p.0 p.1)
+place-within (L ∷ D) (suc i) c v p = place-within D i c v p
+
+-- where all stay, each keeps its place
+own-place : (D : Net) (i b k : ℕ) → ((c : ℕ) → c < b → Stays D i c) → CountBelow (Stays D i) b k → b ≡ k
+own-place D i b k h n = count-only (Stays D i) b b k (count-each (Stays D i) b h) n
+
+same-tidy : (D : Net) → IsTidied D D → IsTidy D
+same-tidy D t = record {
+  nodes = λ i b lt. stays (suc i) b lt;
+  arcs = λ i a j b e.
+      let here : a < length (layer_of D i) = has-arc (layer_of D i) a j b e in
+      let s = t.node_at i a here (stays i a here) in
+      let o : a ≡ s.0 = own-place D i a s.0 (λ c lt. stays i c (omega arith)) s.1.before in
+      let q = (s.2.arcs j b).0 (subst (λ (k : ℕ). target (node (layer_of D i) k) j ≡ suc b) o e) in
+      let z : q.0 ≡ b = omega (arith, q.1, e) in
+      subst (IsOnPath D (suc i)) z q.2.stays;
+}
+  where
+    stays : (i b : ℕ) → b < length (layer_of D i) → Stays D i b
+    stays i b lt = count-full (Stays D i) (length (layer_of D i)) (t.nodes i) b lt
+
+tidy-same : (D : Net) → IsTidy D → IsTidied D D
+tidy-same D t = record {
+  paths = λ w. (λ p. p, λ p. p);
+  layers = refl;
+  nodes = λ i. count-each (Stays D i) (length (layer_of D i)) (λ b lt. stays i b lt);
+  node_at = λ i b lt s. (
+    b,
+    record { stays = s; before = count-each (Stays D i) b (λ c l. stays i c (omega arith)) },
+    record {
+      doors = refl;
+      arcs = λ j c. (
+        (λ e. let o = t.arcs i b j c e in (c, e, record { stays = o; before = count-each (Stays D (suc i)) c (before i c o) })),
+        (λ q. e_at i b j c q.0 q.1 (own-place D (suc i) q.0 c (before i q.0 q.2.stays) q.2.before)),
+      );
+    },
+  );
+}
+  where
+    stays : (i b : ℕ) → b < length (layer_of D i) → Stays D i b
+    stays zero b lt = tt
+    stays (suc i) b lt = t.nodes i b lt
+
+    before : (i c : ℕ) → IsOnPath D (suc i) c → (b : ℕ) → b < c → IsOnPath D (suc i) b
+    before i c o b lt = elim (place-within D (suc i) c o.on.0 o.on.1) [ inl h ↦ t.nodes i b (omega arith) | inr e ↦ absurd (omega arith) ]
+
+    e_at : (i b j c d : ℕ) → target (node (layer_of D i) b) j ≡ suc d → d ≡ c → target (node (layer_of D i) b) j ≡ suc c
+    e_at i b j c d e z = e ∙ ap suc z
+
+pub tidy-stays : TidyStays
+tidy-stays D = (λ t. sym ((tidy-means D D).0 (tidy-same D t)), λ e. same-tidy D ((tidy-means D D).1 (sym e)))

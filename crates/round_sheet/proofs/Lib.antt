@@ -1,0 +1,4 @@
+pub mod SheetClaims
+pub mod SheetOpened
+pub mod SheetSets
+pub mod SheetTexts

@@ -1,0 +1,48 @@
+use Rattle.std.proofs.Common.{rules, ◌≡◌, ℕ, [], ◌∷◌, sym, ap, subst, ◌∙◌}
+use Rattle.allowed.specs.Senses.{late_of}
+use Rattle.layers.specs.Calls.{Refine}
+use Rattle.diagram.specs.declared.room.Room.{Room}
+use Rattle.refine.specs.Answers.{IsInnerIfFull}
+use Rattle.round_sheet.specs.declared.sheet.Sheet.{Sheet}
+use Rattle.round_sheet.specs.Claims.{NoneUndercuts, MustsHold, BoundIsReached, NoMustMissing}
+use Rattle.round_sheet.specs.Sheets.{refined_for, sheet_of}
+use Rattle.round_sheet.proofs.SheetClaims.{none_undercuts, musts_hold, bound_reached, none_missing}
+use Rattle.round_sheet.proofs.SheetOpened.{claimed, settles, is_refined, is_sheet}
+use Rattle.round_sheet.proofs.sheet.sheet_on.Goals as goal
+
+pub returns : goal.returns
+returns c =
+    let m = c.args.room in
+    let r = m.round.now in
+    let a = c.of-rule.result.first.round in
+    let b = c.of-rule.result.second.round in
+    let t = c.of-tally.result.round in
+    let ea = c.of-rule.ensures.first in
+    let eb = c.of-rule.ensures.second in
+    let et = c.of-tally.ensures in
+    let ew = c.requires.width in
+    let lent = c.args.records.now in
+    let open' = c.open-diagram in
+    let opened = open'.result.nodes.now in
+    let eo = open'.ensures.records in
+    let serves : (a.now.n ≡ r.n) × (b.now.n ≡ r.n) = (ap (λ x. x.now.n) ea, ap (λ x. x.now.n) eb) in
+    let sure = claimed m a b t ea eb et ew lent opened eo (open'.ensures.claim serves (ap (λ x. x.now.n) et) (Refine ∷ [])) in
+    let done = is_refined m a b t ea eb et ew lent opened eo open'.result.room open'.ensures.room in
+    let k = c.refine-refined.new.self in
+    let room = c.refine-refined.ensures.room ∙ open'.ensures.room in
+    let nodes : k.nodes.now ≡ (refined_for r lent).1 = c.refine-refined.ensures.records ∙ ap (λ p. p.1) done in
+    let s : Sheet = record { bound = c.bound.result; refined = c.refine-refined.result; settled = c.settled.result; musts = c.musts_of.result } in
+    let sheet : s ≡ sheet_of r lent =
+    is_sheet m a b t ea eb et ew lent opened eo k.room k.nodes.now s room nodes c.bound.ensures (c.refine-refined.ensures.answer ∙ ap (λ p. p.0) done) (c.settled.ensures (late_of r)) c.musts_of.ensures in
+    let back = sym sheet in
+    let whole = settles m a b t ea eb et ew lent opened eo (open'.ensures.whole serves []) in
+    record {
+      records = search (rules, nodes);
+      sheet = sheet;
+      layer = subst (λ (x : Room). IsInnerIfFull x.round.now.n c.refine-refined.result) open'.ensures.room c.refine-refined.ensures.within;
+      none_undercuts = subst (λ (s : Sheet). NoneUndercuts r s.bound) back (none_undercuts r (refined_for r lent).1 sure);
+      musts_hold = subst (λ (s : Sheet). MustsHold r s.musts) back (musts_hold r (refined_for r lent).1 sure);
+      whole_settles = λ e. ap (λ s. s.settled) sheet ∙ whole (sym (ap (λ s. s.refined) sheet) ∙ e);
+      bound_reached = λ e. subst (λ (s : Sheet). BoundIsReached r s.bound) back (bound_reached r (refined_for r lent).1 sure (sym (ap (λ s. s.settled) sheet) ∙ e));
+      none_missing = λ e. subst (λ (s : Sheet). NoMustMissing r s.musts) back (none_missing r (refined_for r lent).1 sure (sym (ap (λ s. s.settled) sheet) ∙ e));
+    }

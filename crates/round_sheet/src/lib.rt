@@ -1,0 +1,8 @@
+//! The round sheet as a value: what the refined diagram of a round says of the round's allowed orders.
+#![tactic(auto)]
+
+mod lines;
+mod read;
+pub mod sheet;
+#[cfg(test)]
+mod tests;
