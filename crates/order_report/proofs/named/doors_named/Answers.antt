@@ -1,5 +1,4 @@
-use Rattle.std.proofs.Common.{Global, List, String, string_bytes, slice_index_or, subst, sym, take, ◌+◌, ◌++◌, ◌∷◌, ◌∙◌, [], ap, arith, rules, ℕ, ◌≡◌}
-use Rattle.std.specs.List.{AllZip}
+use Rattle.std.proofs.Common.{Global, List, String, string_bytes, slice_index_or, subst, sym, take, ◌++◌, ◌∷◌, ◌∙◌, [], ap, arith, rules, ℕ, ◌≡◌}
 use Rattle.std.proofs.lemmas.List.{take_more}
 use Rattle.std.proofs.lemmas.Slice.Zip.{all_zipped_more}
 use Rattle.order_report.specs.Named.{IsDoorText}

@@ -1,0 +1,10 @@
+//! The program `sheet` on a round of 16 doors whose diagram does not fit.
+#![tactic(auto)]
+
+use round_sheet::sheet::EMPTY;
+use std::process::ExitCode;
+
+fn main(rt: HostRuntime) -> anyhow::Result<ExitCode> {
+    let mut records = [EMPTY; 257];
+    cli::sheet::sheet_program(&rt, &mut records)
+}
