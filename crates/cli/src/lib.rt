@@ -4,4 +4,5 @@
 
 pub mod input;
 pub mod order;
+mod output;
 pub mod sheet;

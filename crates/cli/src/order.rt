@@ -1,19 +1,11 @@
 //! The program `order`: what is said of one order of a round's doors.
 use crate::input::read_round;
-use order_report::answer::Answer;
+use crate::output::{answered, refused};
 use order_report::named::doors_named;
+use order_report::report::{NoOrder, Report};
 use round::table::Round;
 use std::env;
 use std::process::ExitCode;
-
-/// Prints a refusal or an answer, and tells the status to end with.
-fn told(rt: &HostRuntime, answer: &Answer<'_>) -> anyhow::Result<ExitCode> {
-    println!(rt; "{answer}")?;
-    Ok(match answer {
-        Answer::Report(_) => ExitCode::SUCCESS,
-        Answer::NoOrder => ExitCode::FAILURE,
-    })
-}
 
 /// The arguments, without the program's own name.
 fn arguments(rt: &HostRuntime) -> anyhow::Result<Vec<String>> {
@@ -24,23 +16,23 @@ fn arguments(rt: &HostRuntime) -> anyhow::Result<Vec<String>> {
     Ok(arguments)
 }
 
-/// Answers for the doors that the arguments name.
-fn answer_for(rt: &HostRuntime, round: &Round) -> anyhow::Result<ExitCode> {
+/// Reports on the order that the arguments give.
+fn report_on(rt: &HostRuntime, round: &Round) -> anyhow::Result<ExitCode> {
     let arguments = arguments(rt)?;
-    match doors_named(arguments.as_slice(), rt.alloc())? {
-        Some(doors) => told(rt, &Answer::of(round, doors.as_slice(), rt.alloc())?),
-        None => told(rt, &Answer::NoOrder),
+    let Some(doors) = doors_named(arguments.as_slice(), rt.alloc())? else {
+        return refused(rt, NoOrder);
+    };
+    match Report::of(round, doors.as_slice(), rt.alloc())? {
+        Some(report) => answered(rt, report),
+        None => refused(rt, NoOrder),
     }
 }
 
-/// Reads a round, and reports on the order of its doors that the arguments give. A text that is refused and doors
-/// that are no order are printed as refused, with status 1.
+/// Reads a round, and reports on the order of its doors that the arguments give. What is refused, the text or the
+/// order, is printed as its refusal, with status 1.
 pub fn order_program(rt: &HostRuntime) -> anyhow::Result<ExitCode> {
-    match read_round(rt)? {
-        Ok(round) => answer_for(rt, &round),
-        Err(refusal) => {
-            println!(rt; "{refusal}")?;
-            Ok(ExitCode::FAILURE)
-        }
+    match read_round(rt.stdin(), rt.alloc())? {
+        Ok(round) => report_on(rt, &round),
+        Err(refusal) => refused(rt, refusal),
     }
 }

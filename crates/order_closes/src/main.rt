@@ -1,4 +1,4 @@
-//! The same program on an order that comes to a door after it closes.
+//! The program `order` on an order that comes to a door after it closes.
 #![tactic(auto)]
 
 use std::process::ExitCode;

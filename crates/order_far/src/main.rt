@@ -1,4 +1,4 @@
-//! The same program on an order of 16 doors that breaks a pair.
+//! The program `order` on an order of 16 doors that breaks a pair.
 #![tactic(auto)]
 
 use std::process::ExitCode;

@@ -1,4 +1,4 @@
-//! The same program on an order with which the van would hold less than nothing.
+//! The program `order` on an order with which the van would hold less than nothing.
 #![tactic(auto)]
 
 use std::process::ExitCode;

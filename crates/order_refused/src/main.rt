@@ -1,4 +1,4 @@
-//! The same program with an argument that names no door.
+//! The program `order` on an argument that names no door.
 #![tactic(auto)]
 
 use std::process::ExitCode;

@@ -1,6 +1,5 @@
-//! How a report and an answer read: lines, with a line feed between them and tabs between a line's fields.
-use crate::answer::Answer;
-use crate::report::Report;
+//! How a report reads: lines of fields, with tabs between the fields and a line feed at the end of each line.
+use crate::report::{NoOrder, Report};
 use orders::verdict::Verdict;
 use std::fmt;
 
@@ -37,21 +36,20 @@ impl fmt::Display for Report<'_> {
         }
         let verdict = VerdictLine(self.verdict);
         let (driving, (doors, minutes)) = (self.driving, self.late);
-        write!(f, "{verdict}\ndriving\t{driving}\nlate\t{doors}\t{minutes}")
+        write!(
+            f,
+            "{verdict}\ndriving\t{driving}\nlate\t{doors}\t{minutes}\n"
+        )
     }
 }
 
-/// The report, or that the doors named are no order.
-impl fmt::Display for Answer<'_> {
-    ghost use Rattle.std.specs.Prelude.{Some};
-    ghost use Rattle.order_report.specs.Texts.{answer_text};
+/// That there is no report, with no line feed, as the other refusals.
+impl fmt::Display for NoOrder {
+    ghost use Rattle.std.specs.Prelude.{Some, codes};
 
-    ghost output = { λ answer. Some (answer_text answer) };
+    ghost output = { λ _. Some (codes "refused\torder") };
 
     fn fmt<W: fmt::Write>(&self, f: &mut fmt::Formatter<W>) -> fmt::Result {
-        match self {
-            Answer::Report(report) => write!(f, "{report}"),
-            Answer::NoOrder => write!(f, "refused\torder"),
-        }
+        write!(f, "refused\torder")
     }
 }

@@ -1,4 +1,4 @@
-//! The same program with doors that are not all of the round.
+//! The program `order` on doors that are not all of the round.
 #![tactic(auto)]
 
 use std::process::ExitCode;

@@ -1,4 +1,4 @@
-//! The same program on a text that is refused.
+//! The program `order` on a text that is refused.
 #![tactic(auto)]
 
 use std::process::ExitCode;

@@ -1,12 +1,11 @@
-//! The round sheet: reads a round's text on standard input, and prints a cost that no allowed order undercuts, and which doors
-//! have to come ahead of which.
+//! The round sheet: reads a round's text on standard input, opens its diagram, refines it, and prints a cost that no
+//! allowed order undercuts, and which doors have to come ahead of which.
 #![tactic(auto)]
 
-use cli::sheet::sheet_program;
 use round_sheet::sheet::EMPTY;
 use std::process::ExitCode;
 
 fn main(rt: HostRuntime) -> anyhow::Result<ExitCode> {
     let mut records = [EMPTY; 257];
-    sheet_program(&rt, &mut records)
+    cli::sheet::sheet_program(&rt, &mut records)
 }

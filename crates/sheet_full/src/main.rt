@@ -1,11 +1,10 @@
-//! The same program on a round of which a layer gets full.
+//! The program `sheet` on a round of 16 doors whose diagram does not fit.
 #![tactic(auto)]
 
-use cli::sheet::sheet_program;
 use round_sheet::sheet::EMPTY;
 use std::process::ExitCode;
 
 fn main(rt: HostRuntime) -> anyhow::Result<ExitCode> {
     let mut records = [EMPTY; 257];
-    sheet_program(&rt, &mut records)
+    cli::sheet::sheet_program(&rt, &mut records)
 }

@@ -1,21 +1,17 @@
 //! Sheets of many rounds: reads texts on standard input, each with an empty line after it, and prints the sheet of each in
-//! turn, with whether the diagram is settled after its second line, to be compared with sheets that another program worked
-//! out.
+//! turn, and whether its diagram is settled, to be compared with sheets that another program worked out.
 #![tactic(auto)]
 
 use anyhow::anyhow;
 use round::table::Round;
-use round_sheet::sheet::{EMPTY, Sheet};
+use round_sheet::sheet::{EMPTY, RECORDS, Sheet};
 use text::reading::read_bounded;
 
-fn print_sheet(rt: &HostRuntime, round: &Round) -> anyhow::Result<()> {
-    let mut records = [EMPTY; 257];
-    let Ok(sheet) = Sheet::of(round, &mut records) else {
-        return Err(anyhow!("the diagram is refused"));
-    };
+/// The lines of the sheet; behind that of refine, the second, whether the diagram is settled.
+fn print_sheet(rt: &HostRuntime, sheet: &Sheet) -> anyhow::Result<()> {
     let settled = if sheet.settled { "yes" } else { "no" };
     let text = format!(in rt.alloc(); "{sheet}")?;
-    for (k, line) in text.lines().enumerate() {
+    for (k, line) in text.as_str().lines().enumerate() {
         println!(rt; "{line}")?;
         if k == 1 {
             println!(rt; "settled\t{settled}")?;
@@ -24,16 +20,18 @@ fn print_sheet(rt: &HostRuntime, round: &Round) -> anyhow::Result<()> {
     Ok(())
 }
 
-// The sheet of one text, under its number.
+/// The sheet of one text, under its number.
 fn print_text(rt: &HostRuntime, number: usize, text: &str) -> anyhow::Result<()> {
     let mut round = Round::fresh();
-    match read_bounded(&mut round, text.as_bytes()) {
-        Ok(()) => {
-            let n = round.n;
-            println!(rt; "sheet\t{number}\tdoors\t{n}")?;
-            print_sheet(rt, &round)
-        }
-        Err(_) => Err(anyhow!("a text is refused")),
+    if read_bounded(&mut round, text.as_bytes()).is_err() {
+        return Err(anyhow!("a text is refused"));
+    }
+    let n = round.n;
+    println!(rt; "sheet\t{number}\tdoors\t{n}")?;
+    let mut records = [EMPTY; RECORDS];
+    match Sheet::of(&round, &mut records) {
+        Ok(sheet) => print_sheet(rt, &sheet),
+        Err(_) => Err(anyhow!("the diagram is refused")),
     }
 }
 

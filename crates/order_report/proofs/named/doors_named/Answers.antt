@@ -1,14 +1,17 @@
-use Rattle.std.proofs.Common.{Global, List, String, string_bytes, slice_index_or, subst, sym, take, ◌+◌, ◌++◌, ◌∷◌, ◌∙◌, [], ap, arith, rules, ℕ, ◌≡◌}
-use Rattle.std.specs.List.{AllZip}
+use Rattle.std.proofs.Common.{Global, List, String, string_bytes, slice_index_or, subst, sym, take, ◌++◌, ◌∷◌, ◌∙◌, [], ap, arith, rules, ℕ, ◌≡◌}
 use Rattle.std.proofs.lemmas.List.{take_more}
 use Rattle.std.proofs.lemmas.Slice.Zip.{all_zipped_more}
 use Rattle.order_report.specs.Named.{IsDoorText}
 use Rattle.order_report.proofs.named.doors_named.Goals as goal
 
 pub returns-in-None : goal.returns-in-None
-returns-in-None c =
-    (c.loop-text.text-index, c.text-item.result, omega arith, search rules,
-    λ j h. c.in-None.ensures j (subst (λ (t : List ℕ). IsDoorText t j) (sym c.as_str.ensures.value) h))
+returns-in-None c = (
+  c.loop-text.text-index,
+  c.text-item.result,
+  omega arith,
+  search rules,
+  λ j h. c.in-None.ensures j (subst (λ (t : List ℕ). IsDoorText t j) (sym c.as_str.ensures.value) h),
+)
 
 pub loop-text-preserved : goal.loop-text-preserved
 loop-text-preserved c =

@@ -1,11 +1,10 @@
-//! The same program on a round in which pairs, load and hours each decide.
+//! The program `sheet` on a round in which pairs, load and hours each decide.
 #![tactic(auto)]
 
-use cli::sheet::sheet_program;
 use round_sheet::sheet::EMPTY;
 use std::process::ExitCode;
 
 fn main(rt: HostRuntime) -> anyhow::Result<ExitCode> {
     let mut records = [EMPTY; 257];
-    sheet_program(&rt, &mut records)
+    cli::sheet::sheet_program(&rt, &mut records)
 }

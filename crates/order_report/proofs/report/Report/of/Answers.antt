@@ -1,7 +1,7 @@
 use Rattle.std.proofs.Common.{rules, arith}
 use Rattle.std.proofs.lemmas.Grind.{common_steps}
 use Rattle.order_report.proofs.Meaning.{no_full_order, full_order, own_verdict, own_meaning, allowed_exactly}
-use Rattle.order_report.proofs.answer.Answer.of.Goals as goal
+use Rattle.order_report.proofs.report.Report.of.Goals as goal
 
 pub returns-in_default : goal.returns-in_default
 returns-in_default c = no_full_order _ _ c.in_default.ensures
@@ -13,15 +13,13 @@ returns c =
     let told = c.verdict-verdict.ensures in
     let value = own_verdict c.args.round _ _ _ c.args.doors _ _ rule.first rule.second same.0 same.1 told.value in
     let means = own_meaning c.args.round _ _ _ c.args.doors _ _ rule.first rule.second same.0 same.1 told.means in
-    let whole = full_order c.args.round _ _ _ c.args.doors _ _ rule.first rule.second same.0 same.1 c.in-Some.order.part value c.in_default-verdict.not-Incomplete in (
-      whole,
-      record {
-        doors = search rules;
-        finishes = search rules;
-        verdict = value;
-        means = means;
-        allowed = allowed_exactly _ _ _ means;
-        driving = search rules;
-        late = grind (arith, common_steps);
-      },
-    )
+    record {
+      full = full_order c.args.round _ _ _ c.args.doors _ _ rule.first rule.second same.0 same.1 c.in-Some.order.part value c.in_default-verdict.not-Incomplete;
+      doors = search rules;
+      finishes = search rules;
+      verdict = value;
+      means = means;
+      allowed = allowed_exactly _ _ _ means;
+      driving = search rules;
+      late = grind (arith, common_steps);
+    }
