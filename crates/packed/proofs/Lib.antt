@@ -2,6 +2,6 @@ mod Bytes
 mod Lists
 mod Long
 mod Musts
-mod OnReads
+pub mod OnReads
 mod Parts
 mod Turns
