@@ -155,15 +155,19 @@ fn refusals() -> bool {
     let mut c = Chance::new(7);
     let text = Round::around(&mut c, 5, 80, 10, 1).text();
     let call = bytes([5, 0, 0, 0]);
-    let cases: [(&str, &[u8], usize, &[u8], usize, i64); 8] = [
+    let long = text.clone() + &"first\t1\t2\n".repeat(1639);
+    let cases: [(&str, &[u8], usize, &[u8], usize, i64); 11] = [
         ("fits", text.as_bytes(), 4, &call, 92, 92),
         ("no text", b"", 4, &call, 92, -1),
         ("text cut short", &text.as_bytes()[..text.len() - 1], 4, &call, 92, -6),
+        ("long text", long.as_bytes(), 4, &call, 92, -7),
         ("width 0", text.as_bytes(), 0, &call, 92, -10),
         ("width 129", text.as_bytes(), 129, &call, 92, -10),
-        ("half a call", text.as_bytes(), 4, &call[..8], 92, -30),
-        ("no such call", text.as_bytes(), 4, &[9; 16], 92, -30),
-        ("short out", text.as_bytes(), 4, &call, 91, -31),
+        ("half a call", text.as_bytes(), 4, &call[..8], 92, -100),
+        ("no such call", text.as_bytes(), 4, &[9; 16], 92, -100),
+        ("no such call, width 0", text.as_bytes(), 0, &[9; 16], 92, -10),
+        ("no such call, short out", text.as_bytes(), 4, &[9; 16], 91, -100),
+        ("short out", text.as_bytes(), 4, &call, 91, -101),
     ];
     cases.iter().fold(true, |good, &(what, text, width, calls, long, expected)| {
         let mut out = vec![0xee; long];

@@ -24,12 +24,14 @@ extern "C" {
  *
  *   -1 to -7   the text is refused, with that number (docs/ROUND.md)
  *   -10        the width is not 1 to 128
- *   -30        the calls are no calls: not 16 bytes each, or of an unknown kind
- *   -31        `out` is too short
+ *   -100       the calls are no calls: not 16 bytes each, or of an unknown kind
+ *   -101       `out` is too short
+ *
+ * From -100 on the numbers are these functions' own: no call on a diagram has them.
  */
 #define MORVUGES_BAD_WIDTH (-10)
-#define MORVUGES_BAD_CALLS (-30)
-#define MORVUGES_SHORT_OUT (-31)
+#define MORVUGES_BAD_CALLS (-100)
+#define MORVUGES_SHORT_OUT (-101)
 
 /*
  * A call is 16 bytes: the word of its kind and three words more, which are not looked at where nothing is named below.

@@ -1,3 +1,0 @@
-pub mod Answers
-pub mod Bytes
-pub mod Senses

@@ -1,6 +1,0 @@
-use Rattle.std.proofs.Common.{◌≡◌, ◌+◌, ◌/◌, length}
-use Rattle.capi.specs.Bytes.{Kept}
-use Rattle.capi.proofs.work.make_all.Given as goal
-
-abbrev pub invariant-loop-k : goal.invariant-loop-k
-invariant-loop-k l = (length l.out ≡ length l.initial.out) × Kept (l.at + length l.calls / 4) l.initial.out l.out

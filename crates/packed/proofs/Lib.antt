@@ -1,0 +1,7 @@
+mod Bytes
+mod Lists
+mod Long
+mod Musts
+pub mod OnReads
+mod Parts
+mod Turns

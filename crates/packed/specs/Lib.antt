@@ -1,0 +1,7 @@
+pub mod Answers
+pub mod Often
+pub mod Refusals
+pub mod Requests
+pub mod Senses
+pub mod Sheets
+pub mod Words

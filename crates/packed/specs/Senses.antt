@@ -1,0 +1,35 @@
+-- What the rule of pairs and load together answers, and the tally of late doors.
+use Rattle.std.specs.Prelude.{ℕ, List}
+use Rattle.round.specs.declared.table.Round.{Round}
+use Rattle.rules.specs.declared.both.Both.{Both}
+use Rattle.rules.specs.declared.load.Interval.{Interval}
+use Rattle.rules.specs.declared.load.Load.{Load}
+use Rattle.rules.specs.declared.pairs.Pairs.{Pairs}
+use Rattle.rules.specs.Boths.{both_sense}
+use Rattle.rules.specs.Loads.{load_sense}
+use Rattle.rules.specs.Pairs.{pairs_sense}
+use Rattle.rules.specs.Rules.{RuleSense}
+use Rattle.tallies.specs.declared.late.LateDoors.{LateDoors}
+use Rattle.tallies.specs.Late.{late_sense}
+use Rattle.tallies.specs.Tallies.{TallySense}
+use Rattle.layers.specs.declared.node.Node.{Node}
+
+-- the records of a diagram: a state is a set of doors and an interval of loads, a value late doors and late minutes
+abbrev pub Recs : Type 0
+Recs = List (Node (ℕ × Interval) (ℕ × ℕ))
+
+-- what a rule and a tally of the code answer
+abbrev pub side_sense : Both Pairs Load → RuleSense (ℕ × Interval)
+side_sense b =
+    both_sense (pairs_sense b.first.round.now.n b.first.round.now.ahead)
+    (load_sense b.second.round.now.n b.second.round.now.load b.second.round.now.cap b.second.round.now.doors)
+
+abbrev pub doors_sense : LateDoors → TallySense (ℕ × ℕ)
+doors_sense t = late_sense t.round.now.n t.round.now.doors
+
+-- the rule and the tally of a round
+abbrev pub side_of : Round → RuleSense (ℕ × Interval)
+side_of r = both_sense (pairs_sense r.n r.ahead) (load_sense r.n r.load r.cap r.doors)
+
+abbrev pub late_of : Round → TallySense (ℕ × ℕ)
+late_of r = late_sense r.n r.doors

@@ -1,0 +1,78 @@
+//! What a diagram is asked after its calls: the words at the head of a sheet.
+ghost use Rattle.std.specs.Prelude.{◌≡◌, ℕ, ◌≤◌, length};
+ghost use Rattle.packed.specs.Sheets.{behind, must_words, first_words, head_words};
+ghost use Rattle.packed.specs.Senses.{side_sense, side_of};
+ghost use Rattle.packed.specs.Words.{count_word, begun_with};
+
+use crate::words::{count_word, put_words};
+use crate::work::{Cost, Held, Side};
+use diagram::diagram::Diagram;
+use diagram::room::Room;
+use doors::{DoorSet, with};
+
+/// The bytes ahead of the musts.
+const MUSTS: usize = 24;
+
+/// The doors that come behind door i in every wanted order, as a set.
+fn behind(diagram: &Diagram<'_, '_, Held, Cost>, i: usize) -> DoorSet
+    ensures { result ≡ behind diagram.now.room.round.now.n diagram.now.room.width diagram.now.nodes.now i }
+{
+    let mut set = 0;
+    for j in 1..17 {
+        if diagram.must(i, j).unwrap_or(false) {
+            set = with(set, j);
+        }
+    }
+    set
+}
+
+/// For each door, the doors behind it.
+fn musts(diagram: &Diagram<'_, '_, Held, Cost>) -> [DoorSet; 16]
+    ensures { result ≡ must_words diagram.now.room.round.now.n diagram.now.room.width diagram.now.nodes.now }
+{
+    let mut sets = [0; 16];
+    for k in 0..16 {
+        sets[k] = behind(diagram, k + 1);
+    }
+    sets
+}
+
+/// The words ahead of the musts, of a diagram on which so many calls were made.
+fn first_words(
+    room: Room<'_>,
+    diagram: &Diagram<'_, '_, Held, Cost>,
+    rule: &Side<'_>,
+    calls: usize,
+) -> [u32; 6]
+    requires room { diagram.now.room ≡ room }
+    requires rule { side_sense rule.now ≡ side_of room.round.now }
+    ensures { result
+        ≡ first_words room.entry.round.now room.entry.width (count_word calls) diagram.now.nodes.now }
+{
+    let n = count_word(room.round.n);
+    let calls = count_word(calls);
+    let settled = u32::from(diagram.settled(rule));
+    match diagram.bound() {
+        Some((doors, minutes)) => [n, calls, settled, 1, doors, minutes],
+        None => [n, calls, settled, 0, 0, 0],
+    }
+}
+
+/// Writes what the diagram is asked after so many calls.
+pub(crate) fn put_head(
+    room: Room<'_>,
+    diagram: &Diagram<'_, '_, Held, Cost>,
+    rule: &Side<'_>,
+    calls: usize,
+    out: &mut [u8],
+)
+    requires room { diagram.now.room ≡ room }
+    requires rule { side_sense rule.now ≡ side_of room.round.now }
+    requires fits { 88 ≤ length out.old }
+    ensures { out.new
+        ≡ begun_with (head_words room.entry.round.now room.entry.width (count_word calls)
+        diagram.now.nodes.now) out.old }
+{
+    put_words(&mut out[MUSTS..], &musts(diagram));
+    put_words(out, &first_words(room, diagram, rule, calls));
+}
