@@ -30,7 +30,7 @@ fn each_refusal_is_shown(rt: HostRuntime) -> Result<(), Fail> {
     Ok(())
 }
 
-// A fresh round has one door, due at minute 0, at which one minute of work is done: one late door, by one minute.
+// A fresh round has one door, due and closed at minute 0, at which one minute of work is done: one late door, by one minute.
 #[test]
 fn a_list_is_opened_and_given_back(rt: HostRuntime) {
     let round = Round::fresh();
@@ -55,18 +55,25 @@ fn calls_are_done_on_it(rt: HostRuntime) {
         tally: &tally,
     };
     let calls = [
-        Call::Sweep,
         Call::Part { layer: 1, node: 1 },
-        Call::Refine,
         Call::Cut { ceiling: (1, 1) },
     ];
     assert_eq!(rt; worked_on(&setting, &mut records, &calls), Ok(()));
     assert_eq!(rt; records[2].label.down.value, (1, 1));
-    let cut = [Call::Cut { ceiling: (1, 0) }];
-    assert_eq!(rt; worked_on(&setting, &mut records, &cut), Ok(()));
+    let calls = [Call::Cut { ceiling: (1, 0) }];
+    assert_eq!(rt; worked_on(&setting, &mut records, &calls), Ok(()));
     assert_eq!(rt; records[2].label.down.lasts, 0, "no path is left");
+    let calls = [Call::Sweep, Call::Refine];
+    assert_eq!(rt; worked_on(&setting, &mut records, &calls), Ok(()));
+    assert_eq!(rt; records[2].label.down.lasts, 0, "the door closes at 0");
     setting.width = 3;
-    assert_eq!(rt; worked_on(&setting, &mut records, &cut), Err(Refusal::Short));
+    assert_eq!(rt;
+        worked_on(&setting, &mut records, &calls),
+        Err(Refusal::Short)
+    );
     setting.width = 0;
-    assert_eq!(rt; worked_on(&setting, &mut records, &cut), Err(Refusal::Width));
+    assert_eq!(rt;
+        worked_on(&setting, &mut records, &calls),
+        Err(Refusal::Width)
+    );
 }

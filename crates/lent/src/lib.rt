@@ -19,6 +19,7 @@ pub mod call;
 mod cases;
 
 /// A round, the width of its diagram, and the rule and the tally that are lent to each call.
+#[derive(Drop)]
 pub struct Setting<'a, R, T> {
     pub round: &'a Round,
     pub width: usize,
