@@ -8,7 +8,8 @@ use Rattle.layers.specs.Calls.{bound, run, settled}
 use Rattle.packed.specs.declared.refusal.Refusal.TheVariants.{Short}
 use Rattle.packed.specs.Answers.{answers}
 use Rattle.packed.specs.Requests.{Request, first_requests, requests_of, requests_in}
-use Rattle.packed.specs.Senses.{Recs, side_of, late_of}
+use Rattle.allowed.specs.Senses.{side_of, late_of}
+use Rattle.packed.specs.Senses.{Recs}
 use Rattle.packed.specs.Sheets.{behind, must_words, bound_words, first_words, head_words, opened_diagram, sheet_words, sheet_after}
 use Rattle.packed.specs.Words.{count_word}
 use Rattle.packed.proofs.Lists.{length-first, length-answers}

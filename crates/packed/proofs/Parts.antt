@@ -5,7 +5,8 @@ use Rattle.round.specs.declared.table.Round.{Round}
 use Rattle.layers.specs.Calls.{bound, opened_on, run, settled}
 use Rattle.packed.specs.Answers.{answers}
 use Rattle.packed.specs.Requests.{Request}
-use Rattle.packed.specs.Senses.{Recs, side_of, late_of}
+use Rattle.allowed.specs.Senses.{side_of, late_of}
+use Rattle.packed.specs.Senses.{Recs}
 use Rattle.packed.specs.Sheets.{must_words, bound_words, first_words, head_words, blank_records, opened_diagram, sheet_words}
 use Rattle.packed.specs.Words.{count_word}
 

@@ -8,7 +8,7 @@ use Rattle.labels.specs.Passes.{blank_node}
 use Rattle.packed.specs.Answers.{word_of_refined}
 use Rattle.packed.specs.Often.{turns}
 use Rattle.packed.specs.Sheets.{blank_records}
-use Rattle.packed.specs.Senses.{side_of, late_of}
+use Rattle.allowed.specs.Senses.{side_of, late_of}
 
 pub blank-records : (r : Round) (x : Node (ℕ × Interval) (ℕ × ℕ)) → x ≡ blank_node r (side_of r) (late_of r) → replicate 2049 x ≡ blank_records r
 unfolding blank_records

@@ -6,7 +6,8 @@ use Rattle.text.specs.declared.refusal.Refusal.{Refusal as TextRefusal}
 use Rattle.packed.specs.declared.refusal.Refusal.{Refusal}
 use Rattle.packed.specs.declared.refusal.Refusal.TheVariants.{Text}
 use Rattle.packed.specs.Answers.{word_of_refined}
-use Rattle.packed.specs.Senses.{Recs, side_of, late_of}
+use Rattle.allowed.specs.Senses.{side_of, late_of}
+use Rattle.packed.specs.Senses.{Recs}
 use Rattle.packed.specs.Sheets.{blank_records, if_opened}
 
 -- the answer of the last of k refines as a word, 0 if there is none, and the records that it leaves: each opens the diagram anew

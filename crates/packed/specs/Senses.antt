@@ -1,6 +1,5 @@
 -- What the rule of pairs and load together answers, and the tally of late doors.
 use Rattle.std.specs.Prelude.{ℕ, List}
-use Rattle.round.specs.declared.table.Round.{Round}
 use Rattle.rules.specs.declared.both.Both.{Both}
 use Rattle.rules.specs.declared.load.Interval.{Interval}
 use Rattle.rules.specs.declared.load.Load.{Load}
@@ -26,10 +25,3 @@ side_sense b =
 
 abbrev pub doors_sense : LateDoors → TallySense (ℕ × ℕ)
 doors_sense t = late_sense t.round.now.n t.round.now.doors
-
--- the rule and the tally of a round
-abbrev pub side_of : Round → RuleSense (ℕ × Interval)
-side_of r = both_sense (pairs_sense r.n r.ahead) (load_sense r.n r.load r.cap r.doors)
-
-abbrev pub late_of : Round → TallySense (ℕ × ℕ)
-late_of r = late_sense r.n r.doors

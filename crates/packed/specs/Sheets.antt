@@ -15,7 +15,8 @@ use Rattle.packed.specs.declared.refusal.Refusal.TheVariants.{Text, Diagram, Cal
 use Rattle.packed.specs.Answers.{answers}
 use Rattle.packed.specs.Refusals.{number_of}
 use Rattle.packed.specs.Requests.{Request, requests_of}
-use Rattle.packed.specs.Senses.{Recs, side_of, late_of}
+use Rattle.allowed.specs.Senses.{side_of, late_of}
+use Rattle.packed.specs.Senses.{Recs}
 use Rattle.packed.specs.Words.{count_word, begun_with}
 
 -- ---- what a diagram of n doors and width W is asked, in the records xs

@@ -1,7 +1,8 @@
 //! What a diagram is asked after its calls: the words at the head of a sheet.
 ghost use Rattle.std.specs.Prelude.{◌≡◌, ℕ, ◌≤◌, length};
 ghost use Rattle.packed.specs.Sheets.{behind, must_words, first_words, head_words};
-ghost use Rattle.packed.specs.Senses.{side_sense, side_of};
+ghost use Rattle.allowed.specs.Senses.{side_of};
+ghost use Rattle.packed.specs.Senses.{side_sense};
 ghost use Rattle.packed.specs.Words.{count_word, begun_with};
 
 use crate::words::{count_word, put_words};

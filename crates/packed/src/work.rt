@@ -4,7 +4,8 @@ ghost use Rattle.layers.specs.Calls.{does, run};
 ghost use Rattle.refine.specs.Answers.{IsInnerIfFull};
 ghost use Rattle.packed.specs.Answers.{word_of_refusal, word_of_refined, answer, answers};
 ghost use Rattle.packed.specs.Requests.{request_of, requests_of, requests_in};
-ghost use Rattle.packed.specs.Senses.{side_sense, side_of, doors_sense};
+ghost use Rattle.allowed.specs.Senses.{side_of};
+ghost use Rattle.packed.specs.Senses.{side_sense, doors_sense};
 ghost use Rattle.packed.specs.Words.{begun_with};
 
 use crate::call::{CALL, Call};

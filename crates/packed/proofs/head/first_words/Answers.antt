@@ -1,6 +1,7 @@
 use Rattle.std.proofs.Common.{◌≡◌, ℕ, Some, None, Option, arith, ap, ◌∙◌}
 use Rattle.layers.specs.Calls.{bound, settled}
-use Rattle.packed.specs.Senses.{Recs, side_sense, late_of}
+use Rattle.allowed.specs.Senses.{late_of}
+use Rattle.packed.specs.Senses.{Recs, side_sense}
 use Rattle.std.specs.Int.{from_bool}
 use Rattle.packed.specs.Words.{count_word}
 use Rattle.packed.proofs.Parts.{first-words}

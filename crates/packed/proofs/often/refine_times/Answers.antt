@@ -4,7 +4,8 @@ use Rattle.labels.specs.Passes.{blank_node}
 use Rattle.layers.specs.Calls.{opened_on, refined}
 use Rattle.packed.specs.Answers.{word_of_refined}
 use Rattle.packed.specs.Often.{turns}
-use Rattle.packed.specs.Senses.{Recs, side_sense, doors_sense, side_of, late_of}
+use Rattle.allowed.specs.Senses.{side_of, late_of}
+use Rattle.packed.specs.Senses.{Recs, side_sense, doors_sense}
 use Rattle.packed.proofs.Turns.{blank-records, turns-more}
 use Rattle.packed.proofs.often.refine_times.Goals as goal
 

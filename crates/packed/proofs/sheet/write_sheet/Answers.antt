@@ -4,7 +4,8 @@ use Rattle.labels.specs.Passes.{blank_node}
 use Rattle.layers.specs.Calls.{opened_on, run}
 use Rattle.packed.specs.Answers.{answers}
 use Rattle.packed.specs.Requests.{Request, requests_in}
-use Rattle.packed.specs.Senses.{Recs, side_sense, doors_sense, side_of, late_of}
+use Rattle.allowed.specs.Senses.{side_of, late_of}
+use Rattle.packed.specs.Senses.{Recs, side_sense, doors_sense}
 use Rattle.packed.specs.Sheets.{head_words, opened_diagram}
 use Rattle.packed.specs.Words.{count_word, begun_with}
 use Rattle.packed.proofs.Bytes.{rest-whole, rest-put, begun-behind}
