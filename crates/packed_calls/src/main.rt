@@ -4,7 +4,7 @@
 
 use packed::often::refine_often;
 use packed::sheet::sheet;
-use std::alloc::AllocError;
+use std::alloc::{AllocError, Global};
 use std::io::Read;
 
 /// A call as its four words.
