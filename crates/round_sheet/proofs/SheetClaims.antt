@@ -1,16 +1,15 @@
 -- From the claim on the refined diagram to what the sheet claims.
-use Rattle.std.proofs.Common.{◌≡◌, ◌≢◌, ℕ, ◌≤◌, Bool, true, false, ◌==◌, List, [], ◌∷◌, Option, Some, None, refl, sym, ap, subst, ◌∙◌, ⊎_elim, arith}
+use Rattle.std.proofs.Common.{◌≡◌, ℕ, true, false, List, [], ◌∷◌, Option, Some, None, refl, ⊎_elim, arith}
 use Rattle.std.proofs.lemmas.Bool.{cases_Bool}
-use Rattle.doors.specs.Orders.{Door}
 use Rattle.round.specs.declared.table.Round.{Round}
 use Rattle.tallies.specs.Late.{lex}
 use Rattle.orders.specs.Allowed.{Allowed}
-use Rattle.layers.specs.Calls.{Call, Refine, bound, must, settled}
-use Rattle.layers.specs.Claim.{Sure, Wanted, Ahead}
+use Rattle.layers.specs.Calls.{Refine, bound, must, settled}
+use Rattle.layers.specs.Claim.{Sure, Wanted}
 use Rattle.allowed.specs.Orders.{AllowedOrder, KeepsRules, NotAbove, late_cost}
 use Rattle.allowed.specs.Senses.{side_of, late_of}
 use Rattle.round_sheet.specs.Claims.{NoneUndercuts, MustsHold, BoundIsReached, NoMustMissing}
-use Rattle.round_sheet.specs.Sheets.{Records, must_of, musts_of}
+use Rattle.round_sheet.specs.Sheets.{Records, musts_of}
 use Rattle.round_sheet.proofs.SheetSets.{must_parts, must_from, must-yes, yes-must}
 
 -- the order on costs, as a test and in words

@@ -1,5 +1,5 @@
 -- The diagram that the code opens and refines, whose rule and tally borrow the round, is that of the definitions.
-use Rattle.std.proofs.Common.{◌≡◌, ℕ, Bool, true, List, [], ◌∷◌, Option, Bor, refl, ap, subst, ◌∙◌}
+use Rattle.std.proofs.Common.{◌≡◌, ℕ, true, List, [], ◌∷◌, Bor, refl, ap, subst, ◌∙◌}
 use Rattle.round.specs.declared.table.Round.{Round}
 use Rattle.rules.specs.declared.load.Interval.{Interval}
 use Rattle.rules.specs.Boths.{both_sense}
@@ -8,9 +8,8 @@ use Rattle.rules.specs.Pairs.{pairs_sense, Ordered}
 use Rattle.rules.specs.Rules.{RuleSense}
 use Rattle.tallies.specs.Late.{late_sense}
 use Rattle.tallies.specs.Tallies.{TallySense}
-use Rattle.layers.specs.declared.refined.Refined.{Refined}
 use Rattle.layers.specs.declared.refined.Refined.TheVariants.{Whole}
-use Rattle.layers.specs.Calls.{Call, Refine, does, run, opened_on, refined, bound, settled}
+use Rattle.layers.specs.Calls.{Refine, does, run, opened_on, refined, bound, settled}
 use Rattle.layers.specs.Claim.{Sure, WholeSettles}
 use Rattle.diagram.specs.declared.room.Room.{Room}
 use Rattle.allowed.specs.Senses.{side_of, late_of}

@@ -1,10 +1,9 @@
 -- The sets of a sheet, door by door.
-use Rattle.std.proofs.Common.{◌≡◌, ◌≢◌, ℕ, zero, suc, ◌+◌, ◌-◌, ◌<◌, ◌≤◌, ◌^◌, Bool, true, false, cond, ◌&&◌, ◌==◌, List, get_or, refl, sym, ap, subst, ◌∙◌, ⊎_elim, bit_or, slice_index, Ok, Err, if◌then◌else◌, arith}
+use Rattle.std.proofs.Common.{◌≡◌, ◌≢◌, ℕ, zero, suc, ◌+◌, ◌-◌, ◌<◌, ◌≤◌, ◌^◌, Bool, true, false, cond, ◌==◌, get_or, refl, sym, ap, subst, ◌∙◌, ⊎_elim, bit_or, Ok, Err, if◌then◌else◌, arith}
 use Rattle.std.specs.Result.{result_unwrap_or}
 use Rattle.std.proofs.lemmas.Bool.{cases_Bool, cases_lt, cond-true, cond-false, eqb-false, ne_eqb, false≢true, true≢false}
 use Rattle.std.proofs.lemmas.List.FromFn.{get_or-map-range_with_len, length-map-range_with_len}
 use Rattle.std.proofs.lemmas.List.{get_or_past}
-use Rattle.std.specs.List.{range_with_len}
 use Rattle.doors.specs.Orders.{Door}
 use Rattle.doors.specs.Sets.{Has}
 use Rattle.doors.proofs.Sets.{has-none, has_left, has_more, has-added}
@@ -40,9 +39,9 @@ has-set_where p (suc k) j a b t =
     let earlier : j ≤ k → Has (set_where p k) j = λ l. has-set_where p k j a l t in
     ⊎_elim
     (λ l. let h = earlier (omega arith) in
-        ⊎_elim (λ y. subst (λ m. Has m j) (sym (with_door p k y)) (has_left (set_where p k) (2 ^ suc k) j h)) (λ f. subst (λ m. Has m j) (sym (no_door p k f)) h) (cases_Bool (p (suc k))))
+    ⊎_elim (λ y. subst (λ m. Has m j) (sym (with_door p k y)) (has_left (set_where p k) (2 ^ suc k) j h)) (λ f. subst (λ m. Has m j) (sym (no_door p k f)) h) (cases_Bool (p (suc k))))
     (λ l. let e : j ≡ suc k = omega arith in
-        subst (λ m. Has m j) (sym (with_door p k (ap p (sym e) ∙ t))) (subst (λ i. Has (bit_or (set_where p k) (2 ^ suc k)) i) (sym e) (has-added (set_where p k) (suc k))))
+    subst (λ m. Has m j) (sym (with_door p k (ap p (sym e) ∙ t))) (subst (λ i. Has (bit_or (set_where p k) (2 ^ suc k)) i) (sym e) (has-added (set_where p k) (suc k))))
     (cases_lt j (suc k))
 
 -- one turn more of the loop over the doors

@@ -1,5 +1,5 @@
 //! The sheet of a round, made over a lent list of records.
-ghost use Rattle.std.specs.Prelude.{◌≡◌, ◌+◌, ◌*◌, ◌<◌, ◌≤◌, ◌↔◌, true, length, IsOk, IfOk, IfErr, OnOk, OnErr};
+ghost use Rattle.std.specs.Prelude.{◌≡◌, ◌+◌, ◌*◌, ◌<◌, ◌≤◌, ◌↔◌, true, length, drop, IsOk, IfOk, IfErr, OnOk, OnErr};
 ghost use Rattle.layers.specs.declared.refusal.Refusal.TheVariants.{Short};
 ghost use Rattle.layers.specs.declared.refined.Refined.TheVariants.{Whole};
 ghost use Rattle.refine.specs.Answers.{IsInnerIfFull};
@@ -64,6 +64,8 @@ fn sheet_on(room: Room<'_>, records: &mut [Place]) -> Sheet
     requires fits { room.round.now.n * room.width + 1 ≤ length records.old }
     requires width { room.width ≡ 16 }
     ensures records { records.new ≡ (refined_for room.entry.round.now records.old).1 }
+    ensures later { let end = places_of room.entry.round.now in
+        drop end records.new ≡ drop end records.old }
     ensures sheet { result ≡ sheet_of room.entry.round.now records.old }
     ensures layer { IsInnerIfFull room.entry.round.now.n result.refined }
     ensures none_undercuts { NoneUndercuts room.entry.round.now result.bound }
@@ -98,6 +100,8 @@ impl Sheet {
         ensures refusal { IfErr result (λ e. e ≡ Short) }
         ensures left { OnErr result (records.new ≡ records.old) }
         ensures records { OnOk result (records.new ≡ (refined_for round.now records.old).1) }
+        ensures later { OnOk result
+            (drop (places_of round.now) records.new ≡ drop (places_of round.now) records.old) }
         ensures sheet { IfOk result (λ s. s ≡ sheet_of round.now records.old) }
         ensures layer { IfOk result (λ s. IsInnerIfFull round.now.n s.refined) }
         ensures none_undercuts { IfOk result (λ s. NoneUndercuts round.now s.bound) }

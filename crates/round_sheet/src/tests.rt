@@ -9,10 +9,12 @@ use text::reading::read_bounded;
 // Three doors, ahead of the one whose hours the tests choose, and after it.
 const HEAD: &[u8] = b"round\t3\t0\t0\ndoor\t1\t0\t3\t3\t2\t0\n";
 
-const TAIL: &[u8] = b"door\t3\t3\t8\t6\t3\t0\ndrive\t0\t0\t0\t0\ndrive\t1\t-\t0\t0\ndrive\t2\t0\t-\t0\ndrive\t3\t0\t0\t-\n";
+const TAIL: &[u8] =
+    b"door\t3\t3\t8\t6\t3\t0\ndrive\t0\t0\t0\t0\ndrive\t1\t-\t0\t0\ndrive\t2\t0\t-\t0\ndrive\t3\t0\t0\t-\n";
 
 // Five doors that may be driven in any order.
-const FREE: &[u8] = b"round\t5\t0\t0\ndoor\t1\t0\t9999\t9999\t1\t0\ndoor\t2\t0\t9999\t9999\t1\t0\ndoor\t3\t0\t9999\t9999\t1\t0\ndoor\t4\t0\t9999\t9999\t1\t0\ndoor\t5\t0\t9999\t9999\t1\t0\ndrive\t0\t0\t0\t0\t0\t0\ndrive\t1\t-\t0\t0\t0\t0\ndrive\t2\t0\t-\t0\t0\t0\ndrive\t3\t0\t0\t-\t0\t0\ndrive\t4\t0\t0\t0\t-\t0\ndrive\t5\t0\t0\t0\t0\t-\n";
+const FREE: &[u8] =
+    b"round\t5\t0\t0\ndoor\t1\t0\t9999\t9999\t1\t0\ndoor\t2\t0\t9999\t9999\t1\t0\ndoor\t3\t0\t9999\t9999\t1\t0\ndoor\t4\t0\t9999\t9999\t1\t0\ndoor\t5\t0\t9999\t9999\t1\t0\ndrive\t0\t0\t0\t0\t0\t0\ndrive\t1\t-\t0\t0\t0\t0\ndrive\t2\t0\t-\t0\t0\t0\ndrive\t3\t0\t0\t-\t0\t0\ndrive\t4\t0\t0\t0\t-\t0\ndrive\t5\t0\t0\t0\t0\t-\n";
 
 fn round_of(text: &[u8]) -> Result<Round, Fail> {
     let mut round = Round::fresh();

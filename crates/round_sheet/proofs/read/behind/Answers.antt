@@ -1,4 +1,4 @@
-use Rattle.std.proofs.Common.{arith, ◌≡◌, ℕ, ◌+◌, ◌-◌, ◌^◌, bit_or, refl, sym, ap, ◌∙◌}
+use Rattle.std.proofs.Common.{arith, ◌≡◌, ◌-◌, ◌^◌, bit_or, refl, sym, ap, ◌∙◌}
 use Rattle.std.proofs.lemmas.Bool.{cond-true, cond-false}
 use Rattle.round_sheet.specs.Sheets.{set_where, must_of, behind}
 use Rattle.round_sheet.proofs.SheetSets.{one_more}
@@ -14,12 +14,12 @@ loop-j-preserved c =
     let p = must_of c.args.diagram.now.room.round.now c.args.diagram.now.nodes.now c.args.i in
     let more = one_more p c.loop-j.j c.loop-j.auto.j in
     elim c.if-is_must.branch [
-      then-is_must w ↦ w.set-is
+      | then-is_must w ↦ w.set-is
           ∙ w.with-set.ensures.added (omega arith)
           ∙ ap (λ s. bit_or s (2 ^ c.loop-j.j)) c.loop-j.invariant
           ∙ sym (cond-true (p c.loop-j.j) _ _ (sym c.is_must.ensures ∙ w.if-is_must.true))
           ∙ sym more
-    | else-is_must w ↦ w.set-is ∙ c.loop-j.invariant ∙ sym (cond-false (p c.loop-j.j) _ _ (sym c.is_must.ensures ∙ w.if-is_must.false)) ∙ sym more
+      | else-is_must w ↦ w.set-is ∙ c.loop-j.invariant ∙ sym (cond-false (p c.loop-j.j) _ _ (sym c.is_must.ensures ∙ w.if-is_must.false)) ∙ sym more
     ]
 
 pub returns : goal.returns

@@ -1,12 +1,13 @@
-use Rattle.std.proofs.Common.{rules, ◌≡◌, ℕ, [], ◌∷◌, sym, ap, subst, ◌∙◌}
+use Rattle.std.proofs.Common.{rules, ◌≡◌, [], ◌∷◌, drop, sym, ap, subst, ◌∙◌}
 use Rattle.allowed.specs.Senses.{late_of}
 use Rattle.layers.specs.Calls.{Refine}
 use Rattle.diagram.specs.declared.room.Room.{Room}
 use Rattle.refine.specs.Answers.{IsInnerIfFull}
 use Rattle.round_sheet.specs.declared.sheet.Sheet.{Sheet}
 use Rattle.round_sheet.specs.Claims.{NoneUndercuts, MustsHold, BoundIsReached, NoMustMissing}
-use Rattle.round_sheet.specs.Sheets.{refined_for, sheet_of}
+use Rattle.round_sheet.specs.Sheets.{places_of, refined_for, sheet_of}
 use Rattle.round_sheet.proofs.SheetClaims.{none_undercuts, musts_hold, bound_reached, none_missing}
+use Rattle.round_sheet.proofs.SheetLater.{later_kept}
 use Rattle.round_sheet.proofs.SheetOpened.{claimed, settles, is_refined, is_sheet}
 use Rattle.round_sheet.proofs.sheet.sheet_on.Goals as goal
 
@@ -38,6 +39,7 @@ returns c =
     let whole = settles m a b t ea eb et ew lent opened eo (open'.ensures.whole serves []) in
     record {
       records = search (rules, nodes);
+      later = search (rules, ap (drop (places_of r)) nodes ∙ later_kept r lent);
       sheet = sheet;
       layer = subst (λ (x : Room). IsInnerIfFull x.round.now.n c.refine-refined.result) open'.ensures.room c.refine-refined.ensures.within;
       none_undercuts = subst (λ (s : Sheet). NoneUndercuts r s.bound) back (none_undercuts r (refined_for r lent).1 sure);

@@ -1,4 +1,4 @@
-use Rattle.std.proofs.Common.{rules, ◌-◌, List, [], ◌++◌, sym, ap, ◌∙◌}
+use Rattle.std.proofs.Common.{rules, ◌-◌, [], ◌++◌, sym, ap, ◌∙◌}
 use Rattle.std.proofs.Output.{has_written_append, has_written_of_eq}
 use Rattle.std.proofs.lemmas.Bool.{cond-true, cond-false}
 use Rattle.doors.specs.Sets.{has}
@@ -18,12 +18,12 @@ loop-j-preserved g c = λ plain.
     let j = c.loop-j.j-counter in
     let more = lines_behind-more i set j c.loop-j.auto.j-counter in
     elim c.if-contains.branch [
-      then-contains+in_ok-writeln w ↦
-        let line = cond-true (has set j) (must_line i j) [] (sym c.contains.ensures ∙ w.if-contains.true) in
-        has_written_of_eq _ _ _ _ _ (ap (λ t. lines_behind i set (j - 1) ++ t) (sym line) ∙ more)
-        (has_written_append _ _ _ _ _ _ (c.loop-j.invariant plain) (search rules))
-    | else-contains w ↦
-        let line = cond-false (has set j) (must_line i j) [] (sym c.contains.ensures ∙ w.if-contains.false) in
-        has_written_of_eq _ _ _ _ _ (ap (λ t. lines_behind i set (j - 1) ++ t) (sym line) ∙ more)
-        (has_written_append _ _ _ _ _ _ (c.loop-j.invariant plain) (search rules))
+      | then-contains+in_ok-writeln w ↦
+          let line = cond-true (has set j) (must_line i j) [] (sym c.contains.ensures ∙ w.if-contains.true) in
+          has_written_of_eq _ _ _ _ _ (ap (λ t. lines_behind i set (j - 1) ++ t) (sym line) ∙ more)
+          (has_written_append _ _ _ _ _ _ (c.loop-j.invariant plain) (search rules))
+      | else-contains w ↦
+          let line = cond-false (has set j) (must_line i j) [] (sym c.contains.ensures ∙ w.if-contains.false) in
+          has_written_of_eq _ _ _ _ _ (ap (λ t. lines_behind i set (j - 1) ++ t) (sym line) ∙ more)
+          (has_written_append _ _ _ _ _ _ (c.loop-j.invariant plain) (search rules))
     ]
