@@ -11,14 +11,10 @@ use packed::sheet::sheet;
 /// Reads a round, opens its diagram, makes the calls, and writes what the diagram then says and the answer of each.
 #[unsafe(no_mangle)]
 pub extern "C" fn morvuges_sheet(text: &[u8], width: usize, calls: &[u8], out: &mut [u8]) -> i64
-    ensures answer {
-        OnRead text.now
-        (λ t. result ≡ code (byte_count (sheet_of width calls.now (length out.old) t)))
-    }
-    ensures out {
-        OnRead text.now
-        (λ t. out.new ≡ written (sheet_of width calls.now (length out.old) t) out.old)
-    }
+    ensures answer { OnRead text.now
+        (λ t. result ≡ code (byte_count (sheet_of width calls.now (length out.old) t))) }
+    ensures out { OnRead text.now
+        (λ t. out.new ≡ written (sheet_of width calls.now (length out.old) t) out.old) }
 {
     match sheet(text, width, calls, out) {
         Ok(long) => long as i64,
