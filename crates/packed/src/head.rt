@@ -16,7 +16,8 @@ const MUSTS: usize = 24;
 
 /// The doors that come behind door i in every wanted order, as a set.
 fn behind(diagram: &Diagram<'_, '_, Held, Cost>, i: usize) -> DoorSet
-    ensures { result ≡ behind diagram.now.room.round.now.n diagram.now.room.width diagram.now.nodes.now i }
+    ensures { result
+        ≡ behind diagram.now.room.round.now.n diagram.now.room.width diagram.now.nodes.now i }
 {
     let mut set = 0;
     for j in 1..17 {
@@ -29,7 +30,8 @@ fn behind(diagram: &Diagram<'_, '_, Held, Cost>, i: usize) -> DoorSet
 
 /// For each door, the doors behind it.
 fn musts(diagram: &Diagram<'_, '_, Held, Cost>) -> [DoorSet; 16]
-    ensures { result ≡ must_words diagram.now.room.round.now.n diagram.now.room.width diagram.now.nodes.now }
+    ensures { result
+        ≡ must_words diagram.now.room.round.now.n diagram.now.room.width diagram.now.nodes.now }
 {
     let mut sets = [0; 16];
     for k in 0..16 {
@@ -48,7 +50,8 @@ fn first_words(
     requires room { diagram.now.room ≡ room }
     requires rule { side_sense rule.now ≡ side_of room.round.now }
     ensures { result
-        ≡ first_words room.entry.round.now room.entry.width (count_word calls) diagram.now.nodes.now }
+        ≡ first_words room.entry.round.now room.entry.width (count_word calls)
+        diagram.now.nodes.now }
 {
     let n = count_word(room.round.n);
     let calls = count_word(calls);

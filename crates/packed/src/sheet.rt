@@ -27,7 +27,8 @@ fn write_sheet(room: Room<'_>, calls: &[u8], out: &mut [u8])
     requires calls { IsSome (requests_of calls.now) }
     requires fits { 88 + length calls.now / 4 ≤ length out.old }
     ensures { out.new
-        ≡ begun_with (sheet_words room.entry.round.now room.entry.width (requests_in calls.now)) out.old }
+        ≡ begun_with (sheet_words room.entry.round.now room.entry.width (requests_in calls.now))
+        out.old }
 {
     let rule = side(room.round);
     let tally = LateDoors::of(room.round);
@@ -38,8 +39,10 @@ fn write_sheet(room: Room<'_>, calls: &[u8], out: &mut [u8])
 }
 
 fn sheet_on(round: &Round, width: usize, calls: &[u8], out: &mut [u8]) -> Result<usize, Refusal>
-    ensures answer { result ≡ byte_count (sheet_of width calls.now (length out.old) (Ok round.now)) }
-    ensures out { out.new ≡ written (sheet_of width calls.now (length out.old) (Ok round.now)) out.old }
+    ensures answer { result
+        ≡ byte_count (sheet_of width calls.now (length out.old) (Ok round.now)) }
+    ensures out { out.new
+        ≡ written (sheet_of width calls.now (length out.old) (Ok round.now)) out.old }
 {
     let room = match Room::check(round, width, RECORDS) {
         Ok(room) => room,
@@ -59,8 +62,10 @@ fn sheet_on(round: &Round, width: usize, calls: &[u8], out: &mut [u8]) -> Result
 /// Reads a round's text, opens its diagram at this width, makes the calls, and writes the sheet: what the diagram is asked after
 /// them, and the answer of each. Answers how many bytes are written. A refusal writes nothing.
 pub fn sheet(text: &[u8], width: usize, calls: &[u8], out: &mut [u8]) -> Result<usize, Refusal>
-    ensures answer { OnRead text.now (λ t. result ≡ byte_count (sheet_of width calls.now (length out.old) t)) }
-    ensures out { OnRead text.now (λ t. out.new ≡ written (sheet_of width calls.now (length out.old) t) out.old) }
+    ensures answer { OnRead text.now
+        (λ t. result ≡ byte_count (sheet_of width calls.now (length out.old) t)) }
+    ensures out { OnRead text.now
+        (λ t. out.new ≡ written (sheet_of width calls.now (length out.old) t) out.old) }
     ensures within { IfOk result (λ k. k ≤ length out.old) }
 {
     let mut round = Round::fresh();

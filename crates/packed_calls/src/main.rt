@@ -94,7 +94,11 @@ fn print_sheet(rt: &HostRuntime, case: Case<'_>) -> anyhow::Result<()> {
     };
     let (words, behind) = out.as_slice().split_at(long);
     let left = behind.iter().all(|byte| *byte == FILL);
-    print!(rt; "{}\t{answer}\t{}", case.name, if left { "left" } else { "written" })?;
+    print!(rt;
+        "{}\t{answer}\t{}",
+        case.name,
+        if left { "left" } else { "written" }
+    )?;
     print_words(rt, words)
 }
 
@@ -112,7 +116,16 @@ fn print_sheets(rt: &HostRuntime, text: &[u8]) -> anyhow::Result<()> {
         let calls = bytes_of(rt.alloc(), calls)?;
         let room = 88 + 4 * (calls.len() / 16) + 5;
         let calls = calls.as_slice();
-        print_sheet(rt, Case { name, text, width, calls, room })?;
+        print_sheet(
+            rt,
+            Case {
+                name,
+                text,
+                width,
+                calls,
+                room,
+            },
+        )?;
     }
     Ok(())
 }
@@ -131,20 +144,73 @@ fn print_refusals(rt: &HostRuntime, text: &[u8]) -> anyhow::Result<()> {
         Some((front, _)) => front.as_slice(),
         None => one,
     };
-    let fits = Case { name: "fits", text, width: 4, calls: one, room: 92 };
+    let fits = Case {
+        name: "fits",
+        text,
+        width: 4,
+        calls: one,
+        room: 92,
+    };
     let cases = [
         fits,
-        Case { name: "no text", text: b"", ..fits },
-        Case { name: "unended text", text: unended, ..fits },
-        Case { name: "long text", text: long.as_slice(), ..fits },
-        Case { name: "width 0", width: 0, ..fits },
-        Case { name: "width 129", width: 129, ..fits },
-        Case { name: "half a call", calls: half, ..fits },
-        Case { name: "unknown call", calls: unknown, ..fits },
-        Case { name: "no room", room: 91, ..fits },
-        Case { name: "no text, width 0", text: b"", width: 0, ..fits },
-        Case { name: "width 0, unknown call", width: 0, calls: unknown, ..fits },
-        Case { name: "unknown call, no room", calls: unknown, room: 91, ..fits },
+        Case {
+            name: "no text",
+            text: b"",
+            ..fits
+        },
+        Case {
+            name: "unended text",
+            text: unended,
+            ..fits
+        },
+        Case {
+            name: "long text",
+            text: long.as_slice(),
+            ..fits
+        },
+        Case {
+            name: "width 0",
+            width: 0,
+            ..fits
+        },
+        Case {
+            name: "width 129",
+            width: 129,
+            ..fits
+        },
+        Case {
+            name: "half a call",
+            calls: half,
+            ..fits
+        },
+        Case {
+            name: "unknown call",
+            calls: unknown,
+            ..fits
+        },
+        Case {
+            name: "no room",
+            room: 91,
+            ..fits
+        },
+        Case {
+            name: "no text, width 0",
+            text: b"",
+            width: 0,
+            ..fits
+        },
+        Case {
+            name: "width 0, unknown call",
+            width: 0,
+            calls: unknown,
+            ..fits
+        },
+        Case {
+            name: "unknown call, no room",
+            calls: unknown,
+            room: 91,
+            ..fits
+        },
     ];
     for case in cases {
         print_sheet(rt, case)?;
