@@ -1,4 +1,4 @@
-// Calls drawn by dice, done on the records and on a diagram that lives beside them.
+//! Calls drawn by dice, done on the records and on a diagram that lives beside them.
 use crate::case::{Answer, Call, Case};
 use crate::dice::Dice;
 use crate::walk::standing;
@@ -30,7 +30,7 @@ fn refined(answer: Refined) -> Answer {
     }
 }
 
-// The call on the records.
+/// The call on the records.
 pub(crate) fn on_records<R: Rule, T: Tally>(
     case: &Case<'_, R, T, T::Value>,
     nodes: &mut [Node<R::State, T::Value>],
@@ -49,7 +49,7 @@ pub(crate) fn on_records<R: Rule, T: Tally>(
     }
 }
 
-// The call on a diagram.
+/// The call on a diagram.
 pub(crate) fn on_diagram<R: Rule, T: Tally>(
     case: &Case<'_, R, T, T::Value>,
     diagram: &mut Diagram<'_, '_, R::State, T::Value>,
@@ -64,7 +64,7 @@ pub(crate) fn on_diagram<R: Rule, T: Tally>(
     }
 }
 
-// A layer, most often one that may be parted.
+/// A layer, most often one that may be parted.
 fn draw_layer(dice: &mut Dice, n: usize) -> usize {
     if n < 2 || dice.roll(6) == 0 {
         return dice.roll(n.saturating_add(2));
@@ -72,7 +72,7 @@ fn draw_layer(dice: &mut Dice, n: usize) -> usize {
     dice.roll(n - 1).saturating_add(1)
 }
 
-// The number of a node, most often one that the layer has.
+/// The number of a node, most often one that the layer has.
 fn draw_node<S: Copy, V: Copy>(
     dice: &mut Dice,
     nodes: &[Node<S, V>],
@@ -87,7 +87,7 @@ fn draw_node<S: Copy, V: Copy>(
     }
 }
 
-// The doors by number, from another one on.
+/// The doors by number, from another one on.
 fn rotated(round: &Round, by: usize) -> [usize; 16] {
     let mut doors = [0; 16];
     for k in 0..16 {
@@ -96,7 +96,7 @@ fn rotated(round: &Round, by: usize) -> [usize; 16] {
     doors
 }
 
-// The cost of a part order; nothing yet if the list is none.
+/// The cost of a part order; nothing yet if the list is none.
 fn cost_of<'a, T: Tally>(round: &'a Round, tally: &T, doors: &'a [usize]) -> T::Value {
     match Order::of(round, doors) {
         Some(order) => order.cost(tally),
@@ -109,7 +109,7 @@ fn part_cost<T: Tally>(round: &Round, tally: &T, by: usize, long: usize) -> T::V
     cost_of(round, tally, &doors[0..long.min(16)])
 }
 
-// A ceiling: most often the cost of an allowed order, else the cost of another order or of a part of one, or a bit more.
+/// A ceiling: most often the cost of an allowed order, else the cost of another order or of a part of one, or a bit more.
 fn draw_ceiling<R: Rule, T: Tally>(case: &Case<'_, R, T, T::Value>, dice: &mut Dice) -> T::Value {
     let kind = dice.roll(8);
     let by = dice.roll(16);

@@ -1,9 +1,9 @@
-// What is audited: a round with its rule, its tally, the width of its diagram, and its allowed orders.
+//! What is audited: a round with its rule, its tally, the width of its diagram, and its allowed orders.
 use layers::node::Node;
 use lister::list::Listed;
 use round::table::Round;
 
-// How many records are lent: those of 6 doors and width 24, and more.
+/// How many records are lent: those of 6 doors and width 24, and more.
 pub(crate) const LENT: usize = 152;
 
 #[derive(Drop)]
@@ -15,7 +15,7 @@ pub(crate) struct Case<'a, R, T, V> {
     pub(crate) orders: &'a [Listed<V>],
 }
 
-// A call that alters a diagram.
+/// A call that alters a diagram.
 #[derive(Clone, Copy)]
 pub(crate) enum Call<V> {
     Sweep,
@@ -25,7 +25,7 @@ pub(crate) enum Call<V> {
     Refine,
 }
 
-// What a call answers: how many arcs went, that it is done, the number of a refusal, whole, or full and the layer.
+/// What a call answers: how many arcs went, that it is done, the number of a refusal, whole, or full and the layer.
 #[derive(Clone, Copy, PartialEq)]
 pub(crate) enum Answer {
     Gone(usize),
@@ -35,12 +35,12 @@ pub(crate) enum Answer {
     Full(usize),
 }
 
-// The place of the end; all records after it stay as they are.
+/// The place of the end; all records after it stay as they are.
 pub(crate) fn end_place(round: &Round, width: usize) -> usize {
     round.n.saturating_mul(width)
 }
 
-// The value at the end, if the diagram has a path.
+/// The value at the end, if the diagram has a path.
 pub(crate) fn bound_of<S: Copy, V: Copy>(
     nodes: &[Node<S, V>],
     round: &Round,

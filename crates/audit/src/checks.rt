@@ -1,4 +1,4 @@
-// What is held against the lister's orders after each call.
+//! What is held against the lister's orders after each call.
 use crate::ahead::Ahead;
 use crate::case::{Case, bound_of};
 use crate::fault::Fault;
@@ -12,14 +12,14 @@ use rules::rule::Rule;
 use seek::must::must;
 use tallies::tally::Tally;
 
-// The ceilings that were cut at so far.
+/// The ceilings that were cut at so far.
 #[derive(Clone, Copy)]
 pub(crate) struct Ceilings<V> {
     pub(crate) values: [V; 16],
     pub(crate) count: usize,
 }
 
-// Before any cut.
+/// Before any cut.
 pub(crate) fn no_ceilings<T: Tally>(tally: &T) -> Ceilings<T::Value> {
     Ceilings {
         values: [tally.start(); 16],
@@ -27,7 +27,7 @@ pub(crate) fn no_ceilings<T: Tally>(tally: &T) -> Ceilings<T::Value> {
     }
 }
 
-// Whether the cost is above none of the ceilings.
+/// Whether the cost is above none of the ceilings.
 fn is_wanted<T: Tally>(tally: &T, cost: T::Value, ceilings: &Ceilings<T::Value>) -> bool {
     for ceiling in ceilings.values.iter().take(ceilings.count) {
         if !tally.not_above(cost, *ceiling) {
@@ -37,7 +37,7 @@ fn is_wanted<T: Tally>(tally: &T, cost: T::Value, ceilings: &Ceilings<T::Value>)
     true
 }
 
-// How many of the orders are wanted.
+/// How many of the orders are wanted.
 pub(crate) fn count_wanted<T: Tally>(
     tally: &T,
     orders: &[Listed<T::Value>],
@@ -52,7 +52,7 @@ pub(crate) fn count_wanted<T: Tally>(
     count
 }
 
-// A wanted order is a path, and the bound is not above its cost.
+/// A wanted order is a path, and the bound is not above its cost.
 fn check_order<R: Rule, T: Tally>(
     case: &Case<'_, R, T, T::Value>,
     nodes: &[Node<R::State, T::Value>],
@@ -68,7 +68,7 @@ fn check_order<R: Rule, T: Tally>(
     }
 }
 
-// Each wanted order, and which doors come after which in them.
+/// Each wanted order, and which doors come after which in them.
 fn check_orders<R: Rule, T: Tally>(
     case: &Case<'_, R, T, T::Value>,
     nodes: &[Node<R::State, T::Value>],
@@ -84,7 +84,7 @@ fn check_orders<R: Rule, T: Tally>(
     Ok(ahead)
 }
 
-// A must that is answered yes holds in each wanted order; once settled it is yes exactly if it holds on each path.
+/// A must that is answered yes holds in each wanted order; once settled it is yes exactly if it holds on each path.
 fn check_must(
     yes: bool,
     wanted: &Ahead,
@@ -123,7 +123,7 @@ fn check_musts(musts: &Ahead, n: usize, wanted: &Ahead, paths: Option<Ahead>) ->
     Ok(())
 }
 
-// The musts from i on that are answered yes.
+/// The musts from i on that are answered yes.
 fn add_musts<S: Copy, V: Copy>(
     musts: &mut Ahead,
     nodes: &[Node<S, V>],
@@ -138,7 +138,7 @@ fn add_musts<S: Copy, V: Copy>(
     }
 }
 
-// Which doors come after which by the musts that are answered yes.
+/// Which doors come after which by the musts that are answered yes.
 pub(crate) fn musts_of<S: Copy, V: Copy>(nodes: &[Node<S, V>], n: usize, width: usize) -> Ahead {
     let mut musts = Ahead::none();
     for i in 1..=n {
@@ -147,7 +147,7 @@ pub(crate) fn musts_of<S: Copy, V: Copy>(nodes: &[Node<S, V>], n: usize, width: 
     musts
 }
 
-// The bound is the least cost of a path, or none if there is no path.
+/// The bound is the least cost of a path, or none if there is no path.
 fn check_least<T: Tally>(
     tally: &T,
     bound: Option<T::Value>,
@@ -160,7 +160,7 @@ fn check_least<T: Tally>(
     }
 }
 
-// Without a cut, a settled diagram has as many paths as there are allowed orders.
+/// Without a cut, a settled diagram has as many paths as there are allowed orders.
 fn check_count(cuts: usize, orders: usize, paths: usize) -> Result<(), Fault> {
     if cuts == 0 && orders != paths {
         return Err(Fault::MorePaths);
@@ -180,7 +180,7 @@ fn check_settled<R: Rule, T: Tally>(
     Ok(paths)
 }
 
-// All checks that need no look back at the records before the call. Answers whether the diagram is settled.
+/// All checks that need no look back at the records before the call. Answers whether the diagram is settled.
 pub(crate) fn check_all<R: Rule, T: Tally>(
     case: &Case<'_, R, T, T::Value>,
     nodes: &[Node<R::State, T::Value>],

@@ -1,7 +1,7 @@
-// How often what happened.
+//! How often what happened.
 use crate::case::{Answer, Call};
 
-// What sort of call it was.
+/// What sort of call it was.
 #[derive(Clone, Copy)]
 pub(crate) enum Sort {
     Cut,
@@ -27,11 +27,11 @@ pub(crate) struct Counts {
     pub(crate) whole: usize,
     pub(crate) full: usize,
     pub(crate) refused: usize,
-    // calls that are the call before once more
+    /// calls that are the call before once more
     pub(crate) repeated: usize,
-    // cuts whose ceiling is the cost of an allowed order
+    /// cuts whose ceiling is the cost of an allowed order
     pub(crate) equalled: usize,
-    // all refusals by their number, those to open, to answer must, and of a short list too
+    /// all refusals by their number, those to open, to answer must, and of a short list too
     pub(crate) numbers: [usize; 32],
 }
 
@@ -56,7 +56,7 @@ impl Counts {
         }
     }
 
-    // One more refusal, if there is one: 10 or above, since must answers 0 or 1.
+    /// One more refusal, if there is one: 10 or above, since must answers 0 or 1.
     pub(crate) fn refuse(&mut self, number: u8) {
         let k = usize::from(number);
         if 10 <= k && k < 32 {
@@ -78,7 +78,7 @@ impl Counts {
         }
     }
 
-    // One more call. A sweep or a cut counts if it took out an arc.
+    /// One more call. A sweep or a cut counts if it took out an arc.
     pub(crate) fn note(&mut self, sort: Sort, answer: Answer) {
         self.calls = self.calls.saturating_add(1);
         match answer {
@@ -99,7 +99,7 @@ impl Counts {
         }
     }
 
-    // With those of another round.
+    /// With those of another round.
     pub(crate) fn add(&mut self, more: &Counts) {
         self.calls = self.calls.saturating_add(more.calls);
         self.sweeps = self.sweeps.saturating_add(more.sweeps);

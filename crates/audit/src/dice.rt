@@ -1,4 +1,4 @@
-// Numbers that look drawn at random, and are the same in each run.
+//! Numbers that look drawn at random, and are the same in each run.
 ghost use Rattle.std.specs.Prelude.{◌<◌};
 
 #[derive(Drop)]
@@ -11,7 +11,7 @@ impl Dice {
         Dice { seed }
     }
 
-    // A number below `below`; 0 if that is 0.
+    /// A number below `below`; 0 if that is 0.
     pub(crate) fn roll(&mut self, below: usize) -> usize
         ensures { 0 < below → result < below }
     {

@@ -1,9 +1,9 @@
-// Writes the text of a small round, drawn by dice.
+//! Writes the text of a small round, drawn by dice.
 use crate::dice::Dice;
 use std::alloc::{AllocError, Global};
 
-// What kind of round it is: how many doors, how tight their hours are, whether its numbers are large, how many key boxes change
-// hands at a door, and how it pairs doors.
+/// What kind of round it is: how many doors, how tight their hours are, whether its numbers are large, how many key boxes change
+/// hands at a door, and how it pairs doors.
 #[derive(Clone, Copy)]
 struct Kind {
     n: usize,
@@ -27,7 +27,7 @@ fn draw_kind(dice: &mut Dice, n: usize) -> Kind {
     }
 }
 
-// The minutes up to which a door's hours reach past its opening and its work.
+/// The minutes up to which a door's hours reach past its opening and its work.
 fn slack(dice: &mut Dice, kind: Kind) -> usize {
     match kind.hours {
         0 | 1 => 9_999,
@@ -124,7 +124,7 @@ fn add_drives(
     Ok(())
 }
 
-// Two different doors of n, the lower first unless any order will do.
+/// Two different doors of n, the lower first unless any order will do.
 fn add_pair(
     heap: Global,
     text: &mut String,
@@ -160,7 +160,7 @@ fn add_pairs(
     Ok(())
 }
 
-// The text of a round of n doors.
+/// The text of a round of n doors.
 pub(crate) fn draw(heap: Global, dice: &mut Dice, n: usize) -> Result<String, AllocError> {
     let kind = draw_kind(dice, n);
     let load = dice.roll(2).saturating_add(kind.load);

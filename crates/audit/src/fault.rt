@@ -1,4 +1,4 @@
-// What the audit finds wrong.
+//! What the audit finds wrong.
 use std::fmt;
 
 #[derive(Clone, Copy, PartialEq)]

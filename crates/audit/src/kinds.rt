@@ -1,4 +1,4 @@
-// What kinds of rounds were met.
+//! What kinds of rounds were met.
 use crate::counts::more;
 use crate::paths::MOST;
 use crate::same::same_value;
@@ -14,20 +14,20 @@ use rules::rule::Rule;
 use std::alloc::{AllocError, Global};
 use tallies::tally::Tally;
 
-// How many rounds are of each kind; of one round, 0 or 1.
+/// How many rounds are of each kind; of one round, 0 or 1.
 #[derive(Clone, Copy)]
 pub(crate) struct Kinds {
-    // by the number of doors
+    /// by the number of doors
     pub(crate) doors: [usize; 17],
-    // the pairs close a ring
+    /// the pairs close a ring
     pub(crate) ring: usize,
-    // without its pairs, without its load, or without its hours the round would have more allowed orders
+    /// without its pairs, without its load, or without its hours the round would have more allowed orders
     pub(crate) pairs: usize,
     pub(crate) load: usize,
     pub(crate) tight: usize,
-    // no order ends after a door closes
+    /// no order ends after a door closes
     pub(crate) loose: usize,
-    // the least cost is that of two orders or more
+    /// the least cost is that of two orders or more
     pub(crate) equal: usize,
 }
 
@@ -50,7 +50,7 @@ impl Kinds {
         }
     }
 
-    // With those of another round.
+    /// With those of another round.
     pub(crate) fn add(&mut self, other: &Kinds) {
         self.add_doors(other);
         self.ring = self.ring.saturating_add(other.ring);
@@ -62,7 +62,7 @@ impl Kinds {
     }
 }
 
-// The doors that can be done, if those in the set are: once more over all of them.
+/// The doors that can be done, if those in the set are: once more over all of them.
 fn pass(pairs: &Pairs<'_>, done: u32) -> u32 {
     let mut all = done;
     for j in 1..17 {
@@ -73,7 +73,7 @@ fn pass(pairs: &Pairs<'_>, done: u32) -> u32 {
     all
 }
 
-// Whether some door can never be done, as it comes ahead of itself over other doors.
+/// Whether some door can never be done, as it comes ahead of itself over other doors.
 fn has_ring(pairs: &Pairs<'_>, n: usize) -> bool {
     let mut done = pairs.start();
     for _ in 0..n {
@@ -106,7 +106,7 @@ fn has_equal<T: Tally>(tally: &T, orders: &[Listed<T::Value>]) -> bool {
     count > 1
 }
 
-// Whether the first fault of the list of doors is one that closes too early.
+/// Whether the first fault of the list of doors is one that closes too early.
 fn is_closed<R: Rule>(round: &Round, rule: &R, doors: &[usize]) -> bool {
     match Order::of(round, doors) {
         Some(order) => matches!(order.verdict(rule), Verdict::Closes(_)),
@@ -114,7 +114,7 @@ fn is_closed<R: Rule>(round: &Round, rule: &R, doors: &[usize]) -> bool {
     }
 }
 
-// Whether that is so of some order of the round.
+/// Whether that is so of some order of the round.
 fn is_tight<R: Rule>(round: &Round, rule: &R) -> bool {
     let mut doors = BY_NUMBER;
     for _ in 0..MOST {
@@ -128,7 +128,7 @@ fn is_tight<R: Rule>(round: &Round, rule: &R) -> bool {
     false
 }
 
-// The kinds of a round with these allowed orders under its pairs and its load.
+/// The kinds of a round with these allowed orders under its pairs and its load.
 pub(crate) fn kinds_of<R: Rule, T: Tally>(
     heap: Global,
     round: &Round,

@@ -1,5 +1,5 @@
-// Audits the diagram: rounds of up to 6 doors drawn by dice, and calls drawn by dice on their diagrams, held after each call
-// against a list of all orders that is made without a diagram. Prints a line for each round, and sums.
+//! Audits the diagram: rounds of up to 6 doors drawn by dice, and calls drawn by dice on their diagrams, held after each call
+//! against a list of all orders that is made without a diagram. Prints a line for each round, and sums.
 #![tactic(auto)]
 
 mod ahead;
@@ -36,10 +36,10 @@ use tallies::driving::Driving;
 use tallies::late::LateDoors;
 use text::reading::read;
 
-// How many rounds there are for each tally.
+/// How many rounds there are for each tally.
 const ROUNDS: usize = 200;
 
-// What all rounds come to.
+/// What all rounds come to.
 #[derive(Clone, Copy)]
 struct Sums {
     rounds: usize,
@@ -47,10 +47,10 @@ struct Sums {
     none: usize,
     one: usize,
     many: usize,
-    // rounds in which the ceilings rule out some allowed orders and not all
+    /// rounds in which the ceilings rule out some allowed orders and not all
     between: usize,
     settled: usize,
-    // rounds that end settled with more than one path wanted
+    /// rounds that end settled with more than one path wanted
     telling: usize,
     faults: usize,
     kinds: Kinds,
@@ -75,7 +75,7 @@ impl Sums {
     }
 }
 
-// What is printed of a round.
+/// What is printed of a round.
 #[derive(Clone, Copy)]
 struct Line {
     n: usize,
@@ -181,7 +181,7 @@ fn driving_round(
     print_end(rt, &outcome)
 }
 
-// Draws a round, and reads its text.
+/// Draws a round, and reads its text.
 fn drawn(rt: &HostRuntime, dice: &mut Dice) -> anyhow::Result<Round> {
     let n = [1, 2, 3, 3, 3, 4, 4, 4, 5, 6][dice.roll(10)];
     let text = draw(rt.alloc(), dice, n)?;
@@ -196,7 +196,7 @@ fn drawn(rt: &HostRuntime, dice: &mut Dice) -> anyhow::Result<Round> {
     }
 }
 
-// A width, most often 1 to 8.
+/// A width, most often 1 to 8.
 fn draw_width(dice: &mut Dice) -> usize {
     if dice.roll(3) == 0 {
         return dice.roll(16).saturating_add(9);
@@ -241,7 +241,7 @@ fn print_numbers(rt: &HostRuntime, counts: &Counts) -> anyhow::Result<()> {
     Ok(())
 }
 
-// How many rounds are of each kind, and how many have so many doors.
+/// How many rounds are of each kind, and how many have so many doors.
 fn print_kinds(rt: &HostRuntime, kinds: &Kinds) -> anyhow::Result<()> {
     for n in 1..7 {
         let count = kinds.doors[n];
@@ -299,7 +299,7 @@ fn print_sums(rt: &HostRuntime, sums: &Sums) -> anyhow::Result<()> {
     Ok(())
 }
 
-// A run with a fault is counted, and says so.
+/// A run with a fault is counted, and says so.
 fn check_sums(rt: &HostRuntime, outcome: &Outcome<(u32, u32)>) -> anyhow::Result<()> {
     let mut sums = Sums::none();
     note(&mut sums, outcome);
@@ -311,7 +311,7 @@ fn check_sums(rt: &HostRuntime, outcome: &Outcome<(u32, u32)>) -> anyhow::Result
     Err(anyhow!("a fault is not counted, or shown as {shown}"))
 }
 
-// Each check finds its fault on a spoilt diagram.
+/// Each check finds its fault on a spoilt diagram.
 fn check_checks(rt: &HostRuntime) -> anyhow::Result<()> {
     let mut three = Round::fresh();
     let mut eight = Round::fresh();

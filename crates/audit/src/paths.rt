@@ -1,4 +1,4 @@
-// Goes through all paths of a diagram, and holds each to be an allowed order.
+//! Goes through all paths of a diagram, and holds each to be an allowed order.
 use crate::ahead::Ahead;
 use crate::case::Case;
 use crate::fault::Fault;
@@ -8,10 +8,10 @@ use lister::list::cost_if_allowed;
 use rules::rule::Rule;
 use tallies::tally::Tally;
 
-// How many lists are looked at, at most: more than 6 doors have.
+/// How many lists are looked at, at most: more than 6 doors have.
 pub(crate) const MOST: usize = 100_000;
 
-// What was met: how many paths, the least of their costs, and which doors come after which.
+/// What was met: how many paths, the least of their costs, and which doors come after which.
 #[derive(Clone, Copy)]
 pub(crate) struct Paths<V> {
     pub(crate) count: usize,
@@ -26,7 +26,7 @@ fn lesser_of<T: Tally>(tally: &T, least: Option<T::Value>, cost: T::Value) -> Op
     }
 }
 
-// One more path.
+/// One more path.
 fn meet<R: Rule, T: Tally>(
     case: &Case<'_, R, T, T::Value>,
     doors: &[usize],
@@ -41,7 +41,7 @@ fn meet<R: Rule, T: Tally>(
     Ok(())
 }
 
-// Meets the list if it is a path, and goes on to the next one.
+/// Meets the list if it is a path, and goes on to the next one.
 fn go_on<R: Rule, T: Tally>(
     case: &Case<'_, R, T, T::Value>,
     nodes: &[Node<R::State, T::Value>],
@@ -56,7 +56,7 @@ fn go_on<R: Rule, T: Tally>(
     Ok(advance(doors, n, gap))
 }
 
-// All paths, if each is an allowed order.
+/// All paths, if each is an allowed order.
 pub(crate) fn all_paths<R: Rule, T: Tally>(
     case: &Case<'_, R, T, T::Value>,
     nodes: &[Node<R::State, T::Value>],

@@ -1,5 +1,5 @@
-// One round: opens its diagram twice, runs the same calls on the records of the one and on the other as it lives, and checks
-// after each.
+//! One round: opens its diagram twice, runs the same calls on the records of the one and on the other as it lives, and checks
+//! after each.
 ghost use Rattle.std.specs.Prelude.{◌+◌, ◌*◌, ◌≤◌, length, IfOk};
 
 use crate::calls::{draw_call, on_diagram, on_records};
@@ -21,11 +21,11 @@ use rules::rule::Rule;
 use seek::must::must;
 use tallies::tally::Tally;
 
-// How a round's run ended.
+/// How a round's run ended.
 #[derive(Clone, Copy)]
 pub(crate) struct Outcome<V> {
     pub(crate) allowed: usize,
-    // of the allowed orders, those whose cost is above no ceiling
+    /// of the allowed orders, those whose cost is above no ceiling
     pub(crate) wanted: usize,
     pub(crate) bound: Option<V>,
     pub(crate) settled: bool,
@@ -33,7 +33,7 @@ pub(crate) struct Outcome<V> {
     pub(crate) counts: Counts,
 }
 
-// What goes on from call to call.
+/// What goes on from call to call.
 #[derive(Clone, Copy)]
 pub(crate) struct Log<V> {
     ceilings: Ceilings<V>,
@@ -42,7 +42,7 @@ pub(crate) struct Log<V> {
     settled: bool,
 }
 
-// What stands in a list before it is lent.
+/// What stands in a list before it is lent.
 pub(crate) fn mark<R: Rule, T: Tally>(rule: &R, tally: &T) -> Node<R::State, T::Value> {
     Node {
         arcs: Arcs { to: [7; 16] },
@@ -63,7 +63,7 @@ pub(crate) fn mark<R: Rule, T: Tally>(rule: &R, tally: &T) -> Node<R::State, T::
     }
 }
 
-// The records as they are.
+/// The records as they are.
 pub(crate) fn copied<R: Rule, T: Tally>(
     rule: &R,
     tally: &T,
@@ -76,7 +76,7 @@ pub(crate) fn copied<R: Rule, T: Tally>(
     copy
 }
 
-// Opens the diagram on the list, which is free again at the return.
+/// Opens the diagram on the list, which is free again at the return.
 pub(crate) fn open<R: Rule, T: Tally>(
     room: Room<'_>,
     rule: &R,
@@ -96,7 +96,7 @@ fn same_bound<T: Tally>(tally: &T, a: Option<T::Value>, b: Option<T::Value>) -> 
     }
 }
 
-// A refusal leaves all records as they were, and the records after the end stay in any case. A sweep or a cut counts what went.
+/// A refusal leaves all records as they were, and the records after the end stay in any case. A sweep or a cut counts what went.
 pub(crate) fn check_change<R: Rule, T: Tally>(
     case: &Case<'_, R, T, T::Value>,
     before: &[Node<R::State, T::Value>],
@@ -119,7 +119,7 @@ pub(crate) fn check_change<R: Rule, T: Tally>(
     }
 }
 
-// What must(i, j) is to answer, 0 for no and 1 for yes, or the number of its refusal.
+/// What must(i, j) is to answer, 0 for no and 1 for yes, or the number of its refusal.
 fn must_number<S: Copy, V: Copy>(
     nodes: &[Node<S, V>],
     n: usize,
@@ -175,7 +175,7 @@ fn check_all_asked<S: Copy, V: Copy>(
     Ok(())
 }
 
-// The diagram that lives answers as the records say.
+/// The diagram that lives answers as the records say.
 pub(crate) fn check_diagram<R: Rule, T: Tally>(
     case: &Case<'_, R, T, T::Value>,
     nodes: &[Node<R::State, T::Value>],
@@ -193,7 +193,7 @@ pub(crate) fn check_diagram<R: Rule, T: Tally>(
     check_all_asked(nodes, diagram, case.round.n, case.width, counts)
 }
 
-// Keeps the ceiling of a cut.
+/// Keeps the ceiling of a cut.
 fn note_ceiling<V: Copy>(ceilings: &mut Ceilings<V>, call: Call<V>) {
     if let Call::Cut(ceiling) = call {
         if ceilings.count < 16 {
@@ -203,7 +203,7 @@ fn note_ceiling<V: Copy>(ceilings: &mut Ceilings<V>, call: Call<V>) {
     }
 }
 
-// Whether no node of the layer can be parted, since all in-arcs of each agree.
+/// Whether no node of the layer can be parted, since all in-arcs of each agree.
 fn agrees_in<R: Rule, T: Tally>(
     case: &Case<'_, R, T, T::Value>,
     nodes: &mut [Node<R::State, T::Value>],
@@ -220,7 +220,7 @@ fn agrees_in<R: Rule, T: Tally>(
     true
 }
 
-// Whether on a copy of the records nothing can be parted and a sweep takes out nothing.
+/// Whether on a copy of the records nothing can be parted and a sweep takes out nothing.
 fn is_settled<R: Rule, T: Tally>(
     case: &Case<'_, R, T, T::Value>,
     nodes: &[Node<R::State, T::Value>; LENT],
@@ -234,7 +234,7 @@ fn is_settled<R: Rule, T: Tally>(
     on_records(case, &mut copy, Call::Sweep) == Answer::Gone(0)
 }
 
-// Settled says what part and sweep say.
+/// Settled says what part and sweep say.
 pub(crate) fn check_judged<R: Rule, T: Tally>(
     case: &Case<'_, R, T, T::Value>,
     nodes: &[Node<R::State, T::Value>; LENT],
@@ -246,7 +246,7 @@ pub(crate) fn check_judged<R: Rule, T: Tally>(
     Ok(())
 }
 
-// All that holds of the records as they are.
+/// All that holds of the records as they are.
 pub(crate) fn check_now<R: Rule, T: Tally>(
     case: &Case<'_, R, T, T::Value>,
     nodes: &[Node<R::State, T::Value>; LENT],
@@ -263,7 +263,7 @@ pub(crate) fn check_now<R: Rule, T: Tally>(
     Ok(settled)
 }
 
-// The call before once more, or another one.
+/// The call before once more, or another one.
 fn next_call<R: Rule, T: Tally>(
     case: &Case<'_, R, T, T::Value>,
     nodes: &[Node<R::State, T::Value>],
@@ -278,7 +278,7 @@ fn next_call<R: Rule, T: Tally>(
     }
 }
 
-// Whether it is a cut at the cost of an allowed order.
+/// Whether it is a cut at the cost of an allowed order.
 fn is_equalled<R: Rule, T: Tally>(case: &Case<'_, R, T, T::Value>, call: Call<T::Value>) -> bool {
     let Call::Cut(ceiling) = call else {
         return false;
@@ -291,7 +291,7 @@ fn is_equalled<R: Rule, T: Tally>(case: &Case<'_, R, T, T::Value>, call: Call<T:
     false
 }
 
-// Does the call on both, and looks at what it altered.
+/// Does the call on both, and looks at what it altered.
 pub(crate) fn call_both<R: Rule, T: Tally>(
     case: &Case<'_, R, T, T::Value>,
     nodes: &mut [Node<R::State, T::Value>; LENT],
@@ -308,7 +308,7 @@ pub(crate) fn call_both<R: Rule, T: Tally>(
     Ok(answer)
 }
 
-// A refine that answers whole leaves the diagram settled.
+/// A refine that answers whole leaves the diagram settled.
 pub(crate) fn check_whole(answer: Answer, settled: bool) -> Result<(), Fault> {
     if answer == Answer::Whole && !settled {
         return Err(Fault::WholeNotSettled);
@@ -349,7 +349,7 @@ fn some_calls<R: Rule, T: Tally>(
     Ok(())
 }
 
-// The number of a refusal to open; 0 if there is none.
+/// The number of a refusal to open; 0 if there is none.
 fn room_number(round: &Round, width: usize, len: usize) -> u8 {
     match Room::check(round, width, len) {
         Ok(_) => 0,
@@ -357,7 +357,7 @@ fn room_number(round: &Round, width: usize, len: usize) -> u8 {
     }
 }
 
-// A width out of range is refused with 10, also where the list is too short, and a list that is too short by one record with 11.
+/// A width out of range is refused with 10, also where the list is too short, and a list that is too short by one record with 11.
 pub(crate) fn check_rooms(round: &Round, width: usize, counts: &mut Counts) -> Result<(), Fault> {
     let end = end_place(round, width);
     let asked = [
@@ -376,7 +376,7 @@ pub(crate) fn check_rooms(round: &Round, width: usize, counts: &mut Counts) -> R
     Ok(())
 }
 
-// What a call answers on a list that is too short.
+/// What a call answers on a list that is too short.
 fn short_answer<V: Copy>(call: Call<V>) -> Answer {
     match call {
         Call::Part(_, _) => Answer::Refused(11),
@@ -386,7 +386,7 @@ fn short_answer<V: Copy>(call: Call<V>) -> Answer {
     }
 }
 
-// The call on the records ahead of the end.
+/// The call on the records ahead of the end.
 fn on_short<R: Rule, T: Tally>(
     case: &Case<'_, R, T, T::Value>,
     nodes: &mut [Node<R::State, T::Value>],
@@ -397,7 +397,7 @@ fn on_short<R: Rule, T: Tally>(
     on_records(case, part, call)
 }
 
-// A call on a list that is too short answers so, and leaves it as it was.
+/// A call on a list that is too short answers so, and leaves it as it was.
 pub(crate) fn check_left<R: Rule, T: Tally>(
     case: &Case<'_, R, T, T::Value>,
     before: &[Node<R::State, T::Value>],
@@ -411,7 +411,7 @@ pub(crate) fn check_left<R: Rule, T: Tally>(
     Ok(())
 }
 
-// A list that is too short by one record is left alone.
+/// A list that is too short by one record is left alone.
 fn check_short<R: Rule, T: Tally>(
     case: &Case<'_, R, T, T::Value>,
     nodes: &mut [Node<R::State, T::Value>; LENT],
@@ -427,14 +427,14 @@ fn check_short<R: Rule, T: Tally>(
     Ok(())
 }
 
-// The room for the diagram.
+/// The room for the diagram.
 pub(crate) fn room_of(round: &Round, width: usize) -> Result<Room<'_>, Fault>
     ensures { IfOk result (λ m. m.round.now.n * m.width + 1 ≤ LENT) }
 {
     Room::check(round, width, LENT).map_err(|_| Fault::RoomRefused)
 }
 
-// Both lists hold the same records.
+/// Both lists hold the same records.
 pub(crate) fn check_same<R: Rule, T: Tally>(
     case: &Case<'_, R, T, T::Value>,
     nodes: &[Node<R::State, T::Value>],
@@ -446,7 +446,7 @@ pub(crate) fn check_same<R: Rule, T: Tally>(
     Ok(())
 }
 
-// Opens both, runs the calls, and compares what both leave.
+/// Opens both, runs the calls, and compares what both leave.
 fn run_calls<R: Rule, T: Tally>(
     case: &Case<'_, R, T, T::Value>,
     dice: &mut Dice,
@@ -474,7 +474,7 @@ pub(crate) fn start_log<T: Tally>(tally: &T) -> Log<T::Value> {
     }
 }
 
-// The round's run on lists that hold marks, with a log that has just begun.
+/// The round's run on lists that hold marks, with a log that has just begun.
 pub(crate) fn run_round<'a, R: Rule, T: Tally>(
     dice: &mut Dice,
     round: &'a Round,

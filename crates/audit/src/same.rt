@@ -1,9 +1,9 @@
-// Whether records are the same, part by part.
+//! Whether records are the same, part by part.
 use layers::node::{Down, Node};
 use rules::rule::Rule;
 use tallies::tally::Tally;
 
-// Whether neither value is above the other.
+/// Whether neither value is above the other.
 pub(crate) fn same_value<T: Tally>(tally: &T, a: T::Value, b: T::Value) -> bool {
     tally.not_above(a, b) && tally.not_above(b, a)
 }
@@ -33,7 +33,7 @@ fn same_node<R: Rule, T: Tally>(
     arcs && down && up
 }
 
-// Whether two lists have the same records from a place on.
+/// Whether two lists have the same records from a place on.
 pub(crate) fn same_from<R: Rule, T: Tally>(
     rule: &R,
     tally: &T,

@@ -1,4 +1,4 @@
-// The four sets of each node, from all paths: the doors on every path to it and on at least one, and the same on to the end.
+//! The four sets of each node, from all paths: the doors on every path to it and on at least one, and the same on to the end.
 ghost use Rattle.std.specs.Prelude.{◌≤◌};
 
 use crate::case::{Case, LENT, end_place};
@@ -11,7 +11,7 @@ use layers::node::{Label, Node};
 use rules::rule::Rule;
 use tallies::tally::Tally;
 
-// The sets of one place; no path has come to it if it is not met.
+/// The sets of one place; no path has come to it if it is not met.
 #[derive(Clone, Copy)]
 struct Sets {
     met: bool,
@@ -21,7 +21,7 @@ struct Sets {
     someup: DoorSet,
 }
 
-// With a path that has had the doors `down` and goes on by `up`.
+/// With a path that has had the doors `down` and goes on by `up`.
 fn with_path(sets: Sets, down: DoorSet, up: DoorSet) -> Sets {
     if sets.met {
         Sets {
@@ -56,7 +56,7 @@ fn meet_place(places: &mut [Sets; LENT], p: usize, down: DoorSet, up: DoorSet) {
     }
 }
 
-// One more path.
+/// One more path.
 fn meet_path<S: Copy, V: Copy>(
     places: &mut [Sets; LENT],
     nodes: &[Node<S, V>],
@@ -91,7 +91,7 @@ fn go_on<S: Copy, V: Copy>(
     advance(doors, n, gap)
 }
 
-// The sets of all places.
+/// The sets of all places.
 fn all_sets<S: Copy, V: Copy>(nodes: &[Node<S, V>], width: usize, n: usize) -> [Sets; LENT]
     requires { n ≤ 16 }
 {
@@ -111,7 +111,7 @@ fn all_sets<S: Copy, V: Copy>(nodes: &[Node<S, V>], width: usize, n: usize) -> [
     places
 }
 
-// Whether a label has these sets. The first node is in use even if no path leaves it, and no other place is then.
+/// Whether a label has these sets. The first node is in use even if no path leaves it, and no other place is then.
 fn has_sets<S: Copy, V: Copy>(label: &Label<S, V>, sets: Sets, first: bool) -> bool {
     let used = sets.met || first;
     let down = label.down.all == sets.all && label.down.some == sets.some;
@@ -119,7 +119,7 @@ fn has_sets<S: Copy, V: Copy>(label: &Label<S, V>, sets: Sets, first: bool) -> b
     down && up && (label.down.lasts != 0) == used
 }
 
-// Whether a place that is not in use is blank.
+/// Whether a place that is not in use is blank.
 fn is_blank<R: Rule, T: Tally>(rule: &R, tally: &T, u: &Node<R::State, T::Value>) -> bool {
     let state = rule.same(u.label.down.state, rule.start());
     let value = same_value(tally, u.label.down.value, tally.start());

@@ -1,10 +1,10 @@
-// What the records of any diagram look like.
+//! What the records of any diagram look like.
 use crate::case::Case;
 use crate::fault::Fault;
 use crate::walk::in_use;
 use layers::node::Node;
 
-// Whether an arc of layer i to node t may be: in the last layer it leads to the end, else to a node that is in use.
+/// Whether an arc of layer i to node t may be: in the last layer it leads to the end, else to a node that is in use.
 fn leads_well<S: Copy, V: Copy>(
     nodes: &[Node<S, V>],
     n: usize,
@@ -21,7 +21,7 @@ fn leads_well<S: Copy, V: Copy>(
     t <= room && in_use(nodes, place)
 }
 
-// No arc by a door that the round has not, and none that leads out of the diagram; no arc at all of a place not in use.
+/// No arc by a door that the round has not, and none that leads out of the diagram; no arc at all of a place not in use.
 fn arcs_well<S: Copy, V: Copy>(
     nodes: &[Node<S, V>],
     n: usize,
@@ -42,7 +42,7 @@ fn arcs_well<S: Copy, V: Copy>(
     true
 }
 
-// Whether the places in use come first in their layer, and layer 0 has one of them.
+/// Whether the places in use come first in their layer, and layer 0 has one of them.
 fn stands_well<S: Copy, V: Copy>(nodes: &[Node<S, V>], width: usize, p: usize) -> bool {
     let first = p == 0 || width != 0 && p % width == 0;
     let alone = p < width;
@@ -60,7 +60,7 @@ fn place_well<S: Copy, V: Copy>(nodes: &[Node<S, V>], n: usize, width: usize, p:
     arcs_well(nodes, n, width, i, u) && stands_well(nodes, width, p)
 }
 
-// The end has no arcs.
+/// The end has no arcs.
 fn end_well<S: Copy, V: Copy>(nodes: &[Node<S, V>], end: usize) -> bool {
     match nodes.get(end) {
         Some(u) => u.arcs.to == [0; 16],

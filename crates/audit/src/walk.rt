@@ -1,7 +1,7 @@
-// Walking the arcs of a diagram, by its records.
+//! Walking the arcs of a diagram, by its records.
 use layers::node::Node;
 
-// Whether the record at a place is in use.
+/// Whether the record at a place is in use.
 pub(crate) fn in_use<S: Copy, V: Copy>(nodes: &[Node<S, V>], p: usize) -> bool {
     match nodes.get(p) {
         Some(u) => u.label.down.lasts != 0,
@@ -9,7 +9,7 @@ pub(crate) fn in_use<S: Copy, V: Copy>(nodes: &[Node<S, V>], p: usize) -> bool {
     }
 }
 
-// How many nodes a layer has.
+/// How many nodes a layer has.
 pub(crate) fn standing<S: Copy, V: Copy>(
     nodes: &[Node<S, V>],
     width: usize,
@@ -25,7 +25,7 @@ pub(crate) fn standing<S: Copy, V: Copy>(
     count
 }
 
-// The node of the next layer to which the arc by a door leads; 0 if there is none.
+/// The node of the next layer to which the arc by a door leads; 0 if there is none.
 pub(crate) fn target<S: Copy, V: Copy>(
     nodes: &[Node<S, V>],
     width: usize,
@@ -46,7 +46,7 @@ pub(crate) fn target<S: Copy, V: Copy>(
     }
 }
 
-// The first place whose door has no arc, walking from the first node; the length of the list if each has one.
+/// The first place whose door has no arc, walking from the first node; the length of the list if each has one.
 pub(crate) fn first_gap<S: Copy, V: Copy>(
     nodes: &[Node<S, V>],
     width: usize,
@@ -62,7 +62,7 @@ pub(crate) fn first_gap<S: Copy, V: Copy>(
     doors.len()
 }
 
-// The next list of doors 1 to n that differs at place p or before it, all later places being 1; none after the last.
+/// The next list of doors 1 to n that differs at place p or before it, all later places being 1; none after the last.
 pub(crate) fn advance(doors: &mut [usize; 16], n: usize, p: usize) -> bool {
     for back in 0..16 {
         let k = 15 - back;
@@ -77,7 +77,7 @@ pub(crate) fn advance(doors: &mut [usize; 16], n: usize, p: usize) -> bool {
     false
 }
 
-// How many arcs the records up to the end have.
+/// How many arcs the records up to the end have.
 fn arcs_at<S: Copy, V: Copy>(nodes: &[Node<S, V>], p: usize) -> usize {
     let Some(u) = nodes.get(p) else {
         return 0;

@@ -1,4 +1,4 @@
-// A diagram over a lent list of records, which it keeps with its round and width.
+//! A diagram over a lent list of records, which it keeps with its round and width.
 ghost use Rattle.std.specs.Prelude.{◌≡◌, ◌+◌, ◌*◌, ◌≤◌, List, length};
 ghost use Rattle.layers.specs.Calls.{Call, opened_on, run};
 ghost use Rattle.layers.specs.Claim.{Sure, WholeSettles};
@@ -16,6 +16,7 @@ use tallies::tally::Tally;
 pub mod asks;
 pub mod calls;
 
+/// A diagram of a round: its round and width, and the list of records that is lent to it, with what arcs decide of these as facts.
 #[derive(Drop)]
 pub struct Diagram<'a, 'n, S, V> {
     room: Room<'a>,
@@ -26,9 +27,9 @@ pub struct Diagram<'a, 'n, S, V> {
 }
 
 impl<'a, 'n, S: Copy, V: Copy> Diagram<'a, 'n, S, V> {
-    // A node in each layer, and an arc for every door from each but the end. The list is long enough, as the check has found.
-    // Whatever calls follow, and in whatever order, nothing allowed is lost that no ceiling rules out, a refine that answers
-    // whole leaves the diagram settled, and after any refine a sweep takes out nothing.
+    /// A node in each layer, and an arc for every door from each but the end. The list is long enough, as the check has found.
+    /// Whatever calls follow, and in whatever order, nothing allowed is lost that no ceiling rules out, a refine that answers
+    /// whole leaves the diagram settled, and after any refine a sweep takes out nothing.
     pub fn open<R: Rule<State = S>, T: Tally<Value = V>>(
         room: Room<'a>,
         rule: &R,
@@ -37,10 +38,21 @@ impl<'a, 'n, S: Copy, V: Copy> Diagram<'a, 'n, S, V> {
     ) -> Diagram<'a, 'n, S, V>
         requires { room.round.now.n * room.width + 1 ≤ length nodes.old }
         ensures room { result.room ≡ room.entry }
-        ensures records { result.nodes.now ≡ opened_on room.entry.round.now (R.Rule.sense rule.now) (T.Tally.sense tally.now) room.entry.width nodes.old }
+        ensures records { result.nodes.now ≡ opened_on room.entry.round.now (R.Rule.sense rule.now)
+            (T.Tally.sense tally.now) room.entry.width nodes.old }
         ensures lender { result.nodes.ghost_name ≡ nodes.entry.ghost_name }
-        ensures claim { R.Rule.serves rule.now room.entry.round.now.n → T.Tally.serves tally.now room.entry.round.now.n → (cs : List (Call V)) → Sure room.entry.round.now (R.Rule.sense rule.now) (R.Rule.keeps rule.now) (T.Tally.sense tally.now) room.entry.width cs (run room.entry.round.now (R.Rule.sense rule.now) (T.Tally.sense tally.now) room.entry.width cs result.nodes.now) }
-        ensures whole { R.Rule.serves rule.now room.entry.round.now.n → (cs : List (Call V)) → WholeSettles room.entry.round.now (R.Rule.sense rule.now) (T.Tally.sense tally.now) room.entry.width (run room.entry.round.now (R.Rule.sense rule.now) (T.Tally.sense tally.now) room.entry.width cs result.nodes.now) }
+        ensures claim { R.Rule.serves rule.now room.entry.round.now.n
+            → T.Tally.serves tally.now room.entry.round.now.n
+            → (cs : List (Call V))
+            → Sure room.entry.round.now (R.Rule.sense rule.now) (R.Rule.keeps rule.now)
+            (T.Tally.sense tally.now) room.entry.width cs (run room.entry.round.now
+            (R.Rule.sense rule.now) (T.Tally.sense tally.now) room.entry.width cs
+            result.nodes.now) }
+        ensures whole { R.Rule.serves rule.now room.entry.round.now.n
+            → (cs : List (Call V))
+            → WholeSettles room.entry.round.now (R.Rule.sense rule.now) (T.Tally.sense tally.now)
+            room.entry.width (run room.entry.round.now (R.Rule.sense rule.now)
+            (T.Tally.sense tally.now) room.entry.width cs result.nodes.now) }
         ensures swept_out { R.Rule.serves rule.now room.entry.round.now.n
             → RefineSweepsOutFrom room.entry.round.now (R.Rule.sense rule.now)
             (T.Tally.sense tally.now) room.entry.width result.nodes.now }

@@ -1,4 +1,4 @@
-// The order diagram over a lent list of node records.
+//! The order diagram over a lent list of node records.
 #![tactic(auto)]
 
 pub mod diagram;

@@ -1,4 +1,4 @@
-// Filtering the arcs of the lent list of records: sweep and cut, and whether a sweep would take out nothing.
+//! Filtering the arcs of the lent list of records: sweep and cut, and whether a sweep would take out nothing.
 #![tactic(auto)]
 
 pub mod cut;

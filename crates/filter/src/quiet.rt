@@ -1,4 +1,4 @@
-// Whether a sweep would take out no arc.
+//! Whether a sweep would take out no arc.
 ghost use Rattle.std.specs.Prelude.{◌≡◌, ◌+◌, ◌*◌, ◌<◌, ◌≤◌, false, map, length, take, if◌then◌else◌};
 ghost use Rattle.tallies.specs.Tallies.{TallySense};
 ghost use Rattle.labels.specs.Passes.{fits};
@@ -13,7 +13,7 @@ use round::table::Round;
 use rules::rule::Rule;
 use tidying::count::{count_arcs, count_of};
 
-// How many arcs of layer i a sweep would leave, with the layer vs after it.
+/// How many arcs of layer i a sweep would leave, with the layer vs after it.
 fn kept_in<R: Rule, V: Copy>(
     round: &Round,
     rule: &R,
@@ -23,7 +23,9 @@ fn kept_in<R: Rule, V: Copy>(
 ) -> usize
     requires i_lt_n { i < round.now.n }
     requires us_bound { length us.now ≤ 128 }
-    ensures many { (t : TallySense V) → result ≡ arcs_within (map (thinned_node round.now (R.Rule.sense rule.now) t i vs.now) us.now) }
+    ensures many { (t : TallySense V)
+        → result ≡ arcs_within
+        (map (thinned_node round.now (R.Rule.sense rule.now) t i vs.now) us.now) }
     ensures few { result ≤ 16 * length us.now }
 {
     let mut sum = 0;
@@ -34,7 +36,7 @@ fn kept_in<R: Rule, V: Copy>(
     sum
 }
 
-// The same from layer i on, of which there are `left`.
+/// The same from layer i on, of which there are `left`.
 fn kept_from<R: Rule, V: Copy>(
     round: &Round,
     rule: &R,
@@ -46,7 +48,9 @@ fn kept_from<R: Rule, V: Copy>(
     requires counts_left { i + left ≡ round.now.n }
     requires w_in_bounds { left * w < length nodes.now }
     requires w_bound { w ≤ 128 }
-    ensures many { (t : TallySense V) → result ≡ arcs_within (take (left * w) (thinned_from round.now (R.Rule.sense rule.now) t w i left nodes.now)) }
+    ensures many { (t : TallySense V)
+        → result ≡ arcs_within
+        (take (left * w) (thinned_from round.now (R.Rule.sense rule.now) t w i left nodes.now)) }
     ensures few { result ≤ 16 * (left * w) }
 {
     if left == 0 {
@@ -59,16 +63,19 @@ fn kept_from<R: Rule, V: Copy>(
     here + later
 }
 
-// Whether none of the six tests bars an arc, by the labels that stand: as many arcs would be left. A tally has no say in it.
-// Of a list that has no room for the diagram the answer is no.
+/// Whether none of the six tests bars an arc, by the labels that stand: as many arcs would be left. A tally has no say in it.
+/// Of a list that has no room for the diagram the answer is no.
 pub fn quiet<R: Rule, V: Copy>(
     round: &Round,
     rule: &R,
     nodes: &[Node<R::State, V>],
     width: usize,
 ) -> bool
-    ensures steps { (t : TallySense V) → result ≡ (if fits round.now.n width (length nodes.now) then quiet_steps round.now (R.Rule.sense rule.now) t width nodes.now else false) }
-    ensures words { (t : TallySense V) → QuietDone round.now (R.Rule.sense rule.now) t width nodes.now result }
+    ensures steps { (t : TallySense V)
+        → result ≡ (if fits round.now.n width (length nodes.now) then quiet_steps round.now
+        (R.Rule.sense rule.now) t width nodes.now else false) }
+    ensures words { (t : TallySense V)
+        → QuietDone round.now (R.Rule.sense rule.now) t width nodes.now result }
 {
     if !has_room(round, width, nodes.len()) {
         return false;

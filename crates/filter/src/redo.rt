@@ -1,4 +1,4 @@
-// What sweep and cut have in common: once arcs are taken out, the list is tidied and labelled anew.
+//! What sweep and cut have in common: once arcs are taken out, the list is tidied and labelled anew.
 ghost use Rattle.std.specs.Prelude.{◌≡◌, true, length};
 ghost use Rattle.labels.specs.Passes.{fits};
 ghost use Rattle.filter.specs.Steps.{redone};
@@ -19,7 +19,8 @@ pub(crate) fn redo<R: Rule, T: Tally>(
     width: usize,
 )
     requires { fits round.now.n width (length nodes.old) ≡ true }
-    ensures { nodes.new ≡ redone round.now (R.Rule.sense rule.now) (T.Tally.sense tally.now) width nodes.old }
+    ensures { nodes.new ≡ redone round.now (R.Rule.sense rule.now) (T.Tally.sense tally.now) width
+        nodes.old }
 {
     let blank = blank_node(rule, tally);
     tidy(round, nodes, width, &blank);

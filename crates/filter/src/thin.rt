@@ -1,4 +1,4 @@
-// Taking out each arc that a sweep bars, by the labels that stand.
+//! Taking out each arc that a sweep bars, by the labels that stand.
 ghost use Rattle.std.specs.Prelude.{◌≡◌, ◌+◌, ◌-◌, ◌*◌, ◌<◌, ◌≤◌, map, length, Some, nat_lt, slice_index};
 ghost use Rattle.round.specs.Clock.{door, finish};
 ghost use Rattle.tallies.specs.Tallies.{TallySense};
@@ -12,7 +12,7 @@ use layers::node::{Arcs, Down, Node, Up};
 use round::table::Round;
 use rules::rule::Rule;
 
-// Whether the set with j has fewer than `need` doors.
+/// Whether the set with j has fewer than `need` doors.
 fn too_few(set: DoorSet, j: usize, need: u32) -> bool
     requires { j < 17 }
     ensures { result ≡ few set j need }
@@ -20,16 +20,17 @@ fn too_few(set: DoorSet, j: usize, need: u32) -> bool
     (set | (1u32 << j)).count_ones() < need
 }
 
-// Whether the work at j would end after it closes, in u64 since any finish may stand.
+/// Whether the work at j would end after it closes, in u64 since any finish may stand.
 fn too_late<S: Copy, V: Copy>(round: &Round, u: &Down<S, V>, j: usize) -> bool
-    ensures { result ≡ nat_lt (door round.now j).closes (finish round.now u.now.finish (leg round.now u.now.lasts j) j) }
+    ensures { result ≡ nat_lt (door round.now j).closes
+        (finish round.now u.now.finish (leg round.now u.now.lasts j) j) }
 {
     let leg = leg_from(round, u.lasts, j);
     let end = round.finish(u.finish, leg, j);
     u64::from(round.door(j).closes) < end
 }
 
-// Whether a sweep takes out the arc by j from a node of layer i with the label u to one with the sets v: one of six tests bars it.
+/// Whether a sweep takes out the arc by j from a node of layer i with the label u to one with the sets v: one of six tests bars it.
 fn bars<R: Rule, V: Copy>(
     round: &Round,
     rule: &R,
@@ -40,7 +41,9 @@ fn bars<R: Rule, V: Copy>(
 ) -> bool
     requires i_lt_n { i < round.now.n }
     requires j_bound { j < 17 }
-    ensures { (t : TallySense V) → result ≡ barred round.now (R.Rule.sense rule.now) t i (round.now.n - i) j (Some u.now) (Some v.now) }
+    ensures { (t : TallySense V)
+        → result ≡ barred round.now (R.Rule.sense rule.now) t i (round.now.n - i) j (Some u.now)
+        (Some v.now) }
 {
     contains(u.all, j)
         || too_few(u.some, j, i as u32 + 1)
@@ -50,7 +53,7 @@ fn bars<R: Rule, V: Copy>(
         || too_few(v.someup, j, (round.n - i) as u32)
 }
 
-// What is left of u's arc by the door k + 1; one that leads out of the layer goes.
+/// What is left of u's arc by the door k + 1; one that leads out of the layer goes.
 fn thin_door<R: Rule, V: Copy>(
     round: &Round,
     rule: &R,
@@ -61,7 +64,9 @@ fn thin_door<R: Rule, V: Copy>(
 ) -> u8
     requires i_lt_n { i < round.now.n }
     requires k_bound { k < 16 }
-    ensures { (t : TallySense V) → result ≡ at_door (thinned_to round.now (R.Rule.sense rule.now) t i vs.now u.now) (k + 1) (slice_index u.now.arcs.to k) }
+    ensures { (t : TallySense V)
+        → result ≡ at_door (thinned_to round.now (R.Rule.sense rule.now) t i vs.now u.now) (k + 1)
+        (slice_index u.now.arcs.to k) }
 {
     let to = u.arcs.to[k];
     let t = to as usize;
@@ -84,7 +89,8 @@ pub(crate) fn thin_node<R: Rule, V: Copy>(
     u: &Node<R::State, V>,
 ) -> Node<R::State, V>
     requires { i < round.now.n }
-    ensures { (t : TallySense V) → result ≡ thinned_node round.now (R.Rule.sense rule.now) t i vs.now u.now }
+    ensures { (t : TallySense V)
+        → result ≡ thinned_node round.now (R.Rule.sense rule.now) t i vs.now u.now }
 {
     let mut to = [0u8; 16];
     for k in 0..16 {
@@ -96,7 +102,7 @@ pub(crate) fn thin_node<R: Rule, V: Copy>(
     }
 }
 
-// Layer i, with the layer vs after it.
+/// Layer i, with the layer vs after it.
 fn thin_layer<R: Rule, V: Copy>(
     round: &Round,
     rule: &R,
@@ -105,21 +111,22 @@ fn thin_layer<R: Rule, V: Copy>(
     vs: &[Node<R::State, V>],
 )
     requires { i < round.now.n }
-    ensures { (t : TallySense V) → us.new ≡ map (thinned_node round.now (R.Rule.sense rule.now) t i vs.now) us.old }
+    ensures { (t : TallySense V)
+        → us.new ≡ map (thinned_node round.now (R.Rule.sense rule.now) t i vs.now) us.old }
 {
     for u in us.iter_mut() {
         *u = thin_node(round, rule, i, vs, u);
     }
 }
 
-// How many records follow a layer of w, with `later` layers of arcs after it: after the last there is the end alone.
+/// How many records follow a layer of w, with `later` layers of arcs after it: after the last there is the end alone.
 pub(crate) fn next_count(w: usize, later: usize) -> usize
     ensures { result ≡ after w later }
 {
     if later == 0 { 1 } else { w }
 }
 
-// Takes out each arc that one of the six tests bars, from layer i on, of which there are `left`. A tally has no say in it.
+/// Takes out each arc that one of the six tests bars, from layer i on, of which there are `left`. A tally has no say in it.
 pub(crate) fn thin_from<R: Rule, V: Copy>(
     round: &Round,
     rule: &R,
@@ -130,7 +137,8 @@ pub(crate) fn thin_from<R: Rule, V: Copy>(
 )
     requires counts_left { i + left ≡ round.now.n }
     requires w_in_bounds { left * w < length nodes.old }
-    ensures { (t : TallySense V) → nodes.new ≡ thinned_from round.now (R.Rule.sense rule.now) t w i left nodes.old }
+    ensures { (t : TallySense V)
+        → nodes.new ≡ thinned_from round.now (R.Rule.sense rule.now) t w i left nodes.old }
 {
     if left == 0 {
         return;

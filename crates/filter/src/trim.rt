@@ -1,4 +1,4 @@
-// Taking out each arc by which the cost would pass a ceiling, by the labels that stand.
+//! Taking out each arc by which the cost would pass a ceiling, by the labels that stand.
 ghost use Rattle.std.specs.Prelude.{◌≡◌, ◌+◌, ◌*◌, ◌<◌, ◌≤◌, map, length, take, Some, slice_index};
 ghost use Rattle.std.specs.List.{AllByRecursion};
 ghost use Rattle.round.specs.Clock.{latest};
@@ -13,8 +13,8 @@ use layers::node::{Arcs, Down, Node};
 use round::table::Round;
 use tallies::tally::Tally;
 
-// Whether the arrival by door j has a value above the ceiling. A finish that no label has could not be told to the tally, hence the
-// bound.
+/// Whether the arrival by door j has a value above the ceiling. A finish that no label has could not be told to the tally, hence the
+/// bound.
 fn too_dear<S: Copy, T: Tally>(
     round: &Round,
     tally: &T,
@@ -23,7 +23,8 @@ fn too_dear<S: Copy, T: Tally>(
     ceiling: T::Value,
 ) -> bool
     requires { u.now.finish ≤ latest 15 }
-    ensures { (q : RuleSense S) → result ≡ dear round.now q (T.Tally.sense tally.now) ceiling j (Some u.now) }
+    ensures { (q : RuleSense S)
+        → result ≡ dear round.now q (T.Tally.sense tally.now) ceiling j (Some u.now) }
 {
     let leg = leg_from(round, u.lasts, j);
     let finish = round.finish(u.finish, leg, j) as u32;
@@ -31,7 +32,7 @@ fn too_dear<S: Copy, T: Tally>(
     !tally.not_above(value, ceiling)
 }
 
-// What is left of u's arc by the door k + 1.
+/// What is left of u's arc by the door k + 1.
 fn trim_door<S: Copy, T: Tally>(
     round: &Round,
     tally: &T,
@@ -41,7 +42,9 @@ fn trim_door<S: Copy, T: Tally>(
 ) -> u8
     requires finish_bound { u.now.label.down.finish ≤ latest 15 }
     requires k_bound { k < 16 }
-    ensures { (q : RuleSense S) → result ≡ at_door (trimmed_to round.now q (T.Tally.sense tally.now) ceiling u.now) (k + 1) (slice_index u.now.arcs.to k) }
+    ensures { (q : RuleSense S)
+        → result ≡ at_door (trimmed_to round.now q (T.Tally.sense tally.now) ceiling u.now) (k + 1)
+        (slice_index u.now.arcs.to k) }
 {
     let t = u.arcs.to[k];
     if t == 0 {
@@ -61,7 +64,8 @@ fn trim_node<S: Copy, T: Tally>(
     ceiling: T::Value,
 ) -> Node<S, T::Value>
     requires { u.now.label.down.finish ≤ latest 15 }
-    ensures { (q : RuleSense S) → result ≡ trimmed_node round.now q (T.Tally.sense tally.now) ceiling u.now }
+    ensures { (q : RuleSense S)
+        → result ≡ trimmed_node round.now q (T.Tally.sense tally.now) ceiling u.now }
 {
     let mut to = [0u8; 16];
     for k in 0..16 {
@@ -80,14 +84,15 @@ fn trim_each<S: Copy, T: Tally>(
     ceiling: T::Value,
 )
     requires { AllByRecursion (Early (latest 15)) us.old }
-    ensures { (q : RuleSense S) → us.new ≡ map (trimmed_node round.now q (T.Tally.sense tally.now) ceiling) us.old }
+    ensures { (q : RuleSense S)
+        → us.new ≡ map (trimmed_node round.now q (T.Tally.sense tally.now) ceiling) us.old }
 {
     for u in us.iter_mut() {
         *u = trim_node(round, tally, u, ceiling);
     }
 }
 
-// Takes out each arc whose arrival has a value above the ceiling. A rule has no say in it.
+/// Takes out each arc whose arrival has a value above the ceiling. A rule has no say in it.
 pub(crate) fn trim<S: Copy, T: Tally>(
     round: &Round,
     tally: &T,
@@ -98,7 +103,8 @@ pub(crate) fn trim<S: Copy, T: Tally>(
     requires width_bound { width ≤ 128 }
     requires width_in_bounds { round.now.n * width < length nodes.old }
     requires all_early { AllByRecursion (Early (latest 15)) (take (round.now.n * width) nodes.old) }
-    ensures { (q : RuleSense S) → nodes.new ≡ trimmed_all round.now q (T.Tally.sense tally.now) ceiling width nodes.old }
+    ensures { (q : RuleSense S)
+        → nodes.new ≡ trimmed_all round.now q (T.Tally.sense tally.now) ceiling width nodes.old }
 {
     let end = round.n * width;
     trim_each(round, tally, &mut nodes[..end], ceiling);

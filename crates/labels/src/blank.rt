@@ -1,4 +1,4 @@
-// A place that is not in use.
+//! A place that is not in use.
 ghost use Rattle.std.specs.Prelude.{◌≡◌};
 ghost use Rattle.round.specs.declared.table.Round.{Round as ARound};
 ghost use Rattle.labels.specs.Passes.{blank_node};
@@ -7,9 +7,10 @@ use layers::node::{Arcs, Down, Label, Node, Up};
 use rules::rule::Rule;
 use tallies::tally::Tally;
 
-// No arcs, empty sets, finish 0, and the starts of rule and tally.
+/// No arcs, empty sets, finish 0, and the starts of rule and tally.
 pub fn blank_node<R: Rule, T: Tally>(rule: &R, tally: &T) -> Node<R::State, T::Value>
-    ensures { (r : ARound) → result ≡ blank_node r (R.Rule.sense rule.now) (T.Tally.sense tally.now) }
+    ensures { (r : ARound)
+        → result ≡ blank_node r (R.Rule.sense rule.now) (T.Tally.sense tally.now) }
 {
     let state = rule.start();
     let value = tally.start();

@@ -1,4 +1,4 @@
-// The pass down: each arrival is added to its target, sources by number, then doors.
+//! The pass down: each arrival is added to its target, sources by number, then doors.
 ghost use Rattle.std.specs.Prelude.{◌≡◌, ℕ, ◌+◌, ◌*◌, ◌<◌, ◌≤◌, map, length, get_or, slice_index_or};
 ghost use Rattle.std.specs.List.{AllByRecursion};
 ghost use Rattle.round.specs.Clock.{latest};
@@ -14,7 +14,7 @@ use round::table::Round;
 use rules::rule::Rule;
 use tallies::tally::Tally;
 
-// What the arc by door j brings from a node with the label u.
+/// What the arc by door j brings from a node with the label u.
 pub(crate) fn arrive<R: Rule, T: Tally>(
     round: &Round,
     rule: &R,
@@ -40,14 +40,15 @@ pub(crate) fn arrive<R: Rule, T: Tally>(
     }
 }
 
-// What two arrivals have together.
+/// What two arrivals have together.
 fn merge<R: Rule, T: Tally>(
     rule: &R,
     tally: &T,
     a: &Down<R::State, T::Value>,
     b: &Down<R::State, T::Value>,
 ) -> Down<R::State, T::Value>
-    ensures { (r : ARound) → result ≡ merge r (R.Rule.sense rule.now) (T.Tally.sense tally.now) a.now b.now }
+    ensures { (r : ARound)
+        → result ≡ merge r (R.Rule.sense rule.now) (T.Tally.sense tally.now) a.now b.now }
 {
     Down {
         all: a.all & b.all,
@@ -59,7 +60,7 @@ fn merge<R: Rule, T: Tally>(
     }
 }
 
-// The node at place b takes in the arrival x; it has gathered nothing yet while it has no last place.
+/// The node at place b takes in the arrival x; it has gathered nothing yet while it has no last place.
 fn land<R: Rule, T: Tally>(
     rule: &R,
     tally: &T,
@@ -68,7 +69,8 @@ fn land<R: Rule, T: Tally>(
     x: &Down<R::State, T::Value>,
 )
     requires { b < length vs.old }
-    ensures { (r : ARound) → vs.new ≡ landed r (R.Rule.sense rule.now) (T.Tally.sense tally.now) vs.old b x.now }
+    ensures { (r : ARound)
+        → vs.new ≡ landed r (R.Rule.sense rule.now) (T.Tally.sense tally.now) vs.old b x.now }
 {
     let got = vs[b].label.down;
     let down = if got.lasts == 0 {
@@ -79,7 +81,7 @@ fn land<R: Rule, T: Tally>(
     vs[b].label.down = down;
 }
 
-// Over the arc of u by the door k + 1, if there is one.
+/// Over the arc of u by the door k + 1, if there is one.
 fn cross<R: Rule, T: Tally>(
     round: &Round,
     rule: &R,
@@ -90,7 +92,8 @@ fn cross<R: Rule, T: Tally>(
 )
     requires k_bound { k < 16 }
     requires finish_bound { u.now.label.down.finish ≤ latest 15 }
-    ensures { vs.new ≡ crossed round.now (R.Rule.sense rule.now) (T.Tally.sense tally.now) u.now vs.old k }
+    ensures { vs.new ≡ crossed round.now (R.Rule.sense rule.now) (T.Tally.sense tally.now) u.now
+        vs.old k }
 {
     let t = u.arcs.to[k] as usize;
     if t == 0 || t > vs.len() {
@@ -100,7 +103,7 @@ fn cross<R: Rule, T: Tally>(
     land(rule, tally, vs, t - 1, &x);
 }
 
-// Over all arcs of u.
+/// Over all arcs of u.
 fn spread_node<R: Rule, T: Tally>(
     round: &Round,
     rule: &R,
@@ -109,7 +112,8 @@ fn spread_node<R: Rule, T: Tally>(
     vs: &mut [Node<R::State, T::Value>],
 )
     requires { u.now.label.down.finish ≤ latest 15 }
-    ensures { vs.new ≡ spread round.now (R.Rule.sense rule.now) (T.Tally.sense tally.now) vs.old u.now }
+    ensures { vs.new ≡ spread round.now (R.Rule.sense rule.now) (T.Tally.sense tally.now) vs.old
+        u.now }
 {
     if u.label.down.lasts == 0 {
         return;
@@ -119,7 +123,7 @@ fn spread_node<R: Rule, T: Tally>(
     }
 }
 
-// The label of a place that is not in use.
+/// The label of a place that is not in use.
 fn unreached<R: Rule, T: Tally>(rule: &R, tally: &T) -> Down<R::State, T::Value>
     ensures { (r : ARound) → result ≡ blank r (R.Rule.sense rule.now) (T.Tally.sense tally.now) }
 {
@@ -134,7 +138,8 @@ fn unreached<R: Rule, T: Tally>(rule: &R, tally: &T) -> Down<R::State, T::Value>
 }
 
 fn clear<R: Rule, T: Tally>(rule: &R, tally: &T, vs: &mut [Node<R::State, T::Value>])
-    ensures { (r : ARound) → vs.new ≡ map (cleared r (R.Rule.sense rule.now) (T.Tally.sense tally.now)) vs.old }
+    ensures { (r : ARound)
+        → vs.new ≡ map (cleared r (R.Rule.sense rule.now) (T.Tally.sense tally.now)) vs.old }
 {
     let blank = unreached(rule, tally);
     for v in vs.iter_mut() {
@@ -142,7 +147,7 @@ fn clear<R: Rule, T: Tally>(rule: &R, tally: &T, vs: &mut [Node<R::State, T::Val
     }
 }
 
-// Works out anew the labels of the `count` records from `at` on, from the `width` records at `from`.
+/// Works out anew the labels of the `count` records from `at` on, from the `width` records at `from`.
 fn relabel_layer<R: Rule, T: Tally>(
     round: &Round,
     rule: &R,
@@ -156,7 +161,8 @@ fn relabel_layer<R: Rule, T: Tally>(
     requires width_bound { from + width ≤ at }
     requires count_in_bounds { at + count ≤ length nodes.old }
     requires all_early { AllByRecursion (Early (latest 15)) (part from width nodes.old) }
-    ensures { nodes.new ≡ layer_done round.now (R.Rule.sense rule.now) (T.Tally.sense tally.now) width from count at nodes.old }
+    ensures { nodes.new ≡ layer_done round.now (R.Rule.sense rule.now) (T.Tally.sense tally.now)
+        width from count at nodes.old }
 {
     let (before, rest) = nodes.split_at_mut(at);
     let targets = &mut rest[..count];
@@ -166,7 +172,7 @@ fn relabel_layer<R: Rule, T: Tally>(
     }
 }
 
-// The label of the first node.
+/// The label of the first node.
 fn at_first<R: Rule, T: Tally>(rule: &R, tally: &T) -> Down<R::State, T::Value>
     ensures { (r : ARound) → result ≡ first r (R.Rule.sense rule.now) (T.Tally.sense tally.now) }
 {
@@ -180,7 +186,7 @@ fn at_first<R: Rule, T: Tally>(rule: &R, tally: &T) -> Down<R::State, T::Value>
     }
 }
 
-// The layer of the first node.
+/// The layer of the first node.
 fn begin<R: Rule, T: Tally>(
     rule: &R,
     tally: &T,
@@ -189,13 +195,14 @@ fn begin<R: Rule, T: Tally>(
 )
     requires width_nonzero { 0 < width }
     requires width_in_bounds { width ≤ length nodes.old }
-    ensures { (r : ARound) → nodes.new ≡ begun r (R.Rule.sense rule.now) (T.Tally.sense tally.now) width nodes.old }
+    ensures { (r : ARound)
+        → nodes.new ≡ begun r (R.Rule.sense rule.now) (T.Tally.sense tally.now) width nodes.old }
 {
     clear(rule, tally, &mut nodes[..width]);
     nodes[0].label.down = at_first(rule, tally);
 }
 
-// Works out anew all that is worked out from the first node.
+/// Works out anew all that is worked out from the first node.
 pub(crate) fn label_down<R: Rule, T: Tally>(
     round: &Round,
     rule: &R,
@@ -206,7 +213,8 @@ pub(crate) fn label_down<R: Rule, T: Tally>(
     requires one_le_width { 1 ≤ width }
     requires width_bound { width ≤ 128 }
     requires width_in_bounds { round.now.n * width + 1 ≤ length nodes.old }
-    ensures { nodes.new ≡ pass_down round.now (R.Rule.sense rule.now) (T.Tally.sense tally.now) width nodes.old }
+    ensures { nodes.new ≡ pass_down round.now (R.Rule.sense rule.now) (T.Tally.sense tally.now)
+        width nodes.old }
 {
     let n = round.n;
     begin(rule, tally, nodes, width);

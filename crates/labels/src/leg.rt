@@ -1,11 +1,11 @@
-// The leg of an arc.
+//! The leg of an arc.
 ghost use Rattle.std.specs.Prelude.{◌≡◌, ℕ, ◌+◌, ◌<◌, ◌≤◌};
 ghost use Rattle.layers.specs.Labels.{nearest, leg};
 
 use doors::{DoorSet, contains};
 use round::table::Round;
 
-// The lesser of a drive and the best so far.
+/// The lesser of a drive and the best so far.
 fn nearer(best: Option<u32>, d: u32) -> Option<u32>
     ensures { result ≡ nearest best d }
 {
@@ -15,7 +15,7 @@ fn nearer(best: Option<u32>, d: u32) -> Option<u32>
     }
 }
 
-// The least drive to j from a member of `lasts` other than j, or 0.
+/// The least drive to j from a member of `lasts` other than j, or 0.
 pub fn leg_from(round: &Round, lasts: DoorSet, j: usize) -> u32
     ensures { result ≡ leg round.now lasts j }
 {

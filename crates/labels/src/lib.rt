@@ -1,4 +1,4 @@
-// Works out all labels anew: one pass down over the sources and their doors, and one pass up.
+//! Works out all labels anew: one pass down over the sources and their doors, and one pass up.
 #![tactic(auto)]
 
 pub mod blank;

@@ -1,4 +1,4 @@
-// The pass up: each node gathers from its targets, layer by layer from the end.
+//! The pass up: each node gathers from its targets, layer by layer from the end.
 ghost use Rattle.std.specs.Prelude.{◌≡◌, ℕ, ◌+◌, ◌*◌, ◌<◌, ◌≤◌, map, length, get_or, fold, slice_index_or, slice_set};
 ghost use Rattle.layers.specs.declared.node.Node.{Node as ANode};
 ghost use Rattle.layers.specs.Labels.{climb};
@@ -11,7 +11,7 @@ const NONE: Up = Up {
     someup: 0,
 };
 
-// What the arc by door j brings from its target.
+/// What the arc by door j brings from its target.
 fn climb_from<S: Copy, V: Copy>(v: &Node<S, V>, j: usize) -> Up
     requires { j < 17 }
     ensures { result ≡ climb v.now.label.up j }
@@ -23,7 +23,7 @@ fn climb_from<S: Copy, V: Copy>(v: &Node<S, V>, j: usize) -> Up
     }
 }
 
-// What two arcs have together.
+/// What two arcs have together.
 fn take_up(got: Option<Up>, x: Up) -> Option<Up>
     ensures { result ≡ taken_up got x }
 {
@@ -36,7 +36,7 @@ fn take_up(got: Option<Up>, x: Up) -> Option<Up>
     }
 }
 
-// Over the arc of u by the door k + 1, if there is one.
+/// Over the arc of u by the door k + 1, if there is one.
 fn climb_by<S: Copy, V: Copy>(
     vs: &[Node<S, V>],
     u: &Node<S, V>,
@@ -63,7 +63,7 @@ fn climb_all<S: Copy, V: Copy>(vs: &[Node<S, V>], u: &Node<S, V>) -> Up
     got.unwrap_or(NONE)
 }
 
-// The `width` records at `at` gather from the `count` records at `next`.
+/// The `width` records at `at` gather from the `count` records at `next`.
 fn rise_layer<S: Copy, V: Copy>(
     nodes: &mut [Node<S, V>],
     at: usize,
@@ -83,7 +83,7 @@ fn rise_layer<S: Copy, V: Copy>(
     }
 }
 
-// The end has no door after it.
+/// The end has no door after it.
 fn clear_end<S: Copy, V: Copy>(nodes: &mut [Node<S, V>], at: usize)
     requires { at < length nodes.old }
     ensures { nodes.new ≡ end_cleared at nodes.old }
@@ -91,7 +91,7 @@ fn clear_end<S: Copy, V: Copy>(nodes: &mut [Node<S, V>], at: usize)
     nodes[at].label.up = NONE;
 }
 
-// Works out anew all that is worked out from the end.
+/// Works out anew all that is worked out from the end.
 pub(crate) fn label_up<S: Copy, V: Copy>(nodes: &mut [Node<S, V>], n: usize, width: usize)
     requires one_le_n { 1 ≤ n }
     requires n_bound { n ≤ 16 }

@@ -1,4 +1,4 @@
-// What is claimed of every diagram, as contracts for any rule and any tally.
+//! What is claimed of every diagram, as contracts for any rule and any tally.
 ghost use Rattle.layers.specs.Claim.{Kept, WorkedOut, SettledMeans, WholeSettlesAlways};
 ghost use Rattle.layers.specs.LabelLaws.{LabelsMean};
 ghost use Rattle.layers.specs.SweepLaws.{RefineSweepsOutAlways};
@@ -7,31 +7,35 @@ ghost use Rattle.layers.specs.TidyLaws.{TidyMeans, TidyStays};
 use rules::rule::Rule;
 use tallies::tally::Tally;
 
-// Only what a ceiling rules out can go missing, and nothing false is left once the diagram is settled: for every round that
-// the rule and the tally serve, every width, every lent list and every list of calls after opening.
+/// Only what a ceiling rules out can go missing, and nothing false is left once the diagram is settled: for every round that
+/// the rule and the tally serve, every width, every lent list and every list of calls after opening.
 pub fn nothing_lost<R: Rule, T: Tally>(rule: &R, tally: &T)
-    ensures { Kept (R.Rule.serves rule.now) (R.Rule.sense rule.now) (R.Rule.keeps rule.now) (T.Tally.serves tally.now) (T.Tally.sense tally.now) }
+    ensures { Kept (R.Rule.serves rule.now) (R.Rule.sense rule.now) (R.Rule.keeps rule.now)
+        (T.Tally.serves tally.now) (T.Tally.sense tally.now) }
 {}
 
-// In a run with one rule and one tally the labels that stand are those worked out from the arcs, and no later place is altered.
+/// In a run with one rule and one tally the labels that stand are those worked out from the arcs, and no later place is altered.
 pub fn labels_stand<R: Rule, T: Tally>(rule: &R, tally: &T)
     ensures { WorkedOut (R.Rule.serves rule.now) (R.Rule.sense rule.now) (T.Tally.sense tally.now) }
 {}
 
-// In such a run the diagram is settled exactly when the in-arcs of each node agree and a sweep would take out nothing.
+/// In such a run the diagram is settled exactly when the in-arcs of each node agree and a sweep would take out nothing.
 pub fn settled_means<R: Rule, T: Tally>(rule: &R, tally: &T)
-    ensures { SettledMeans (R.Rule.serves rule.now) (R.Rule.sense rule.now) (T.Tally.sense tally.now) }
+    ensures { SettledMeans (R.Rule.serves rule.now) (R.Rule.sense rule.now)
+        (T.Tally.sense tally.now) }
 {}
 
-// In such a run the sets of each node that stands are the doors on every path to it and on at least one, and likewise on from it
-// to the end; its finish is within the clock's bound for its layer, and its value is one that the tally allows there.
+/// In such a run the sets of each node that stands are the doors on every path to it and on at least one, and likewise on from it
+/// to the end; its finish is within the clock's bound for its layer, and its value is one that the tally allows there.
 pub fn labels_mean<R: Rule, T: Tally>(rule: &R, tally: &T)
-    ensures { LabelsMean (R.Rule.serves rule.now) (R.Rule.sense rule.now) (T.Tally.serves tally.now) (T.Tally.sense tally.now) (T.Tally.allows tally.now) }
+    ensures { LabelsMean (R.Rule.serves rule.now) (R.Rule.sense rule.now) (T.Tally.serves tally.now)
+        (T.Tally.sense tally.now) (T.Tally.allows tally.now) }
 {}
 
-// In such a run refine that answers whole leaves the diagram settled.
+/// In such a run refine that answers whole leaves the diagram settled.
 pub fn whole_settles<R: Rule, T: Tally>(rule: &R, tally: &T)
-    ensures { WholeSettlesAlways (R.Rule.serves rule.now) (R.Rule.sense rule.now) (T.Tally.sense tally.now) }
+    ensures { WholeSettlesAlways (R.Rule.serves rule.now) (R.Rule.sense rule.now)
+        (T.Tally.sense tally.now) }
 {}
 
 /// In such a run refine, whether it answers whole or full, leaves a diagram of which a sweep takes out nothing.

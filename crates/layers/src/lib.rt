@@ -1,4 +1,4 @@
-// The records of a diagram, and what is claimed of it.
+//! The records of a diagram, and what is claimed of it.
 #![tactic(auto)]
 
 pub mod claim;

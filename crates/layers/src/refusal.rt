@@ -1,35 +1,36 @@
-// Why a call on a diagram is refused.
+//! Why a call on a diagram is refused.
 ghost use Rattle.std.specs.Prelude.{◌≡◌};
 ghost use Rattle.layers.specs.Refusals.{number_of};
 
 use std::fmt;
 
+/// Why a call on a diagram is refused.
 #[derive(Clone, Copy, Debug, PartialEq)]
 pub enum Refusal {
-    // the width is not 1 to 128
+    /// the width is not 1 to 128
     Width,
-    // the lent list has too few records
+    /// the lent list has too few records
     Short,
-    // the layer is not 1 to n - 1
+    /// the layer is not 1 to n - 1
     NoLayer,
-    // the layer has no such node
+    /// the layer has no such node
     NoNode,
-    // a door is not 1 to n
+    /// a door is not 1 to n
     NoDoor,
-    // all in-arcs of the node agree
+    /// all in-arcs of the node agree
     OneGroup,
-    // the layer has as many nodes as the width allows
+    /// the layer has as many nodes as the width allows
     LayerFull,
-    // the same node twice
+    /// the same node twice
     SameNode,
-    // by some door the two nodes have arcs to different nodes
+    /// by some door the two nodes have arcs to different nodes
     Clash,
-    // the same door twice
+    /// the same door twice
     SameDoor,
 }
 
 impl Refusal {
-    // The refusal's number.
+    /// The refusal's number.
     pub fn number(self) -> u8
         ensures { result ≡ number_of self }
     {
@@ -48,7 +49,7 @@ impl Refusal {
     }
 }
 
-// As the programs print it: no line and no field of a text is at fault.
+/// As the programs print it: no line and no field of a text is at fault.
 impl fmt::Display for Refusal {
     ghost use Rattle.std.specs.Prelude.{Some};
     ghost use Rattle.layers.specs.Refusals.{told};

@@ -30,7 +30,7 @@ fn each_refusal_is_shown(rt: HostRuntime) -> Result<(), Fail> {
     Ok(())
 }
 
-// A fresh round has one door, due and closed at minute 0, at which one minute of work is done: one late door, by one minute.
+/// A fresh round has one door, due and closed at minute 0, at which one minute of work is done: one late door, by one minute.
 #[test]
 fn a_list_is_opened_and_given_back(rt: HostRuntime) {
     let round = Round::fresh();

@@ -147,7 +147,8 @@ pub fn worked_on<R: Rule, T: Tally>(
     records: &mut [Node<R::State, T::Value>],
     calls: &[Call<T::Value>],
 ) -> Result<(), Refusal>
-    ensures answer { result ≡ open_answer setting.now.round.now.n setting.now.width (length records.old) }
+    ensures answer { result ≡ open_answer setting.now.round.now.n setting.now.width
+        (length records.old) }
     ensures left { IsErr result → records.new ≡ records.old }
     ensures worked { let by = R.Rule.sense setting.now.rule.now in
         let cost = T.Tally.sense setting.now.tally.now in

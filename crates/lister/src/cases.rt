@@ -7,7 +7,7 @@ use std::test::Fail;
 use tallies::driving::Driving;
 use text::reading::read;
 
-// How many lists come from this one on, each after the one before it.
+/// How many lists come from this one on, each after the one before it.
 fn count_from(doors: &mut [usize; 4]) -> usize {
     for seen in 1..100 {
         let before = *doors;
@@ -39,7 +39,7 @@ fn the_last_order_stays(rt: HostRuntime) {
     assert_eq!(rt; doors, [3, 2, 1]);
 }
 
-// The drives from i to n doors, of no minutes.
+/// The drives from i to n doors, of no minutes.
 fn add_drives(heap: Global, text: &mut String, i: usize, n: usize) -> Result<(), AllocError> {
     text.push_str(format!(in heap; "drive\t{i}")?.as_str())?;
     for j in 1..=n {
@@ -48,7 +48,7 @@ fn add_drives(heap: Global, text: &mut String, i: usize, n: usize) -> Result<(),
     text.push_str("\n")
 }
 
-// A round of n doors that are open all day, with a minute of work at each.
+/// A round of n doors that are open all day, with a minute of work at each.
 fn open_round(heap: Global, n: usize, pairs: &str) -> Result<Round, Fail> {
     let mut text = format!(in heap; "round\t{n}\t0\t0\n")?;
     for j in 1..=n {

@@ -44,7 +44,7 @@ pub fn cost_if_allowed<'a, R: Rule, T: Tally>(
     }
 }
 
-// Looks at one more order.
+/// Looks at one more order.
 fn look<R: Rule, T: Tally>(
     round: &Round,
     rule: &R,

@@ -3,7 +3,7 @@ ghost use Rattle.std.specs.Prelude.{◌≡◌, ℕ, ◌<◌, ◌≤◌, false, t
 ghost use Rattle.std.specs.List.Sorted.{IsPermutation};
 ghost use Rattle.lister.specs.Orders.{IsNext, IsLast};
 
-// The last place whose number is above that one, if there is one.
+/// The last place whose number is above that one, if there is one.
 fn last_above(doors: &[usize], number: usize) -> Option<usize>
     ensures { MatchOption result (All (λ j. j ≤ number) doors.now)
         (λ k. (k < length doors.now) × (number < slice_index doors.now k)

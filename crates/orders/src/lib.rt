@@ -1,4 +1,4 @@
-// Part orders of a round's doors: when each door finishes, what they cost, and whether they are allowed.
+//! Part orders of a round's doors: when each door finishes, what they cost, and whether they are allowed.
 #![tactic(auto)]
 
 pub mod order;

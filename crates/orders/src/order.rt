@@ -1,4 +1,4 @@
-// A part order of a round's doors.
+//! A part order of a round's doors.
 ghost use Rattle.std.specs.Prelude.{◌≡◌, true};
 ghost use Rattle.doors.specs.Orders.{is_part_order};
 
@@ -7,6 +7,7 @@ use round::table::Round;
 pub mod asking;
 pub mod making;
 
+/// A part order of a round's doors: each of them a door of the round, none twice.
 #[derive(Clone, Copy)]
 pub struct Order<'a> {
     pub round: &'a Round,

@@ -1,11 +1,11 @@
-// The van on its way.
+//! The van on its way.
 ghost use Rattle.std.specs.Prelude.{◌≡◌, ℕ, suc, ◌<◌, ◌≤◌};
 ghost use Rattle.round.specs.Clock.{latest};
 ghost use Rattle.orders.specs.Times.{yard, goes};
 
 use round::table::Round;
 
-// The place where the van stands, and the minute at which its last work ended.
+/// The place where the van stands, and the minute at which its last work ended.
 #[derive(Clone, Copy)]
 pub struct Van {
     pub last: usize,
@@ -13,14 +13,14 @@ pub struct Van {
 }
 
 impl Van {
-    // At the yard, at minute 0.
+    /// At the yard, at minute 0.
     pub(crate) fn at_yard() -> Van
         ensures { result ≡ yard }
     {
         Van { last: 0, finish: 0 }
     }
 
-    // After the work at door j.
+    /// After the work at door j.
     pub(crate) fn goes(self, round: &Round, j: usize) -> Van
         requires { self.finish ≤ latest 15 }
         ensures { result ≡ goes round.now self j }

@@ -1,11 +1,11 @@
-// What is said of an order.
+/// What is said of an order.
 #[derive(Clone, Copy, Debug, PartialEq)]
 pub enum Verdict {
     Allowed,
-    // a door of the round is missing
+    /// a door of the round is missing
     Incomplete,
-    // the first fault: that door finishes after it closes
+    /// the first fault: that door finishes after it closes
     Closes(usize),
-    // the first fault: that door breaks the side rule
+    /// the first fault: that door breaks the side rule
     Breaks(usize),
 }

@@ -1,4 +1,4 @@
-// A tally: the latest finish so far.
+//! A tally: the latest finish so far.
 ghost use Rattle.std.specs.Prelude.{◌≤◌};
 ghost use Rattle.round.specs.Clock.{latest};
 ghost use Rattle.outside.specs.Latest.{latest_sense};
@@ -6,6 +6,7 @@ ghost use Rattle.std.proofs.Common.{rules};
 
 use tallies::tally::Tally;
 
+/// The tally of the latest finish so far.
 #[derive(Clone, Copy)]
 pub struct LatestFinish;
 

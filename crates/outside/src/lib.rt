@@ -1,4 +1,4 @@
-// A side rule and a tally written outside the crates of the traits: any crate may add one.
+//! A side rule and a tally written outside the crates of the traits: any crate may add one.
 #![tactic(auto)]
 
 pub mod latest;

@@ -1,4 +1,4 @@
-// A side rule: the order begins with one door. A state is whether the van may have begun.
+//! A side rule: the order begins with one door. A state is whether the van may have begun.
 ghost use Rattle.std.specs.Prelude.{◌≡◌, ℕ, false, []};
 ghost use Rattle.std.proofs.Common.{subst};
 ghost use Rattle.outside.specs.Opener.{Begins, opener_sense};
@@ -7,6 +7,7 @@ ghost use Rattle.outside.specs.OpenerLaws.{opener_lawful};
 
 use rules::rule::Rule;
 
+/// The rule that an order begins with this door, in rounds of n doors.
 #[derive(Clone, Copy)]
 pub struct Opener {
     pub n: usize,

@@ -3,14 +3,14 @@ use std::alloc::Global;
 use std::test::Fail;
 use text::reading::read_bounded;
 
-// A round of two doors, cut where the tests go on.
+/// A round of two doors, cut where the tests go on.
 const HEAD: &[u8] = b"round\t2\t0\t9\n";
 
 const DOORS: &[u8] = b"door\t1\t0\t9\t9\t1\t0\ndoor\t2\t0\t9\t9\t1\t-5\n";
 
 const DRIVES: &[u8] = b"drive\t0\t1\t1\ndrive\t1\t-\t10\ndrive\t2\t1\t-\n";
 
-// How a text is read: number, line and field of its refusal, or three zeros.
+/// How a text is read: number, line and field of its refusal, or three zeros.
 fn outcome(text: &[u8]) -> (u8, usize, usize) {
     let mut round = Round::fresh();
     match read_bounded(&mut round, text) {
@@ -223,7 +223,7 @@ fn drives_and_pairs(rt: HostRuntime) -> Result<(), Fail> {
     Ok(())
 }
 
-// The 84 bytes of the round of two doors, that many lines of 10 bytes, and the last bytes.
+/// The 84 bytes of the round of two doors, that many lines of 10 bytes, and the last bytes.
 fn long(heap: Global, pairs: usize, last: &[u8]) -> Result<(u8, usize, usize), Fail> {
     let lines = b"first\t1\t2\n".repeat(heap, pairs)?;
     after(heap, &[HEAD, DOORS, DRIVES, lines.as_slice(), last])

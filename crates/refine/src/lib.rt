@@ -1,4 +1,4 @@
-// Refining a diagram layer by layer, and whether it is settled.
+//! Refining a diagram layer by layer, and whether it is settled.
 #![tactic(auto)]
 
 pub mod refine;

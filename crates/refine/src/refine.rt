@@ -1,4 +1,4 @@
-// Refine: from layer to layer a sweep and all parts, then sweeps until nothing is left to take out.
+//! Refine: from layer to layer a sweep and all parts, then sweeps until nothing is left to take out.
 ghost use Rattle.std.specs.Prelude.{◌≡◌, suc, ◌+◌, ◌-◌, ◌*◌, ◌<◌, ◌≤◌, true, length, if◌then◌else◌};
 ghost use Rattle.labels.specs.Passes.{fits};
 ghost use Rattle.filter.specs.Steps.{arc_count};
@@ -16,7 +16,7 @@ use split::parting::part_layer;
 use tallies::tally::Tally;
 use tidying::count::count_arcs;
 
-// One layer: a sweep, then all its parts on arcs alone, then all labels. Answers whether it was full.
+/// One layer: a sweep, then all its parts on arcs alone, then all labels. Answers whether it was full.
 fn refine_layer<R: Rule, T: Tally>(
     round: &Round,
     rule: &R,
@@ -26,8 +26,10 @@ fn refine_layer<R: Rule, T: Tally>(
     i: usize,
 ) -> bool
     requires { fits round.now.n width (length nodes.old) ≡ true }
-    ensures full { result ≡ (one_layer round.now (R.Rule.sense rule.now) (T.Tally.sense tally.now) width i nodes.old).0 }
-    ensures records { nodes.new ≡ (one_layer round.now (R.Rule.sense rule.now) (T.Tally.sense tally.now) width i nodes.old).1 }
+    ensures full { result ≡
+        (one_layer round.now (R.Rule.sense rule.now) (T.Tally.sense tally.now) width i nodes.old).0 }
+    ensures records { nodes.new ≡
+        (one_layer round.now (R.Rule.sense rule.now) (T.Tally.sense tally.now) width i nodes.old).1 }
 {
     sweep(round, rule, tally, nodes, width);
     let full = part_layer(round, rule, tally, nodes, width, i);
@@ -44,8 +46,10 @@ fn refine_layers<R: Rule, T: Tally>(
 ) -> Refined
     requires { fits round.now.n width (length nodes.old) ≡ true }
     ensures within { IsInnerIfFull round.now.n result }
-    ensures answer { result ≡ (some_layers round.now (R.Rule.sense rule.now) (T.Tally.sense tally.now) width (round.now.n - 1) 1 nodes.old).0 }
-    ensures records { nodes.new ≡ (some_layers round.now (R.Rule.sense rule.now) (T.Tally.sense tally.now) width (round.now.n - 1) 1 nodes.old).1 }
+    ensures answer { result ≡ (some_layers round.now (R.Rule.sense rule.now)
+        (T.Tally.sense tally.now) width (round.now.n - 1) 1 nodes.old).0 }
+    ensures records { nodes.new ≡ (some_layers round.now (R.Rule.sense rule.now)
+        (T.Tally.sense tally.now) width (round.now.n - 1) 1 nodes.old).1 }
 {
     for i in 1..round.n {
         if refine_layer(round, rule, tally, nodes, width, i) {
@@ -55,7 +59,7 @@ fn refine_layers<R: Rule, T: Tally>(
     Refined::Whole
 }
 
-// Sweeps until one takes out nothing: each but the last takes out an arc.
+/// Sweeps until one takes out nothing: each but the last takes out an arc.
 fn sweep_out<R: Rule, T: Tally>(
     round: &Round,
     rule: &R,
@@ -64,7 +68,8 @@ fn sweep_out<R: Rule, T: Tally>(
     width: usize,
 )
     requires { fits round.now.n width (length nodes.old) ≡ true }
-    ensures { nodes.new ≡ sweeps_out round.now (R.Rule.sense rule.now) (T.Tally.sense tally.now) width (suc (arc_count round.now.n width nodes.old)) nodes.old }
+    ensures { nodes.new ≡ sweeps_out round.now (R.Rule.sense rule.now) (T.Tally.sense tally.now)
+        width (suc (arc_count round.now.n width nodes.old)) nodes.old }
 {
     let most = count_arcs(round, nodes, width);
     for turn in 0..=most {
@@ -74,9 +79,9 @@ fn sweep_out<R: Rule, T: Tally>(
     }
 }
 
-// Takes layers 1 to n - 1 in turn: sweeps once, then parts each node whose in-arcs do not all agree, up to a layer that has
-// no place for one more. At the end it sweeps until nothing is taken out. A list that has no room for the diagram is left alone,
-// and is whole.
+/// Takes layers 1 to n - 1 in turn: sweeps once, then parts each node whose in-arcs do not all agree, up to a layer that has
+/// no place for one more. At the end it sweeps until nothing is taken out. A list that has no room for the diagram is left alone,
+/// and is whole.
 pub fn refine<R: Rule, T: Tally>(
     round: &Round,
     rule: &R,
@@ -84,10 +89,15 @@ pub fn refine<R: Rule, T: Tally>(
     nodes: &mut [Node<R::State, T::Value>],
     width: usize,
 ) -> Refined
-    ensures steps { nodes.new ≡ (if fits round.now.n width (length nodes.old) then (refine_steps round.now (R.Rule.sense rule.now) (T.Tally.sense tally.now) width nodes.old).1 else nodes.old) }
+    ensures steps { nodes.new ≡ (if fits round.now.n width (length nodes.old) then
+        (refine_steps round.now (R.Rule.sense rule.now) (T.Tally.sense tally.now) width nodes.old).1
+        else nodes.old) }
     ensures within { IsInnerIfFull round.now.n result }
-    ensures answer { result ≡ (if fits round.now.n width (length nodes.old) then (refine_steps round.now (R.Rule.sense rule.now) (T.Tally.sense tally.now) width nodes.old).0 else Refined.Whole) }
-    ensures words { RefineDone round.now (R.Rule.sense rule.now) (T.Tally.sense tally.now) width nodes.old nodes.new result }
+    ensures answer { result ≡ (if fits round.now.n width (length nodes.old) then
+        (refine_steps round.now (R.Rule.sense rule.now) (T.Tally.sense tally.now) width nodes.old).0
+        else Refined.Whole) }
+    ensures words { RefineDone round.now (R.Rule.sense rule.now) (T.Tally.sense tally.now) width
+        nodes.old nodes.new result }
 {
     if !has_room(round, width, nodes.len()) {
         return Refined::Whole;

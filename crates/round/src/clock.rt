@@ -1,4 +1,4 @@
-// Reading a round's tables, and its clock.
+//! Reading a round's tables, and its clock.
 ghost use Rattle.std.specs.Prelude.{◌≡◌, ◌+◌, ◌≤◌, max, replicate, slice_index, slice_set};
 ghost use Rattle.doors.specs.Orders.{is_door};
 ghost use Rattle.round.specs.Tables.{blank, new_door};
@@ -8,7 +8,7 @@ use crate::door::{BLANK, Door};
 use crate::table::Round;
 
 impl Round {
-    // One door with one minute of work, and all else 0.
+    /// One door with one minute of work, and all else 0.
     pub fn fresh() -> Round
         ensures n { result.n ≡ 1 }
         ensures load { result.load ≡ 0 }
@@ -35,21 +35,21 @@ impl Round {
         }
     }
 
-    // Whether j is one of the doors 1 to n.
+    /// Whether j is one of the doors 1 to n.
     pub fn has_door(&self, j: usize) -> bool
         ensures { result ≡ is_door self.now.n j }
     {
         1 <= j && j <= self.n
     }
 
-    // The record of door j, blank where there is none.
+    /// The record of door j, blank where there is none.
     pub fn door(&self, j: usize) -> Door
         ensures { result ≡ door self.now j }
     {
         self.doors.get(j).copied().unwrap_or(BLANK)
     }
 
-    // The drive minutes from i to door j, 0 where there are none.
+    /// The drive minutes from i to door j, 0 where there are none.
     pub fn drive(&self, i: usize, j: usize) -> u32
         ensures value { result ≡ drive self.now i j }
         ensures bound { result ≤ 999 }
@@ -58,7 +58,7 @@ impl Round {
         minutes.map_or(0, |minutes| u32::from(*minutes))
     }
 
-    // The minute at which the work at door j ends, for a van that left its last place at minute `from` and drove `leg` minutes.
+    /// The minute at which the work at door j ends, for a van that left its last place at minute `from` and drove `leg` minutes.
     pub fn finish(&self, from: u32, leg: u32, j: usize) -> u64
         ensures value { result ≡ finish self.now from leg j }
         ensures laws { ClockLaws self.now }

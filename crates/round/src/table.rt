@@ -1,16 +1,16 @@
-// A round, lawful by its type.
+//! A round, lawful by its type.
 ghost use Rattle.std.specs.Prelude.{◌≡◌, ℕ, ◌≤◌, pos, negsuc, ◌≤ℤ◌};
 ghost use Rattle.round.specs.Tables.{at, leg};
 
 use crate::door::Door;
 use doors::DoorSet;
 
-// The tables go by number, with the yard at 0: a door's record, the minutes `drives[i][j]` from i to door j, and the
-// set `ahead[j]` of the doors that have to come ahead of door j. What stands past n, or at the yard, is blank.
+/// The tables go by number, with the yard at 0: a door's record, the minutes `drives[i][j]` from i to door j, and the
+/// set `ahead[j]` of the doors that have to come ahead of door j. What stands past n, or at the yard, is blank.
 #[derive(Clone, Copy)]
 pub struct Round {
     pub n: usize,
-    // the key boxes in the van at the start, and the most that it holds
+    /// the key boxes in the van at the start, and the most that it holds
     pub load: u16,
     pub cap: u16,
     pub doors: [Door; 17],

@@ -4,7 +4,7 @@ use doors::{DoorSet, contains};
 use layers::refined::Refined;
 use std::fmt;
 
-// The line of the bound.
+/// The line of the bound.
 #[derive(Clone, Copy)]
 struct BoundLine(Option<(u32, u32)>);
 
@@ -22,7 +22,7 @@ impl fmt::Display for BoundLine {
     }
 }
 
-// The line of what refine answered.
+/// The line of what refine answered.
 #[derive(Clone, Copy)]
 struct RefineLine(Refined);
 
@@ -40,7 +40,7 @@ impl fmt::Display for RefineLine {
     }
 }
 
-// The lines of the doors that have to come behind one door.
+/// The lines of the doors that have to come behind one door.
 #[derive(Clone, Copy)]
 struct LinesBehind {
     door: usize,

@@ -8,7 +8,7 @@ use rules::load::Interval;
 
 type SheetDiagram<'a, 'n> = Diagram<'a, 'n, (DoorSet, Interval), (u32, u32)>;
 
-// Whether door i has to come ahead of door j; no for numbers that are not two doors of the round.
+/// Whether door i has to come ahead of door j; no for numbers that are not two doors of the round.
 fn is_must(diagram: &SheetDiagram<'_, '_>, i: usize, j: usize) -> bool
     requires { diagram.now.room.width ≡ 16 }
     ensures { result ≡ must_of diagram.now.room.round.now diagram.now.nodes.now i j }
@@ -16,7 +16,7 @@ fn is_must(diagram: &SheetDiagram<'_, '_>, i: usize, j: usize) -> bool
     diagram.must(i, j).unwrap_or(false)
 }
 
-// The doors that have to come behind door i.
+/// The doors that have to come behind door i.
 fn behind(diagram: &SheetDiagram<'_, '_>, i: usize) -> DoorSet
     requires { diagram.now.room.width ≡ 16 }
     ensures { result ≡ behind diagram.now.room.round.now diagram.now.nodes.now i }
@@ -30,7 +30,7 @@ fn behind(diagram: &SheetDiagram<'_, '_>, i: usize) -> DoorSet
     set
 }
 
-// The same for each place of the table.
+/// The same for each place of the table.
 pub(crate) fn musts_of(diagram: &SheetDiagram<'_, '_>) -> [DoorSet; 17]
     requires { diagram.now.room.width ≡ 16 }
     ensures { result ≡ musts_of diagram.now.room.round.now diagram.now.nodes.now }

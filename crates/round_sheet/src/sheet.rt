@@ -59,7 +59,7 @@ pub struct Sheet {
     pub musts: [DoorSet; 17],
 }
 
-// The sheet read off the diagram that is opened and refined on the list.
+/// The sheet read off the diagram that is opened and refined on the list.
 fn sheet_on(room: Room<'_>, records: &mut [Place]) -> Sheet
     requires fits { room.round.now.n * room.width + 1 ≤ length records.old }
     requires width { room.width ≡ 16 }

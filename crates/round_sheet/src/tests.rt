@@ -6,13 +6,13 @@ use std::alloc::Global;
 use std::test::Fail;
 use text::reading::read_bounded;
 
-// Three doors, ahead of the one whose hours the tests choose, and after it.
+/// Three doors, ahead of the one whose hours the tests choose, and after it.
 const HEAD: &[u8] = b"round\t3\t0\t0\ndoor\t1\t0\t3\t3\t2\t0\n";
 
 const TAIL: &[u8] =
     b"door\t3\t3\t8\t6\t3\t0\ndrive\t0\t0\t0\t0\ndrive\t1\t-\t0\t0\ndrive\t2\t0\t-\t0\ndrive\t3\t0\t0\t-\n";
 
-// Five doors that may be driven in any order.
+/// Five doors that may be driven in any order.
 const FREE: &[u8] =
     b"round\t5\t0\t0\ndoor\t1\t0\t9999\t9999\t1\t0\ndoor\t2\t0\t9999\t9999\t1\t0\ndoor\t3\t0\t9999\t9999\t1\t0\ndoor\t4\t0\t9999\t9999\t1\t0\ndoor\t5\t0\t9999\t9999\t1\t0\ndrive\t0\t0\t0\t0\t0\t0\ndrive\t1\t-\t0\t0\t0\t0\ndrive\t2\t0\t-\t0\t0\t0\ndrive\t3\t0\t0\t-\t0\t0\ndrive\t4\t0\t0\t0\t-\t0\ndrive\t5\t0\t0\t0\t0\t-\n";
 
@@ -22,7 +22,7 @@ fn round_of(text: &[u8]) -> Result<Round, Fail> {
     Ok(round)
 }
 
-// The printed sheet of the three doors, where the second has these hours.
+/// The printed sheet of the three doors, where the second has these hours.
 fn shown(alloc: Global, door: &[u8]) -> Result<String, Fail> {
     let text = [HEAD, door, TAIL].concat(alloc)?;
     let round = round_of(text.as_slice())?;
@@ -51,7 +51,7 @@ fn no_order_is_allowed(rt: HostRuntime) -> Result<(), Fail> {
     Ok(())
 }
 
-// Ten pairs of doors, each with two that may be last, do not fit in 16 nodes.
+/// Ten pairs of doors, each with two that may be last, do not fit in 16 nodes.
 #[test]
 fn a_layer_is_full(rt: HostRuntime) -> Result<(), Fail> {
     let round = round_of(FREE)?;

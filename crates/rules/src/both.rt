@@ -1,4 +1,4 @@
-// Two rules together are a rule again.
+//! Two rules together are a rule again.
 ghost use Rattle.std.specs.Prelude.{◌≡◌};
 ghost use Rattle.rules.specs.Boths.{both_sense};
 ghost use Rattle.rules.specs.BothLaws.{both_lawful};
@@ -9,14 +9,16 @@ use crate::pairs::Pairs;
 use crate::rule::Rule;
 use round::table::Round;
 
+/// Two rules together: kept if both are.
 #[derive(Clone, Copy)]
 pub struct Both<A, B> {
     pub first: A,
     pub second: B,
 }
 
-// The side rules of a round.
+/// The side rules of a round.
 impl<'a> Both<Pairs<'a>, Load<'a>> {
+    /// The pairs and the load of a round.
     pub fn of(round: &'a Round) -> Both<Pairs<'a>, Load<'a>>
         ensures first { result.first.round ≡ round.entry }
         ensures second { result.second.round ≡ round.entry }

@@ -1,4 +1,4 @@
-// Side rules: what a rule is, and pairs, load, and both of any two.
+//! Side rules: what a rule is, and pairs, load, and both of any two.
 #![tactic(auto)]
 
 pub mod both;

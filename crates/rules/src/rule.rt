@@ -1,8 +1,8 @@
-// A side rule: which part orders keep it, and states that stand for part orders.
+//! A side rule: which part orders keep it, and states that stand for part orders.
 ghost use Rattle.std.specs.Prelude.{◌≡◌, ℕ, true, List};
 ghost use Rattle.rules.specs.Rules.{RuleSense, RuleLaws};
 
-// The functions only answer: they refuse nothing and alter nothing, and answer as `sense` says.
+/// The functions only answer: they refuse nothing and alter nothing, and answer as `sense` says.
 pub trait Rule {
     type State: Copy;
 
@@ -21,15 +21,15 @@ pub trait Rule {
     fn start(&self) -> Self::State
         ensures { result ≡ (sense self.now).start };
 
-    // The state after one more door.
+    /// The state after one more door.
     fn step(&self, s: Self::State, j: usize) -> Self::State
         ensures { result ≡ (sense self.now).step s j };
 
-    // A state that stands for all that either stands for.
+    /// A state that stands for all that either stands for.
     fn cover(&self, s: Self::State, t: Self::State) -> Self::State
         ensures { result ≡ (sense self.now).cover s t };
 
-    // Whether door j would break the rule after each part order that s stands for.
+    /// Whether door j would break the rule after each part order that s stands for.
     fn bars(&self, s: Self::State, j: usize) -> bool
         ensures { result ≡ (sense self.now).bars s j };
 

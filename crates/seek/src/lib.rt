@@ -1,4 +1,4 @@
-// Whether a path has one door at an earlier place than another, worked out layer by layer from the end.
+//! Whether a path has one door at an earlier place than another, worked out layer by layer from the end.
 #![tactic(auto)]
 
 pub mod must;

@@ -1,4 +1,4 @@
-// Whether one door comes before another on every path.
+//! Whether one door comes before another on every path.
 ghost use Rattle.std.specs.Prelude.{◌≡◌, false, length, if◌then◌else◌};
 ghost use Rattle.layers.specs.Calls.{must};
 ghost use Rattle.seek.specs.Rows.{fits};
@@ -12,8 +12,8 @@ fn fits(n: usize, width: usize, long: usize) -> bool
     width >= 1 && width <= 128 && n <= 16 && long >= n * width + 1
 }
 
-// Yes if no path of the diagram of n doors has the door j at an earlier place than the door i. No for a list too short for the
-// diagram, a width out of 1 to 128, and more than 16 doors.
+/// Yes if no path of the diagram of n doors has the door j at an earlier place than the door i. No for a list too short for the
+/// diagram, a width out of 1 to 128, and more than 16 doors.
 pub fn must<S: Copy, V: Copy>(
     nodes: &[Node<S, V>],
     n: usize,
@@ -21,7 +21,8 @@ pub fn must<S: Copy, V: Copy>(
     i: usize,
     j: usize,
 ) -> bool
-    ensures { result ≡ (if fits n width (length nodes.now) then must n width i j nodes.now else false) }
+    ensures { result ≡
+        (if fits n width (length nodes.now) then must n width i j nodes.now else false) }
 {
     if !fits(n, width, nodes.len()) {
         return false;

@@ -1,4 +1,4 @@
-// A row: what is seen from each node of a layer, by target number.
+//! A row: what is seen from each node of a layer, by target number.
 ghost use Rattle.std.specs.Prelude.{◌≡◌, ℕ, ◌+◌, ◌*◌, ◌≤◌, length, slice_index_or};
 ghost use Rattle.layers.specs.Calls.{arcs};
 ghost use Rattle.seek.specs.Rows.{by_first, none, of_target, seen_from};
@@ -6,7 +6,7 @@ ghost use Rattle.seek.specs.Rows.{by_first, none, of_target, seen_from};
 use crate::seen::{NONE, Seen, either, through};
 use layers::node::Node;
 
-// Over the arcs of u by the first n doors.
+/// Over the arcs of u by the first n doors.
 fn by_first<S: Copy, V: Copy>(
     i: usize,
     j: usize,
@@ -25,7 +25,7 @@ fn by_first<S: Copy, V: Copy>(
     got
 }
 
-// The row of the layer us, from the row below it: nothing is seen from the first unused place on.
+/// The row of the layer us, from the row below it: nothing is seen from the first unused place on.
 fn row_of<S: Copy, V: Copy>(
     i: usize,
     j: usize,
@@ -35,7 +35,8 @@ fn row_of<S: Copy, V: Copy>(
 ) -> [Seen; 256]
     requires n_bound { n ≤ 16 }
     requires us_len_bound { length us.now ≤ 128 }
-    ensures { (t : ℕ) → slice_index_or result t none ≡ of_target (λ u. by_first i j below.now u n) us.now t }
+    ensures { (t : ℕ)
+        → slice_index_or result t none ≡ of_target (λ u. by_first i j below.now u n) us.now t }
 {
     let mut row = [NONE; 256];
     for (a, u) in us.iter().enumerate() {
@@ -47,7 +48,7 @@ fn row_of<S: Copy, V: Copy>(
     row
 }
 
-// The row of the first layer.
+/// The row of the first layer.
 pub(crate) fn first_row<S: Copy, V: Copy>(
     i: usize,
     j: usize,

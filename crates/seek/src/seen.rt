@@ -1,8 +1,8 @@
-// What is seen from a node, of two doors i and j.
+//! What is seen from a node, of two doors i and j.
 ghost use Rattle.std.specs.Prelude.{◌≡◌};
 ghost use Rattle.seek.specs.Rows.{either, through};
 
-// A path to the end; one with the door i; one with the door j and the door i after it.
+/// A path to the end; one with the door i; one with the door j and the door i after it.
 #[derive(Clone, Copy)]
 pub(crate) struct Seen {
     pub(crate) ends: bool,
@@ -16,7 +16,7 @@ pub(crate) const NONE: Seen = Seen {
     both: false,
 };
 
-// Over an arc by `door`, to a node from which `below` is seen.
+/// Over an arc by `door`, to a node from which `below` is seen.
 #[tactic(auto, unfolding(crate::specs::Rows::through))]
 pub(crate) fn through(i: usize, j: usize, door: usize, below: Seen) -> Seen
     ensures { result ≡ through i j door below }

@@ -1,4 +1,4 @@
-// Whether the in-arcs of a node agree, and the test by which a node is parted.
+//! Whether the in-arcs of a node agree, and the test by which a node is parted.
 ghost use Rattle.std.specs.Prelude.{◌≡◌, ◌+◌, ◌-◌, ◌<◌, ◌≤◌, ◌++◌, length, take, drop, fold};
 ghost use Rattle.tallies.specs.Tallies.{TallySense};
 ghost use Rattle.layers.specs.declared.node.Node.{Node as ANode};
@@ -15,7 +15,7 @@ use round::table::Round;
 use rules::rule::Rule;
 use tallies::tally::Tally;
 
-// When the work at the arrival would end, in u64 since any finish may stand.
+/// When the work at the arrival would end, in u64 since any finish may stand.
 fn finish_of<S: Copy, V: Copy>(round: &Round, x: &Source<S, V>) -> u64
     ensures { result ≡ finish_of round.now x.now }
 {
@@ -23,7 +23,7 @@ fn finish_of<S: Copy, V: Copy>(round: &Round, x: &Source<S, V>) -> u64
     round.finish(x.label.finish, leg, x.door)
 }
 
-// Whether two arrivals agree in all, some, finish, lasts and state.
+/// Whether two arrivals agree in all, some, finish, lasts and state.
 #[tactic(auto, unfolding(layers::specs::Labels::agree, layers::specs::Labels::arrive, crate::specs::Agreed::brought))]
 fn agrees<R: Rule, V: Copy>(
     round: &Round,
@@ -31,7 +31,10 @@ fn agrees<R: Rule, V: Copy>(
     x: &Source<R::State, V>,
     y: &Source<R::State, V>,
 ) -> bool
-    ensures { (t : TallySense V) → result ≡ agree round.now (R.Rule.sense rule.now) t (brought round.now (R.Rule.sense rule.now) t x.now) (brought round.now (R.Rule.sense rule.now) t y.now) }
+    ensures { (t : TallySense V)
+        → result ≡ agree round.now (R.Rule.sense rule.now) t
+        (brought round.now (R.Rule.sense rule.now) t x.now)
+        (brought round.now (R.Rule.sense rule.now) t y.now) }
 {
     let last = 1u32 << x.door;
     let other = 1u32 << y.door;
@@ -45,14 +48,17 @@ fn agrees<R: Rule, V: Copy>(
         )
 }
 
-// One more arrival.
+/// One more arrival.
 fn meet<R: Rule, V: Copy>(
     round: &Round,
     rule: &R,
     got: Arrived<R::State, V>,
     y: Source<R::State, V>,
 ) -> Arrived<R::State, V>
-    ensures { (t : TallySense V) → seen round.now (R.Rule.sense rule.now) t result ≡ met round.now (R.Rule.sense rule.now) t (seen round.now (R.Rule.sense rule.now) t got) (brought round.now (R.Rule.sense rule.now) t y) }
+    ensures { (t : TallySense V)
+        → seen round.now (R.Rule.sense rule.now) t result ≡ met round.now (R.Rule.sense rule.now) t
+        (seen round.now (R.Rule.sense rule.now) t got)
+        (brought round.now (R.Rule.sense rule.now) t y) }
 {
     let Arrived { first, agreed } = got;
     match first {
@@ -67,7 +73,7 @@ fn meet<R: Rule, V: Copy>(
     }
 }
 
-// All arcs of u that lead to node t.
+/// All arcs of u that lead to node t.
 fn meet_node<R: Rule, V: Copy>(
     round: &Round,
     rule: &R,
@@ -75,7 +81,10 @@ fn meet_node<R: Rule, V: Copy>(
     u: &Node<R::State, V>,
     t: u8,
 ) -> Arrived<R::State, V>
-    ensures { (s : TallySense V) → seen round.now (R.Rule.sense rule.now) s result ≡ fold (met round.now (R.Rule.sense rule.now) s) (seen round.now (R.Rule.sense rule.now) s got) (from_node round.now (R.Rule.sense rule.now) s t u.now) }
+    ensures { (s : TallySense V)
+        → seen round.now (R.Rule.sense rule.now) s result ≡ fold
+        (met round.now (R.Rule.sense rule.now) s) (seen round.now (R.Rule.sense rule.now) s got)
+        (from_node round.now (R.Rule.sense rule.now) s t u.now) }
 {
     if u.label.down.lasts == 0 {
         return got;
@@ -93,15 +102,19 @@ fn meet_node<R: Rule, V: Copy>(
     all
 }
 
-// The first arrival at node t out of the layer us before it, and whether all agree with it.
+/// The first arrival at node t out of the layer us before it, and whether all agree with it.
 fn look_at<R: Rule, V: Copy>(
     round: &Round,
     rule: &R,
     us: &[Node<R::State, V>],
     t: u8,
 ) -> Arrived<R::State, V>
-    ensures first { (s : TallySense V) → brought_first round.now (R.Rule.sense rule.now) s result.first ≡ first_arrival round.now (R.Rule.sense rule.now) s (arrivals round.now (R.Rule.sense rule.now) s t us.now) }
-    ensures agreed { (s : TallySense V) → result.agreed ≡ agreeing round.now (R.Rule.sense rule.now) s (arrivals round.now (R.Rule.sense rule.now) s t us.now) }
+    ensures first { (s : TallySense V)
+        → brought_first round.now (R.Rule.sense rule.now) s result.first ≡ first_arrival round.now
+        (R.Rule.sense rule.now) s (arrivals round.now (R.Rule.sense rule.now) s t us.now) }
+    ensures agreed { (s : TallySense V)
+        → result.agreed ≡ agreeing round.now (R.Rule.sense rule.now) s
+        (arrivals round.now (R.Rule.sense rule.now) s t us.now) }
 {
     let mut all = Arrived {
         first: None,
@@ -113,7 +126,7 @@ fn look_at<R: Rule, V: Copy>(
     all
 }
 
-// The same, of the w records at `at`.
+/// The same, of the w records at `at`.
 pub(crate) fn look_in<R: Rule, V: Copy>(
     round: &Round,
     rule: &R,
@@ -123,14 +136,19 @@ pub(crate) fn look_in<R: Rule, V: Copy>(
     t: u8,
 ) -> Arrived<R::State, V>
     requires { at + w ≤ length nodes.now }
-    ensures first { (s : TallySense V) → brought_first round.now (R.Rule.sense rule.now) s result.first ≡ first_arrival round.now (R.Rule.sense rule.now) s (arrivals round.now (R.Rule.sense rule.now) s t (part at w nodes.now)) }
-    ensures agreed { (s : TallySense V) → result.agreed ≡ agreeing round.now (R.Rule.sense rule.now) s (arrivals round.now (R.Rule.sense rule.now) s t (part at w nodes.now)) }
+    ensures first { (s : TallySense V)
+        → brought_first round.now (R.Rule.sense rule.now) s result.first ≡ first_arrival round.now
+        (R.Rule.sense rule.now) s
+        (arrivals round.now (R.Rule.sense rule.now) s t (part at w nodes.now)) }
+    ensures agreed { (s : TallySense V)
+        → result.agreed ≡ agreeing round.now (R.Rule.sense rule.now) s
+        (arrivals round.now (R.Rule.sense rule.now) s t (part at w nodes.now)) }
 {
     let end = at + w;
     look_at(round, rule, &nodes[at..end], t)
 }
 
-// The in-arcs that agree with the first stay. The tally is lent for the type of its values alone.
+/// The in-arcs that agree with the first stay. The tally is lent for the type of its values alone.
 #[derive(Drop)]
 pub(crate) struct ByFirst<'a, R, T, S, V> {
     pub(crate) round: &'a Round,
@@ -155,8 +173,8 @@ impl<'a, R: Rule, T: Tally> Test for ByFirst<'a, R, T, R::State, T::Value> {
     }
 }
 
-// Parts node a of the layer whose records begin at `at + w`, which has `count` nodes and room for one more: the in-arcs
-// stay that agree with the first, which comes from `first`.
+/// Parts node a of the layer whose records begin at `at + w`, which has `count` nodes and room for one more: the in-arcs
+/// stay that agree with the first, which comes from `first`.
 pub(crate) fn part_by_first<'a, R: Rule, T: Tally>(
     round: &'a Round,
     rule: &'a R,
@@ -173,7 +191,10 @@ pub(crate) fn part_by_first<'a, R: Rule, T: Tally>(
     requires one_le_a { 1 ≤ a }
     requires a_le_count { a ≤ count }
     requires count_lt_w { count < w }
-    ensures { (z : ANode (R.State) (T.Value)) → nodes.new ≡ take at nodes.old ++ parted_second (kept_by round.now (R.Rule.sense rule.now) (T.Tally.sense tally.now) first) w (a - 1) count (drop at nodes.old) z }
+    ensures { (z : ANode (R.State) (T.Value))
+        → nodes.new ≡ take at nodes.old ++ parted_second
+        (kept_by round.now (R.Rule.sense rule.now) (T.Tally.sense tally.now) first) w (a - 1)
+        count (drop at nodes.old) z }
 {
     let test = ByFirst {
         round,

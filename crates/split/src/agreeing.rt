@@ -1,4 +1,4 @@
-// Whether the in-arcs of each node agree.
+//! Whether the in-arcs of each node agree.
 ghost use Rattle.std.specs.Prelude.{◌≡◌, ◌+◌, ◌*◌, ◌≤◌, length};
 ghost use Rattle.tallies.specs.Tallies.{TallySense};
 ghost use Rattle.labels.specs.Passes.{part};
@@ -12,7 +12,7 @@ use layers::node::Node;
 use round::table::Round;
 use rules::rule::Rule;
 
-// Whether the in-arcs of each node agree of the layer after the w records at `at`.
+/// Whether the in-arcs of each node agree of the layer after the w records at `at`.
 fn layer_agreed<R: Rule, V: Copy>(
     round: &Round,
     rule: &R,
@@ -22,7 +22,9 @@ fn layer_agreed<R: Rule, V: Copy>(
 ) -> bool
     requires w_in_bounds { at + w + w ≤ length nodes.now }
     requires w_bound { w ≤ 128 }
-    ensures { (s : TallySense V) → result ≡ agreed_to round.now (R.Rule.sense rule.now) s (node_count (at + w) w nodes.now) (part at w nodes.now) }
+    ensures { (s : TallySense V)
+        → result ≡ agreed_to round.now (R.Rule.sense rule.now) s (node_count (at + w) w nodes.now)
+        (part at w nodes.now) }
 {
     let count = count_in(nodes, at + w, w);
     let mut all = true;
@@ -33,15 +35,17 @@ fn layer_agreed<R: Rule, V: Copy>(
     all
 }
 
-// Whether the in-arcs of each node of the layers 1 to n - 1 agree. No for a list that has no room for the round's diagram.
+/// Whether the in-arcs of each node of the layers 1 to n - 1 agree. No for a list that has no room for the round's diagram.
 pub fn agreed<R: Rule, V: Copy>(
     round: &Round,
     rule: &R,
     nodes: &[Node<R::State, V>],
     width: usize,
 ) -> bool
-    ensures steps { (s : TallySense V) → result ≡ agreed_steps round.now (R.Rule.sense rule.now) s width nodes.now }
-    ensures words { (s : TallySense V) → AgreedDone round.now (R.Rule.sense rule.now) s width nodes.now result }
+    ensures steps { (s : TallySense V)
+        → result ≡ agreed_steps round.now (R.Rule.sense rule.now) s width nodes.now }
+    ensures words { (s : TallySense V)
+        → AgreedDone round.now (R.Rule.sense rule.now) s width nodes.now result }
 {
     if !has_room(round, width, nodes.len()) {
         return false;

@@ -1,10 +1,10 @@
-// What is refused before a node is parted, or two are joined.
+//! What is refused before a node is parted, or two are joined.
 ghost use Rattle.std.specs.Prelude.{◌≡◌, ◌≤◌};
 ghost use Rattle.split.specs.Steps.{place_check, node_check};
 
 use layers::refusal::Refusal;
 
-// Whether a list of `len` records has room for a diagram of n doors, and the layer lies between the first and the end.
+/// Whether a list of `len` records has room for a diagram of n doors, and the layer lies between the first and the end.
 pub(crate) fn check_place(n: usize, width: usize, len: usize, layer: usize) -> Result<(), Refusal>
     requires { n ≤ 16 }
     ensures { result ≡ place_check n width len layer }
@@ -21,7 +21,7 @@ pub(crate) fn check_place(n: usize, width: usize, len: usize, layer: usize) -> R
     Ok(())
 }
 
-// Whether a layer of `count` nodes has that one.
+/// Whether a layer of `count` nodes has that one.
 pub(crate) fn check_node(count: usize, node: usize) -> Result<(), Refusal>
     ensures { result ≡ node_check count node }
 {

@@ -1,4 +1,4 @@
-// Joining two nodes of a layer.
+//! Joining two nodes of a layer.
 ghost use Rattle.std.specs.Prelude.{◌≡◌, ℕ, ◌+◌, ◌-◌, ◌<◌, ◌≤◌, [], ◌∷◌, ◌++◌, map, length, take, drop};
 ghost use Rattle.layers.specs.Flow.{clash, either_target, without_at};
 ghost use Rattle.split.specs.Joined.{moved_to, moved_node, joined_node, joined_layer, joined_second};
@@ -6,7 +6,7 @@ ghost use Rattle.layers.specs.Targets.{targets, at_door};
 
 use layers::node::{Arcs, Node};
 
-// Whether both nodes have an arc by one door, to different nodes.
+/// Whether both nodes have an arc by one door, to different nodes.
 pub(crate) fn clashes<S: Copy, V: Copy>(x: &Node<S, V>, y: &Node<S, V>) -> bool
     ensures { result ≡ clash (targets x.now) (targets y.now) }
 {
@@ -17,7 +17,7 @@ pub(crate) fn clashes<S: Copy, V: Copy>(x: &Node<S, V>, y: &Node<S, V>) -> bool
         .any(|(s, t)| *s != 0 && *t != 0 && *s != *t)
 }
 
-// The number that has taken the place of t: hi became lo, and what came after hi has moved down.
+/// The number that has taken the place of t: hi became lo, and what came after hi has moved down.
 fn moved_to(lo: u8, hi: u8, t: u8) -> u8
     requires one_le_lo { 1 ≤ lo }
     requires lo_lt_hi { lo < hi }
@@ -54,7 +54,7 @@ fn move_layer<S: Copy, V: Copy>(us: &mut [Node<S, V>], lo: u8, hi: u8)
     }
 }
 
-// A node with the out-arcs of both.
+/// A node with the out-arcs of both.
 fn both<S: Copy, V: Copy>(x: &Node<S, V>, y: &Node<S, V>) -> Node<S, V>
     ensures { result ≡ joined_node x.now y.now }
 {
@@ -72,7 +72,7 @@ fn both<S: Copy, V: Copy>(x: &Node<S, V>, y: &Node<S, V>) -> Node<S, V>
     }
 }
 
-// Takes out the record at `at`: the later ones move down, and the last place is blank.
+/// Takes out the record at `at`: the later ones move down, and the last place is blank.
 fn take_out<S: Copy, V: Copy>(us: &mut [Node<S, V>], at: usize, blank: &Node<S, V>)
     requires { at < length us.old }
     ensures { us.new ≡ without_at at us.old ++ blank.now ∷ [] }
@@ -82,7 +82,7 @@ fn take_out<S: Copy, V: Copy>(us: &mut [Node<S, V>], at: usize, blank: &Node<S, 
     us[last] = *blank;
 }
 
-// Joins the nodes lo and hi of a layer; their in-arcs are the layer's before it.
+/// Joins the nodes lo and hi of a layer; their in-arcs are the layer's before it.
 fn join_layer<S: Copy, V: Copy>(us: &mut [Node<S, V>], lo: usize, hi: usize, blank: &Node<S, V>)
     requires one_le_lo { 1 ≤ lo }
     requires lo_lt_hi { lo < hi }
@@ -95,7 +95,7 @@ fn join_layer<S: Copy, V: Copy>(us: &mut [Node<S, V>], lo: usize, hi: usize, bla
     take_out(us, hi - 1, blank);
 }
 
-// Joins the nodes lo and hi of the second of the layers of w records.
+/// Joins the nodes lo and hi of the second of the layers of w records.
 fn join_second<S: Copy, V: Copy>(
     nodes: &mut [Node<S, V>],
     w: usize,
@@ -114,7 +114,7 @@ fn join_second<S: Copy, V: Copy>(
     join_layer(&mut rest[..w], lo as usize, hi as usize, blank);
 }
 
-// Joins the nodes lo and hi of the layer whose records begin at `at + w`.
+/// Joins the nodes lo and hi of the layer whose records begin at `at + w`.
 pub(crate) fn join<S: Copy, V: Copy>(
     nodes: &mut [Node<S, V>],
     at: usize,
@@ -127,7 +127,8 @@ pub(crate) fn join<S: Copy, V: Copy>(
     requires one_le_lo { 1 ≤ lo }
     requires lo_lt_hi { lo < hi }
     requires hi_le_w { hi ≤ w }
-    ensures { nodes.new ≡ take at nodes.old ++ joined_second w (lo - 1) (hi - 1) (drop at nodes.old) blank.now }
+    ensures { nodes.new ≡ take at nodes.old ++ joined_second w (lo - 1) (hi - 1) (drop at nodes.old)
+        blank.now }
 {
     let rest = &mut nodes[at..];
     join_second(rest, w, lo, hi, blank);

@@ -1,4 +1,4 @@
-// Joining two nodes of a layer: one node with the in-arcs and the out-arcs of both.
+//! Joining two nodes of a layer: one node with the in-arcs and the out-arcs of both.
 ghost use Rattle.std.specs.Prelude.{◌≡◌, ◌+◌, ◌-◌, ◌<◌, ◌≤◌, max, length, ◌==◌};
 ghost use Rattle.layers.specs.declared.node.Node.{Node as ANode};
 ghost use Rattle.labels.specs.Passes.{blank_node};
@@ -16,7 +16,7 @@ use round::table::Round;
 use rules::rule::Rule;
 use tallies::tally::Tally;
 
-// Whether nodes a and b of the layer whose records begin at `at` are two, and have no arcs by one door to different nodes.
+/// Whether nodes a and b of the layer whose records begin at `at` are two, and have no arcs by one door to different nodes.
 fn check_pair<S: Copy, V: Copy>(
     nodes: &[Node<S, V>],
     at: usize,
@@ -39,7 +39,7 @@ fn check_pair<S: Copy, V: Copy>(
     Ok(())
 }
 
-// Whether nodes a and b of the layer can be joined, in a diagram of n doors.
+/// Whether nodes a and b of the layer can be joined, in a diagram of n doors.
 fn check_join<S: Copy, V: Copy>(
     nodes: &[Node<S, V>],
     n: usize,
@@ -59,8 +59,8 @@ fn check_join<S: Copy, V: Copy>(
     check_pair(nodes, at, a, b)
 }
 
-// Joins nodes a and b of the layer: a node with the out-arcs of both stands at the lower of the two places, the nodes after
-// the other move down, and all labels are worked out anew. A refusal alters nothing.
+/// Joins nodes a and b of the layer: a node with the out-arcs of both stands at the lower of the two places, the nodes after
+/// the other move down, and all labels are worked out anew. A refusal alters nothing.
 pub fn join<R: Rule, T: Tally>(
     round: &Round,
     rule: &R,
@@ -71,9 +71,13 @@ pub fn join<R: Rule, T: Tally>(
     a: usize,
     b: usize,
 ) -> Result<(), Refusal>
-    ensures answer { result ≡ join_check round.now.n (blank_node round.now (R.Rule.sense rule.now) (T.Tally.sense tally.now)) width layer a b nodes.old }
-    ensures steps { nodes.new ≡ join_steps round.now (R.Rule.sense rule.now) (T.Tally.sense tally.now) width layer a b nodes.old }
-    ensures words { JoinDone round.now (R.Rule.sense rule.now) (T.Tally.sense tally.now) width nodes.old layer a b result nodes.new }
+    ensures answer { result ≡ join_check round.now.n
+        (blank_node round.now (R.Rule.sense rule.now) (T.Tally.sense tally.now)) width layer a b
+        nodes.old }
+    ensures steps { nodes.new ≡ join_steps round.now (R.Rule.sense rule.now)
+        (T.Tally.sense tally.now) width layer a b nodes.old }
+    ensures words { JoinDone round.now (R.Rule.sense rule.now) (T.Tally.sense tally.now) width
+        nodes.old layer a b result nodes.new }
 {
     check_join(nodes, round.n, width, layer, a, b)?;
     let blank = blank_node(rule, tally);

@@ -1,4 +1,4 @@
-// Parting and joining nodes in the lent list of records.
+//! Parting and joining nodes in the lent list of records.
 #![tactic(auto)]
 
 mod agree;

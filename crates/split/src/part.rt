@@ -1,4 +1,4 @@
-// Parting a node, over a test of which in-arcs stay.
+//! Parting a node, over a test of which in-arcs stay.
 ghost use Rattle.std.specs.Prelude.{◌≡◌, ℕ, ◌+◌, ◌-◌, ◌<◌, ◌≤◌, Bool, ◌++◌, map, length, take, drop, slice_index};
 ghost use Rattle.layers.specs.declared.node.Label.{Label as ALabel};
 ghost use Rattle.layers.specs.declared.node.Node.{Node as ANode};
@@ -7,7 +7,7 @@ ghost use Rattle.layers.specs.Targets.{at_door};
 
 use layers::node::{Arcs, Label, Node};
 
-// Which in-arcs of a node stay, by the source's label and the door.
+/// Which in-arcs of a node stay, by the source's label and the door.
 pub(crate) trait Test {
     type State: Copy;
 
@@ -20,12 +20,13 @@ pub(crate) trait Test {
         ensures { result ≡ keeps self.now u.now j };
 }
 
-// The target of the arc by the door k + 1, once those into a that do not stay go to `new`.
+/// The target of the arc by the door k + 1, once those into a that do not stay go to `new`.
 fn part_door<K: Test>(test: &K, u: &Node<K::State, K::Value>, k: usize, a: u8, new: u8) -> u8
     requires k_bound { k < 16 }
     requires one_le_a { 1 ≤ a }
     requires one_le_new { 1 ≤ new }
-    ensures { result ≡ at_door (parted_to (K.Test.keeps test.now) (a - 1) (new - 1) u.now) (k + 1) (slice_index u.now.arcs.to k) }
+    ensures { result ≡ at_door (parted_to (K.Test.keeps test.now) (a - 1) (new - 1) u.now) (k + 1)
+        (slice_index u.now.arcs.to k) }
 {
     let t = u.arcs.to[k];
     if t != a {
@@ -64,7 +65,7 @@ fn part_layer<K: Test>(test: &K, us: &mut [Node<K::State, K::Value>], a: u8, new
     }
 }
 
-// Parts node a of the second of the layers of w records, which has `count` nodes.
+/// Parts node a of the second of the layers of w records, which has `count` nodes.
 fn part_second<K: Test>(
     test: &K,
     nodes: &mut [Node<K::State, K::Value>],
@@ -77,14 +78,15 @@ fn part_second<K: Test>(
     requires one_le_a { 1 ≤ a }
     requires a_le_count { a ≤ count }
     requires count_lt_w { count < w }
-    ensures { (z : ANode (K.State) (K.Value)) → nodes.new ≡ parted_second (K.Test.keeps test.now) w (a - 1) count nodes.old z }
+    ensures { (z : ANode (K.State) (K.Value))
+        → nodes.new ≡ parted_second (K.Test.keeps test.now) w (a - 1) count nodes.old z }
 {
     let (us, vs) = nodes.split_at_mut(w);
     part_layer(test, us, a, count + 1);
     vs[count as usize] = vs[a as usize - 1];
 }
 
-// Parts node a of the layer whose records begin at `at + w`, which has `count` nodes and room for one more.
+/// Parts node a of the layer whose records begin at `at + w`, which has `count` nodes and room for one more.
 pub(crate) fn part<K: Test>(
     test: &K,
     nodes: &mut [Node<K::State, K::Value>],
@@ -98,7 +100,9 @@ pub(crate) fn part<K: Test>(
     requires one_le_a { 1 ≤ a }
     requires a_le_count { a ≤ count }
     requires count_lt_w { count < w }
-    ensures { (z : ANode (K.State) (K.Value)) → nodes.new ≡ take at nodes.old ++ parted_second (K.Test.keeps test.now) w (a - 1) count (drop at nodes.old) z }
+    ensures { (z : ANode (K.State) (K.Value))
+        → nodes.new ≡ take at nodes.old ++ parted_second (K.Test.keeps test.now) w (a - 1) count
+        (drop at nodes.old) z }
 {
     let rest = &mut nodes[at..];
     part_second(test, rest, w, a, count);

@@ -1,4 +1,4 @@
-// Parting a node: the in-arcs that differ from the first go to a new last node of its layer.
+//! Parting a node: the in-arcs that differ from the first go to a new last node of its layer.
 ghost use Rattle.std.specs.Prelude.{◌≡◌, suc, ◌+◌, ◌-◌, ◌<◌, ◌≤◌, length, Some, MatchResult, nat_le};
 ghost use Rattle.tallies.specs.Tallies.{TallySense};
 ghost use Rattle.layers.specs.Labels.{first_arrival};
@@ -19,9 +19,10 @@ use round::table::Round;
 use rules::rule::Rule;
 use tallies::tally::Tally;
 
-// The first in-arc of a node that can be parted.
+/// The first in-arc of a node that can be parted.
 fn check_group<S: Copy, V: Copy>(got: Arrived<S, V>, full: bool) -> Result<Source<S, V>, Refusal>
-    ensures { MatchResult result (FirstKnown got full) (λ e. got_check got.first got.agreed full ≡ Err e) }
+    ensures { MatchResult result (FirstKnown got full)
+        (λ e. got_check got.first got.agreed full ≡ Err e) }
 {
     let Arrived { first, agreed } = got;
     match first {
@@ -38,7 +39,7 @@ fn check_group<S: Copy, V: Copy>(got: Arrived<S, V>, full: bool) -> Result<Sourc
     }
 }
 
-// The same of node t, out of the w records at `at` before its layer, which has `count` nodes.
+/// The same of node t, out of the w records at `at` before its layer, which has `count` nodes.
 fn check_into<R: Rule, V: Copy>(
     round: &Round,
     rule: &R,
@@ -49,13 +50,16 @@ fn check_into<R: Rule, V: Copy>(
     count: usize,
 ) -> Result<Source<R::State, V>, Refusal>
     requires { at + w ≤ length nodes.now }
-    ensures { (s : TallySense V) → MatchResult result (FirstInto round.now (R.Rule.sense rule.now) s at w t nodes.now count) (λ e. group_check (alike round.now (R.Rule.sense rule.now) s at w t nodes.now) (nat_le w count) ≡ Err e) }
+    ensures { (s : TallySense V)
+        → MatchResult result (FirstInto round.now (R.Rule.sense rule.now) s at w t nodes.now count)
+        (λ e. group_check (alike round.now (R.Rule.sense rule.now) s at w t nodes.now)
+        (nat_le w count) ≡ Err e) }
 {
     let got = look_in(round, rule, nodes, at, w, t);
     check_group(got, count >= w)
 }
 
-// Whether the node of the layer can be parted, and its first in-arc.
+/// Whether the node of the layer can be parted, and its first in-arc.
 fn check_part<R: Rule, V: Copy>(
     round: &Round,
     rule: &R,
@@ -64,7 +68,10 @@ fn check_part<R: Rule, V: Copy>(
     layer: usize,
     node: usize,
 ) -> Result<Source<R::State, V>, Refusal>
-    ensures { (s : TallySense V) → MatchResult result (MayPart round.now (R.Rule.sense rule.now) s width layer node nodes.now) (λ e. part_check round.now (R.Rule.sense rule.now) s width layer node nodes.now ≡ Err e) }
+    ensures { (s : TallySense V)
+        → MatchResult result
+        (MayPart round.now (R.Rule.sense rule.now) s width layer node nodes.now)
+        (λ e. part_check round.now (R.Rule.sense rule.now) s width layer node nodes.now ≡ Err e) }
 {
     check_place(round.n, width, nodes.len(), layer)?;
     let at = (layer - 1) * width;
@@ -73,7 +80,7 @@ fn check_part<R: Rule, V: Copy>(
     check_into(round, rule, nodes, at, width, node as u8, count)
 }
 
-// Parts node a of the layer whose records begin at `at + w`, which has room for one more. The first in-arc comes from `first`.
+/// Parts node a of the layer whose records begin at `at + w`, which has room for one more. The first in-arc comes from `first`.
 fn part_node<R: Rule, T: Tally>(
     round: &Round,
     rule: &R,
@@ -90,8 +97,12 @@ fn part_node<R: Rule, T: Tally>(
     requires one_le_a { 1 ≤ a }
     requires a_le_count { a ≤ count }
     requires count_lt_w { count < w }
-    requires is_first { Some (brought round.now (R.Rule.sense rule.now) (T.Tally.sense tally.now) first) ≡ first_arrival round.now (R.Rule.sense rule.now) (T.Tally.sense tally.now) (arrivals round.now (R.Rule.sense rule.now) (T.Tally.sense tally.now) a (part at w nodes.old)) }
-    ensures { nodes.new ≡ parted_one round.now (R.Rule.sense rule.now) (T.Tally.sense tally.now) at w (a - 1) count nodes.old }
+    requires is_first { Some
+        (brought round.now (R.Rule.sense rule.now) (T.Tally.sense tally.now) first) ≡ first_arrival
+        round.now (R.Rule.sense rule.now) (T.Tally.sense tally.now) (arrivals round.now
+        (R.Rule.sense rule.now) (T.Tally.sense tally.now) a (part at w nodes.old)) }
+    ensures { nodes.new ≡ parted_one round.now (R.Rule.sense rule.now) (T.Tally.sense tally.now) at
+        w (a - 1) count nodes.old }
 {
     part_by_first(
         round,
@@ -106,8 +117,8 @@ fn part_node<R: Rule, T: Tally>(
     );
 }
 
-// Parts node `node` of the layer: the in-arcs that differ from the first go to a new last node, with the same out-arcs, and
-// all labels are worked out anew. A refusal alters nothing.
+/// Parts node `node` of the layer: the in-arcs that differ from the first go to a new last node, with the same out-arcs, and
+/// all labels are worked out anew. A refusal alters nothing.
 pub fn part<R: Rule, T: Tally>(
     round: &Round,
     rule: &R,
@@ -117,9 +128,12 @@ pub fn part<R: Rule, T: Tally>(
     layer: usize,
     node: usize,
 ) -> Result<(), Refusal>
-    ensures answer { result ≡ part_check round.now (R.Rule.sense rule.now) (T.Tally.sense tally.now) width layer node nodes.old }
-    ensures steps { nodes.new ≡ part_steps round.now (R.Rule.sense rule.now) (T.Tally.sense tally.now) width layer node nodes.old }
-    ensures words { PartDone round.now (R.Rule.sense rule.now) (T.Tally.sense tally.now) width nodes.old layer node result nodes.new }
+    ensures answer { result ≡ part_check round.now (R.Rule.sense rule.now) (T.Tally.sense tally.now)
+        width layer node nodes.old }
+    ensures steps { nodes.new ≡ part_steps round.now (R.Rule.sense rule.now)
+        (T.Tally.sense tally.now) width layer node nodes.old }
+    ensures words { PartDone round.now (R.Rule.sense rule.now) (T.Tally.sense tally.now) width
+        nodes.old layer node result nodes.new }
 {
     let first = check_part(round, rule, nodes, width, layer, node)?;
     let at = (layer - 1) * width;
@@ -129,8 +143,8 @@ pub fn part<R: Rule, T: Tally>(
     Ok(())
 }
 
-// Parts the node at place a of the layer whose records begin at `at + w`, unless its in-arcs agree. Answers how many nodes the
-// layer has then, or none if it is full already.
+/// Parts the node at place a of the layer whose records begin at `at + w`, unless its in-arcs agree. Answers how many nodes the
+/// layer has then, or none if it is full already.
 fn part_next<R: Rule, T: Tally>(
     round: &Round,
     rule: &R,
@@ -145,8 +159,11 @@ fn part_next<R: Rule, T: Tally>(
     requires w_bound { w ≤ 128 }
     requires a_lt_count { a < count }
     requires count_le_w { count ≤ w }
-    ensures answer { result ≡ next_count (alike round.now (R.Rule.sense rule.now) (T.Tally.sense tally.now) at w (suc a) nodes.old) (nat_le w count) count }
-    ensures records { nodes.new ≡ next_records round.now (R.Rule.sense rule.now) (T.Tally.sense tally.now) at w a count nodes.old }
+    ensures answer { result ≡ next_count
+        (alike round.now (R.Rule.sense rule.now) (T.Tally.sense tally.now) at w (suc a) nodes.old)
+        (nat_le w count) count }
+    ensures records { nodes.new ≡ next_records round.now (R.Rule.sense rule.now)
+        (T.Tally.sense tally.now) at w a count nodes.old }
 {
     let Arrived { first, agreed } = look_in(round, rule, nodes, at, w, a as u8 + 1);
     if agreed {
@@ -164,7 +181,7 @@ fn part_next<R: Rule, T: Tally>(
     }
 }
 
-// Parts the nodes of the layer whose records begin at `at + w`, as many as it has and gets.
+/// Parts the nodes of the layer whose records begin at `at + w`, as many as it has and gets.
 fn part_from<R: Rule, T: Tally>(
     round: &Round,
     rule: &R,
@@ -175,7 +192,8 @@ fn part_from<R: Rule, T: Tally>(
 ) -> bool
     requires w_in_bounds { at + w + w < length nodes.old }
     requires w_bound { w ≤ 128 }
-    ensures { (result, nodes.new) ≡ parts_from round.now (R.Rule.sense rule.now) (T.Tally.sense tally.now) at w w 0 (node_count (at + w) w nodes.old) nodes.old }
+    ensures { (result, nodes.new) ≡ parts_from round.now (R.Rule.sense rule.now)
+        (T.Tally.sense tally.now) at w w 0 (node_count (at + w) w nodes.old) nodes.old }
 {
     let mut count = count_in(nodes, at + w, w);
     for a in 0..w {
@@ -190,9 +208,9 @@ fn part_from<R: Rule, T: Tally>(
     false
 }
 
-// Parts each node of the layer whose in-arcs do not agree, one after another, the new ones too, by their arcs alone: no label
-// is worked out anew. Yes if one is left since the layer is full. No, and nothing altered, for a list that has no room for the
-// round's diagram, and for a layer that is not 1 to n - 1.
+/// Parts each node of the layer whose in-arcs do not agree, one after another, the new ones too, by their arcs alone: no label
+/// is worked out anew. Yes if one is left since the layer is full. No, and nothing altered, for a list that has no room for the
+/// round's diagram, and for a layer that is not 1 to n - 1.
 pub fn part_layer<R: Rule, T: Tally>(
     round: &Round,
     rule: &R,
@@ -201,8 +219,10 @@ pub fn part_layer<R: Rule, T: Tally>(
     width: usize,
     layer: usize,
 ) -> bool
-    ensures steps { (result, nodes.new) ≡ layer_steps round.now (R.Rule.sense rule.now) (T.Tally.sense tally.now) width layer nodes.old }
-    ensures words { LayerDone round.now (R.Rule.sense rule.now) (T.Tally.sense tally.now) width nodes.old layer result nodes.new }
+    ensures steps { (result, nodes.new) ≡ layer_steps round.now (R.Rule.sense rule.now)
+        (T.Tally.sense tally.now) width layer nodes.old }
+    ensures words { LayerDone round.now (R.Rule.sense rule.now) (T.Tally.sense tally.now) width
+        nodes.old layer result nodes.new }
 {
     if check_place(round.n, width, nodes.len(), layer).is_err() {
         return false;

@@ -1,18 +1,18 @@
-// How many nodes of a layer are in use.
+//! How many nodes of a layer are in use.
 ghost use Rattle.std.specs.Prelude.{◌≡◌, ◌+◌, ◌≤◌, length};
 ghost use Rattle.layers.specs.Records.{standing};
 ghost use Rattle.split.specs.Steps.{node_count};
 
 use layers::node::Node;
 
-// The records in use, which stand first.
+/// The records in use, which stand first.
 fn count_nodes<S: Copy, V: Copy>(us: &[Node<S, V>]) -> usize
     ensures { result ≡ length (standing us.now) }
 {
     us.iter().take_while(|u| u.label.down.lasts != 0).count()
 }
 
-// The same of the w records at `at`.
+/// The same of the w records at `at`.
 pub(crate) fn count_in<S: Copy, V: Copy>(nodes: &[Node<S, V>], at: usize, w: usize) -> usize
     requires { at + w ≤ length nodes.now }
     ensures { result ≡ node_count at w nodes.now }

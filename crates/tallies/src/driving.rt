@@ -1,14 +1,15 @@
-// The minutes driven, from the yard to the last door.
+//! The minutes driven, from the yard to the last door.
 ghost use Rattle.std.specs.Prelude.{◌*◌, ◌≤◌};
 ghost use Rattle.tallies.specs.Driving.{driving_sense};
 ghost use Rattle.std.proofs.Common.{rules};
 
 use crate::tally::Tally;
 
+/// The tally of drive minutes, from the yard to the last door.
 #[derive(Clone, Copy)]
 pub struct Driving;
 
-// No number passes this.
+/// No number passes this.
 const MOST: u32 = 1_000_000;
 
 impl Tally for Driving {

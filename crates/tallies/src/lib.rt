@@ -1,4 +1,4 @@
-// Tallies: what a tally is, and driving and late doors.
+//! Tallies: what a tally is, and driving and late doors.
 #![tactic(auto)]
 
 pub mod driving;

@@ -1,8 +1,8 @@
-// A tally: what a part order costs, as a value that never falls from door to door.
+//! A tally: what a part order costs, as a value that never falls from door to door.
 ghost use Rattle.std.specs.Prelude.{◌≡◌, ℕ};
 ghost use Rattle.tallies.specs.Tallies.{TallySense, TallyLaws};
 
-// The functions only answer: they refuse nothing and alter nothing, and answer as `sense` says.
+/// The functions only answer: they refuse nothing and alter nothing, and answer as `sense` says.
 pub trait Tally {
     type Value: Copy;
 
@@ -18,7 +18,7 @@ pub trait Tally {
     fn start(&self) -> Self::Value
         ensures { result ≡ (sense self.now).start };
 
-    // The value after one more door, reached by `leg` drive minutes, whose work ends at minute `finish`.
+    /// The value after one more door, reached by `leg` drive minutes, whose work ends at minute `finish`.
     fn step(&self, v: Self::Value, j: usize, leg: u32, finish: u32) -> Self::Value
         ensures { result ≡ (sense self.now).step v j leg finish };
 

@@ -1,4 +1,4 @@
-// A round while its text is read: plain tables, which need not be lawful yet.
+//! A round while its text is read: plain tables, which need not be lawful yet.
 ghost use Rattle.std.specs.Prelude.{◌≡◌, ◌≤◌};
 ghost use Rattle.text.specs.Drafts.{unread, with_head, with_door, with_row, with_pair};
 
@@ -6,7 +6,7 @@ use crate::line::{Head, Pair};
 use doors::{DoorSet, with};
 use round::door::{BLANK, Door};
 
-// The tables go by number, as those of a round; what no line fills is 0.
+/// The tables go by number, as those of a round; what no line fills is 0.
 #[derive(Drop)]
 pub(crate) struct Draft {
     pub(crate) n: u16,
@@ -53,7 +53,7 @@ impl Draft {
         self.drives[from as usize] = row;
     }
 
-    // The set of the doors ahead of the second gets the first.
+    /// The set of the doors ahead of the second gets the first.
     pub(crate) fn add_pair(&mut self, pair: Pair)
         requires { (pair.first ≤ 16) × (pair.then ≤ 16) }
         ensures { self.new ≡ with_pair self.old pair }

@@ -1,4 +1,4 @@
-// The kinds of lines.
+//! The kinds of lines.
 ghost use Rattle.std.specs.Prelude.{◌≡◌, [], slice_index_or};
 ghost use Rattle.text.specs.Pieces.{pieces};
 ghost use Rattle.text.specs.Kinds.{named, ended_by, started};
@@ -12,7 +12,7 @@ pub(crate) enum Kind {
     Other,
 }
 
-// The kind, if its word ends before `rest`: at a tab, or with the line.
+/// The kind, if its word ends before `rest`: at a tab, or with the line.
 fn ended(kind: Kind, rest: &[u8]) -> Kind
     ensures { result ≡ ended_by kind rest.now }
 {
@@ -22,7 +22,7 @@ fn ended(kind: Kind, rest: &[u8]) -> Kind
     }
 }
 
-// The kind by the word that the line starts with, and the rest of the line.
+/// The kind by the word that the line starts with, and the rest of the line.
 fn kind_at_start(line: &[u8]) -> Kind
     ensures { result ≡ started line.now }
 {
@@ -35,7 +35,7 @@ fn kind_at_start(line: &[u8]) -> Kind
     }
 }
 
-// The kind that the line's first field names.
+/// The kind that the line's first field names.
 pub(crate) fn kind_of(line: &[u8]) -> Kind
     ensures { result ≡ named (slice_index_or (pieces 9 line.now) 0 []) }
 {

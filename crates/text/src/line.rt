@@ -1,4 +1,4 @@
-// What a line says, by its fields.
+//! What a line says, by its fields.
 ghost use Rattle.std.specs.Prelude.{◌≡◌, ◌-◌, ◌<◌, ◌≤◌, [], length, replicate, IfOk, ◌==◌, slice_index_or};
 ghost use Rattle.text.specs.Pieces.{pieces};
 ghost use Rattle.text.specs.Tokens.{Formed, bytes_of, line_of, field_of};
@@ -17,7 +17,7 @@ pub(crate) struct Line<'a> {
     pub(crate) number: usize,
 }
 
-// The field of that number, from 1.
+/// The field of that number, from 1.
 fn field_at<'a>(line: Line<'a>, field: usize) -> Token<'a>
     requires { 1 ≤ field }
     ensures formed { Formed result }
@@ -28,7 +28,7 @@ fn field_at<'a>(line: Line<'a>, field: usize) -> Token<'a>
     token_of(piece(line.bytes, b'\t', field - 1), line.number, field)
 }
 
-// Refuses a line that has not that many fields.
+/// Refuses a line that has not that many fields.
 fn expect_fields(line: Line<'_>, many: usize) -> Result<(), Refusal>
     ensures { result ≡ counted many line.entry.number (pieces 9 line.entry.bytes.now) (Ok tt) }
 {
@@ -39,10 +39,11 @@ fn expect_fields(line: Line<'_>, many: usize) -> Result<(), Refusal>
     }
 }
 
-// The number in that field, from low to high.
+/// The number in that field, from low to high.
 fn number_at(line: Line<'_>, field: usize, low: u16, high: u16) -> Result<u16, Refusal>
     requires { (1 ≤ field) × (high < 10000) }
-    ensures value { result ≡ number_in low high (slice_index_or (pieces 9 line.entry.bytes.now) (field - 1) []) line.entry.number field }
+    ensures value { result ≡ number_in low high
+        (slice_index_or (pieces 9 line.entry.bytes.now) (field - 1) []) line.entry.number field }
     ensures bound { IfOk result (λ v. (low ≤ v) × (v ≤ high)) }
 {
     within(field_at(line, field), low, high)
@@ -50,12 +51,13 @@ fn number_at(line: Line<'_>, field: usize, low: u16, high: u16) -> Result<u16, R
 
 fn change_at(line: Line<'_>, field: usize) -> Result<i8, Refusal>
     requires { 1 ≤ field }
-    ensures { result ≡ change_in (slice_index_or (pieces 9 line.entry.bytes.now) (field - 1) []) line.entry.number field }
+    ensures { result ≡ change_in (slice_index_or (pieces 9 line.entry.bytes.now) (field - 1) [])
+        line.entry.number field }
 {
     change(field_at(line, field))
 }
 
-// Refuses a line whose number, from low to high, is not the one that is due.
+/// Refuses a line whose number, from low to high, is not the one that is due.
 fn expect_turn(line: Line<'_>, low: u16, high: u16, due: u16) -> Result<(), Refusal>
     requires { high < 10000 }
     ensures { result ≡ in_turn low high due line.entry.number (pieces 9 line.entry.bytes.now) }
@@ -70,7 +72,7 @@ fn expect_turn(line: Line<'_>, low: u16, high: u16, due: u16) -> Result<(), Refu
     }
 }
 
-// What a door line says of its door.
+/// What a door line says of its door.
 fn door_of(line: Line<'_>) -> Result<Door, Refusal>
     ensures { result ≡ door_of line.entry.number (pieces 9 line.entry.bytes.now) }
 {
@@ -88,7 +90,7 @@ fn door_of(line: Line<'_>) -> Result<Door, Refusal>
     })
 }
 
-// The door of a door line, where the door `due` of n is the next.
+/// The door of a door line, where the door `due` of n is the next.
 pub(crate) fn door_due(line: Line<'_>, n: u16, due: u16) -> Result<Door, Refusal>
     requires { n ≤ 16 }
     ensures { result ≡ door_due n due line.entry.number (pieces 9 line.entry.bytes.now) }
@@ -98,7 +100,7 @@ pub(crate) fn door_due(line: Line<'_>, n: u16, due: u16) -> Result<Door, Refusal
     door_of(line)
 }
 
-// What the round line says: how many doors there are, the start load and the cap.
+/// What the round line says: how many doors there are, the start load and the cap.
 #[derive(Clone, Copy)]
 pub(crate) struct Head {
     pub(crate) n: u16,
@@ -116,7 +118,7 @@ pub(crate) fn head_of(line: Line<'_>) -> Result<Head, Refusal>
     Ok(Head { n, load, cap })
 }
 
-// Two doors, of which `first` has to come ahead of `then`.
+/// Two doors, of which `first` has to come ahead of `then`.
 #[derive(Clone, Copy)]
 pub(crate) struct Pair {
     pub(crate) first: u16,
@@ -140,10 +142,11 @@ pub(crate) fn pair_of(line: Line<'_>, n: u16) -> Result<Pair, Refusal>
     Ok(Pair { first, then })
 }
 
-// A "-" in that field, for a drive of no minutes.
+/// A "-" in that field, for a drive of no minutes.
 fn dash_at(line: Line<'_>, field: usize) -> Result<u16, Refusal>
     requires { 1 ≤ field }
-    ensures { result ≡ dash_in (slice_index_or (pieces 9 line.entry.bytes.now) (field - 1) []) line.entry.number field }
+    ensures { result ≡ dash_in (slice_index_or (pieces 9 line.entry.bytes.now) (field - 1) [])
+        line.entry.number field }
 {
     match field_at(line, field) {
         Token::Dash { .. } => Ok(0),
@@ -154,7 +157,7 @@ fn dash_at(line: Line<'_>, field: usize) -> Result<u16, Refusal>
     }
 }
 
-// The drive from a place to a door: "-" where they are the same.
+/// The drive from a place to a door: "-" where they are the same.
 fn leg_at(line: Line<'_>, from: u16, to: u16) -> Result<u16, Refusal>
     requires { to ≤ 16 }
     ensures { result ≡ leg_in from to line.entry.number (pieces 9 line.entry.bytes.now) }
@@ -167,10 +170,11 @@ fn leg_at(line: Line<'_>, from: u16, to: u16) -> Result<u16, Refusal>
     }
 }
 
-// The drives from a place to each of n doors.
+/// The drives from a place to each of n doors.
 fn row_of(line: Line<'_>, n: u16, from: u16) -> Result<[u16; 17], Refusal>
     requires { n ≤ 16 }
-    ensures { result ≡ row_from n from 1 line.entry.number (pieces 9 line.entry.bytes.now) (replicate 17 0) }
+    ensures { result ≡ row_from n from 1 line.entry.number (pieces 9 line.entry.bytes.now)
+        (replicate 17 0) }
 {
     let mut row = [0; 17];
     for to in 1..=n {
@@ -179,7 +183,7 @@ fn row_of(line: Line<'_>, n: u16, from: u16) -> Result<[u16; 17], Refusal>
     Ok(row)
 }
 
-// The drives of a drive line, where the place `due` is the next.
+/// The drives of a drive line, where the place `due` is the next.
 pub(crate) fn row_due(line: Line<'_>, n: u16, due: u16) -> Result<[u16; 17], Refusal>
     requires { n ≤ 16 }
     ensures { result ≡ row_due n due line.entry.number (pieces 9 line.entry.bytes.now) }

@@ -1,4 +1,4 @@
-// The numbers of fields.
+//! The numbers of fields.
 ghost use Rattle.std.specs.Prelude.{◌≡◌, ◌<◌, ◌≤◌, min, true, drop, pos, neg_ℤ};
 ghost use Rattle.std.specs.Str.Parse.{digits_value};
 ghost use Rattle.std.specs.Str.{all_ascii_digits};
@@ -9,10 +9,10 @@ ghost use Rattle.text.specs.Fields.{number_in, change_in};
 use crate::refusal::Refusal;
 use crate::token::Token;
 
-// Above every range, so that digits of any length fit a machine word.
+/// Above every range, so that digits of any length fit a machine word.
 const LIMIT: u32 = 10_000;
 
-// The number that digits write, or LIMIT if it is above that.
+/// The number that digits write, or LIMIT if it is above that.
 fn amount(digits: &[u8]) -> u16
     requires { all_ascii_digits digits.now ≡ true }
     ensures { result ≡ min 10000 (digits_value 10 digits.now) }
@@ -24,10 +24,11 @@ fn amount(digits: &[u8]) -> u16
     v as u16
 }
 
-// The number of a field, from low to high.
+/// The number of a field, from low to high.
 pub(crate) fn within(token: Token<'_>, low: u16, high: u16) -> Result<u16, Refusal>
     requires { (Formed token) × (high < 10000) }
-    ensures { result ≡ number_in low high (bytes_of token.entry) (line_of token.entry) (field_of token.entry) }
+    ensures { result ≡ number_in low high (bytes_of token.entry) (line_of token.entry)
+        (field_of token.entry) }
 {
     match token {
         Token::Number { bytes, line, field } => {
@@ -44,7 +45,7 @@ pub(crate) fn within(token: Token<'_>, low: u16, high: u16) -> Result<u16, Refus
     }
 }
 
-// The number of a field, from -99 to 99.
+/// The number of a field, from -99 to 99.
 pub(crate) fn change(token: Token<'_>) -> Result<i8, Refusal>
     requires { Formed token }
     ensures { result ≡ change_in (bytes_of token.entry) (line_of token.entry) (field_of token.entry) }

@@ -1,4 +1,4 @@
-// A round from its text.
+//! A round from its text.
 ghost use Rattle.text.specs.Rounds.{Reads, Accepts, Bounded};
 
 use crate::draft::Draft;
@@ -6,10 +6,10 @@ use crate::refusal::Refusal;
 use crate::text::draft_of;
 use round::table::Round;
 
-// The longest text that is read where the length is bounded, in bytes.
+/// The longest text that is read where the length is bounded, in bytes.
 const LONGEST: usize = 16_384;
 
-// Writes the round whole once its text is accepted; a refusal leaves the round as it was.
+/// Writes the round whole once its text is accepted; a refusal leaves the round as it was.
 pub fn read(round: &mut Round, text: &[u8]) -> Result<(), Refusal>
     ensures value { Reads result round.old round.new text.now }
     ensures form { Accepts result round.new text.now }
@@ -33,7 +33,7 @@ pub fn read(round: &mut Round, text: &[u8]) -> Result<(), Refusal>
     Ok(())
 }
 
-// The same, but a text that is too long is refused whatever it holds.
+/// The same, but a text that is too long is refused whatever it holds.
 pub fn read_bounded(round: &mut Round, text: &[u8]) -> Result<(), Refusal>
     ensures { Bounded result round.old round.new text.now }
 {

@@ -1,26 +1,27 @@
-// Why a text is refused, and where.
+//! Why a text is refused, and where.
 ghost use Rattle.std.specs.Prelude.{◌≡◌};
 ghost use Rattle.text.specs.Codes.{number_of, line_of, field_of};
 
 use std::error::Error;
 use std::fmt;
 
-// Lines and fields count from 1, and a line's kind is its field 1.
+/// Lines and fields count from 1, and a line's kind is its field 1.
 #[derive(Clone, Copy, Debug, PartialEq)]
 pub enum Refusal {
-    // a line of this kind may not come here, or the text ends too early
+    /// a line of this kind may not come here, or the text ends too early
     NotDue { line: usize },
     FieldCount { line: usize },
     NotNumber { line: usize, field: usize },
     OutOfRange { line: usize, field: usize },
-    // not the next door or place, or a door paired with itself
+    /// not the next door or place, or a door paired with itself
     OutOfTurn { line: usize, field: usize },
-    // no line feed ends the line
+    /// no line feed ends the line
     Unended { line: usize },
     TooLong,
 }
 
 impl Refusal {
+    /// The refusal's number.
     pub fn number(self) -> u8
         ensures { result ≡ number_of self }
     {
@@ -35,7 +36,7 @@ impl Refusal {
         }
     }
 
-    // The line, or 0 where the text as a whole is refused.
+    /// The line, or 0 where the text as a whole is refused.
     pub fn line(self) -> usize
         ensures { result ≡ line_of self }
     {
@@ -50,7 +51,7 @@ impl Refusal {
         }
     }
 
-    // The field, 1 where the line as a whole is refused, and 0 where the text is.
+    /// The field, 1 where the line as a whole is refused, and 0 where the text is.
     pub fn field(self) -> usize
         ensures { result ≡ field_of self }
     {
@@ -64,7 +65,7 @@ impl Refusal {
     }
 }
 
-// As the programs print it: its number, line and field, with tabs between.
+/// As the programs print it: its number, line and field, with tabs between.
 impl fmt::Display for Refusal {
     ghost use Rattle.std.specs.Prelude.{Some};
     ghost use Rattle.text.specs.Codes.{told};

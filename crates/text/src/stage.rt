@@ -1,10 +1,10 @@
-// Which kind of line is due.
+/// Which kind of line is due.
 #[derive(Clone, Copy)]
 pub(crate) enum Stage {
     Head,
-    // the door that is next
+    /// the door that is next
     Doors(u16),
-    // the place whose drives are next
+    /// the place whose drives are next
     Drives(u16),
     Pairs,
 }

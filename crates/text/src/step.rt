@@ -1,4 +1,4 @@
-// One line more of the text.
+//! One line more of the text.
 ghost use Rattle.std.specs.Prelude.{◌≡◌, ◌≤◌};
 ghost use Rattle.text.specs.Pieces.{pieces};
 ghost use Rattle.text.specs.Steps.{Ready, went, head_step, door_step, drive_step, pair_step, line_step};
@@ -10,7 +10,8 @@ use crate::refusal::Refusal;
 use crate::stage::Stage;
 
 fn take_head(draft: &mut Draft, line: Line<'_>) -> Result<Stage, Refusal>
-    ensures { went result draft.new ≡ head_step draft.old line.entry.number (pieces 9 line.entry.bytes.now) }
+    ensures { went result draft.new ≡ head_step draft.old line.entry.number
+        (pieces 9 line.entry.bytes.now) }
 {
     draft.set_head(head_of(line)?);
     Ok(Stage::Doors(1))
@@ -18,7 +19,8 @@ fn take_head(draft: &mut Draft, line: Line<'_>) -> Result<Stage, Refusal>
 
 fn take_door(draft: &mut Draft, due: u16, line: Line<'_>) -> Result<Stage, Refusal>
     requires { (due ≤ draft.old.n) × (draft.old.n ≤ 16) }
-    ensures { went result draft.new ≡ door_step due draft.old line.entry.number (pieces 9 line.entry.bytes.now) }
+    ensures { went result draft.new ≡ door_step due draft.old line.entry.number
+        (pieces 9 line.entry.bytes.now) }
 {
     let door = door_due(line, draft.n, due)?;
     draft.set_door(due, door);
@@ -31,7 +33,8 @@ fn take_door(draft: &mut Draft, due: u16, line: Line<'_>) -> Result<Stage, Refus
 
 fn take_drive(draft: &mut Draft, from: u16, line: Line<'_>) -> Result<Stage, Refusal>
     requires { (from ≤ draft.old.n) × (draft.old.n ≤ 16) }
-    ensures { went result draft.new ≡ drive_step from draft.old line.entry.number (pieces 9 line.entry.bytes.now) }
+    ensures { went result draft.new ≡ drive_step from draft.old line.entry.number
+        (pieces 9 line.entry.bytes.now) }
 {
     let row = row_due(line, draft.n, from)?;
     draft.set_row(from, row);
@@ -44,17 +47,19 @@ fn take_drive(draft: &mut Draft, from: u16, line: Line<'_>) -> Result<Stage, Ref
 
 fn take_pair(draft: &mut Draft, line: Line<'_>) -> Result<Stage, Refusal>
     requires { draft.old.n ≤ 16 }
-    ensures { went result draft.new ≡ pair_step draft.old line.entry.number (pieces 9 line.entry.bytes.now) }
+    ensures { went result draft.new ≡ pair_step draft.old line.entry.number
+        (pieces 9 line.entry.bytes.now) }
 {
     let pair = pair_of(line, draft.n)?;
     draft.add_pair(pair);
     Ok(Stage::Pairs)
 }
 
-// One line, whose kind has to be due.
+/// One line, whose kind has to be due.
 pub(crate) fn take_line(draft: &mut Draft, stage: Stage, line: Line<'_>) -> Result<Stage, Refusal>
     requires { Ready stage draft.old }
-    ensures { went result draft.new ≡ line_step stage draft.old line.entry.number (pieces 9 line.entry.bytes.now) }
+    ensures { went result draft.new ≡ line_step stage draft.old line.entry.number
+        (pieces 9 line.entry.bytes.now) }
 {
     match (stage, kind_of(line.bytes)) {
         (Stage::Head, Kind::Round) => take_head(draft, line),

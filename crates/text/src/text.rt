@@ -1,4 +1,4 @@
-// The lines of a whole text.
+//! The lines of a whole text.
 ghost use Rattle.std.specs.Prelude.{◌≡◌};
 ghost use Rattle.text.specs.Reading.{read_text};
 

@@ -1,4 +1,4 @@
-// A field of the text by its form, with its place.
+//! A field of the text by its form, with its place.
 ghost use Rattle.std.specs.Prelude.{◌≡◌};
 ghost use Rattle.std.specs.Str.{all_ascii_digits};
 ghost use Rattle.text.specs.Number.{plain, positive, minus};
@@ -11,13 +11,13 @@ pub(crate) enum Token<'a> {
         line: usize,
         field: usize,
     },
-    // a minus and a number other than 0
+    /// a minus and a number other than 0
     Negative {
         bytes: &'a [u8],
         line: usize,
         field: usize,
     },
-    // a minus alone
+    /// a minus alone
     Dash {
         bytes: &'a [u8],
         line: usize,
@@ -30,7 +30,7 @@ pub(crate) enum Token<'a> {
     },
 }
 
-// Whether the bytes are digits, the first not 0.
+/// Whether the bytes are digits, the first not 0.
 fn is_positive(bytes: &[u8]) -> bool
     ensures { result ≡ positive bytes.now }
 {
@@ -40,14 +40,14 @@ fn is_positive(bytes: &[u8]) -> bool
     }
 }
 
-// Whether the bytes are digits with no leading zero.
+/// Whether the bytes are digits with no leading zero.
 fn is_plain(bytes: &[u8]) -> bool
     ensures { result ≡ plain bytes.now }
 {
     matches!(bytes, b"0") || is_positive(bytes)
 }
 
-// Whether the bytes are a minus and a number other than 0.
+/// Whether the bytes are a minus and a number other than 0.
 fn is_negative(bytes: &[u8]) -> bool
     ensures { result ≡ minus bytes.now }
 {

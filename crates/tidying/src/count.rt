@@ -1,4 +1,4 @@
-// Counting arcs.
+//! Counting arcs.
 ghost use Rattle.std.specs.Prelude.{◌≡◌, ◌*◌, ◌≤◌, length, take, if◌then◌else◌};
 ghost use Rattle.labels.specs.Passes.{fits};
 ghost use Rattle.tidying.specs.Counted.{arcs_of, arcs_within};
@@ -7,7 +7,7 @@ use labels::room::has_room;
 use layers::node::Node;
 use round::table::Round;
 
-// How many arcs leave a node.
+/// How many arcs leave a node.
 pub fn count_of<S: Copy, V: Copy>(x: &Node<S, V>) -> usize
     ensures many { result ≡ arcs_of x.now }
     ensures few { result ≤ 16 }
@@ -15,7 +15,7 @@ pub fn count_of<S: Copy, V: Copy>(x: &Node<S, V>) -> usize
     x.arcs.to.iter().filter(|t| **t != 0).count()
 }
 
-// How many arcs leave all these nodes: no diagram has more than 2,049.
+/// How many arcs leave all these nodes: no diagram has more than 2,049.
 fn count_all<S: Copy, V: Copy>(nodes: &[Node<S, V>]) -> usize
     requires { length nodes.now ≤ 2049 }
     ensures { result ≡ arcs_within nodes.now }
@@ -27,9 +27,10 @@ fn count_all<S: Copy, V: Copy>(nodes: &[Node<S, V>]) -> usize
     n
 }
 
-// How many arcs there are in a diagram of the round's doors; 0 in a list that has no room for it.
+/// How many arcs there are in a diagram of the round's doors; 0 in a list that has no room for it.
 pub fn count_arcs<S: Copy, V: Copy>(round: &Round, nodes: &[Node<S, V>], width: usize) -> usize
-    ensures { result ≡ (if fits round.now.n width (length nodes.now) then arcs_within (take (round.now.n * width) nodes.now) else 0) }
+    ensures { result ≡ (if fits round.now.n width (length nodes.now) then arcs_within
+        (take (round.now.n * width) nodes.now) else 0) }
 {
     if !has_room(round, width, nodes.len()) {
         return 0;

@@ -1,4 +1,4 @@
-// Tidying the lent list of records: nodes on no path go. Counting arcs.
+//! Tidying the lent list of records: nodes on no path go. Counting arcs.
 #![tactic(auto)]
 
 pub mod count;

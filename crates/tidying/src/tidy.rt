@@ -1,6 +1,6 @@
-// Tidying in place: the nodes on no path go, and the rest of each layer moves together and is numbered anew.
-// The tables go by a target's byte, so that no target is out of their range: marks by number, and new numbers by old, of
-// which 0, no arc, stays 0.
+//! Tidying in place: the nodes on no path go, and the rest of each layer moves together and is numbered anew.
+//! The tables go by a target's byte, so that no target is out of their range: marks by number, and new numbers by old, of
+//! which 0, no arc, stays 0.
 ghost use Rattle.std.specs.Prelude.{◌≡◌, ◌+◌, ◌-◌, ◌*◌, ◌<◌, ◌≤◌, true, ◌++◌, map, length, take, drop, replicate, if◌then◌else◌, filter, slice_index};
 ghost use Rattle.layers.specs.declared.node.Node.{Node as ANode};
 ghost use Rattle.tidying.specs.Paths.{KeptExactly, SamePaths};
@@ -13,14 +13,14 @@ use labels::room::has_room;
 use layers::node::{Arcs, Node};
 use round::table::Round;
 
-// Whether an arc leaves the node.
+/// Whether an arc leaves the node.
 fn lives<S: Copy, V: Copy>(x: &Node<S, V>) -> bool
     ensures { result ≡ lively x.now }
 {
     count_of(x) != 0
 }
 
-// Marks the targets of a node.
+/// Marks the targets of a node.
 fn mark<S: Copy, V: Copy>(marks: &mut [bool; 256], x: &Node<S, V>)
     ensures { marks.new ≡ marked marks.old (targets x.now) }
 {
@@ -29,7 +29,7 @@ fn mark<S: Copy, V: Copy>(marks: &mut [bool; 256], x: &Node<S, V>)
     }
 }
 
-// Marks the targets of the marked nodes.
+/// Marks the targets of the marked nodes.
 fn mark_next<S: Copy, V: Copy>(from: &[bool; 256], us: &[Node<S, V>]) -> [bool; 256]
     requires { length us.now ≤ 128 }
     ensures { (z : ANode S V) → result ≡ reached_next z from.now us.now }
@@ -43,7 +43,7 @@ fn mark_next<S: Copy, V: Copy>(from: &[bool; 256], us: &[Node<S, V>]) -> [bool; 
     marks
 }
 
-// A node with its targets numbered anew.
+/// A node with its targets numbered anew.
 fn renew<S: Copy, V: Copy>(x: &Node<S, V>, new: &[u8; 256]) -> Node<S, V>
     ensures { result ≡ with_targets x.now (map (λ t. slice_index new.now t) (targets x.now)) }
 {
@@ -57,7 +57,7 @@ fn renew<S: Copy, V: Copy>(x: &Node<S, V>, new: &[u8; 256]) -> Node<S, V>
     }
 }
 
-// Renews the nodes that are reached; the others go blank.
+/// Renews the nodes that are reached; the others go blank.
 fn renew_layer<S: Copy, V: Copy>(
     us: &mut [Node<S, V>],
     from: &[bool; 256],
@@ -72,7 +72,7 @@ fn renew_layer<S: Copy, V: Copy>(
     }
 }
 
-// The numbers that the nodes with arcs get, by the numbers that they have.
+/// The numbers that the nodes with arcs get, by the numbers that they have.
 fn number_layer<S: Copy, V: Copy>(us: &[Node<S, V>]) -> [u8; 256]
     requires { length us.now ≤ 128 }
     ensures { result ≡ numbering us.now }
@@ -88,7 +88,7 @@ fn number_layer<S: Copy, V: Copy>(us: &[Node<S, V>]) -> [u8; 256]
     new
 }
 
-// Moves the nodes with arcs together, and answers how many there are.
+/// Moves the nodes with arcs together, and answers how many there are.
 fn gather_up<S: Copy, V: Copy>(us: &mut [Node<S, V>]) -> usize
     ensures front { take result us.new ≡ filter lively us.old }
     ensures within { result ≤ length us.old }
@@ -104,7 +104,7 @@ fn gather_up<S: Copy, V: Copy>(us: &mut [Node<S, V>]) -> usize
     k
 }
 
-// The places from k on are not in use.
+/// The places from k on are not in use.
 fn blank_from<S: Copy, V: Copy>(us: &mut [Node<S, V>], k: usize, z: Node<S, V>)
     requires { k ≤ length us.old }
     ensures { us.new ≡ take k us.old ++ replicate (length us.old - k) z }
@@ -121,7 +121,7 @@ fn compact<S: Copy, V: Copy>(us: &mut [Node<S, V>], z: Node<S, V>)
     blank_from(us, k, z);
 }
 
-// Tidies one layer, whose marked nodes are reached; `new` has the numbers of the next.
+/// Tidies one layer, whose marked nodes are reached; `new` has the numbers of the next.
 fn tidy_layer<S: Copy, V: Copy>(
     us: &mut [Node<S, V>],
     from: &[bool; 256],
@@ -138,7 +138,7 @@ fn tidy_layer<S: Copy, V: Copy>(
     numbers
 }
 
-// Tidies `left` layers of `w` records, the marked nodes of the first being reached, and answers its new numbers.
+/// Tidies `left` layers of `w` records, the marked nodes of the first being reached, and answers its new numbers.
 fn tidy_from<S: Copy, V: Copy>(
     nodes: &mut [Node<S, V>],
     w: usize,
@@ -162,7 +162,7 @@ fn tidy_from<S: Copy, V: Copy>(
     tidy_layer(us, from, &new, blank)
 }
 
-// Tidies a diagram of n layers of w records and the end, in which the first node alone is reached at the start.
+/// Tidies a diagram of n layers of w records and the end, in which the first node alone is reached at the start.
 fn tidy_all<S: Copy, V: Copy>(nodes: &mut [Node<S, V>], n: usize, w: usize, blank: &Node<S, V>)
     requires w_bound { w ≤ 128 }
     requires w_in_bounds { n * w < length nodes.old }
@@ -175,17 +175,20 @@ fn tidy_all<S: Copy, V: Copy>(nodes: &mut [Node<S, V>], n: usize, w: usize, blan
     tidy_from(nodes, w, n, &first, blank);
 }
 
-// Tidies a diagram of the round's doors: of arcs that stay within their layers exactly the nodes on a path stay, and exactly the
-// paths. `blank` is written to the places that are left. A list that has no room for the diagram is left alone.
+/// Tidies a diagram of the round's doors: of arcs that stay within their layers exactly the nodes on a path stay, and exactly the
+/// paths. `blank` is written to the places that are left. A list that has no room for the diagram is left alone.
 pub fn tidy<S: Copy, V: Copy>(
     round: &Round,
     nodes: &mut [Node<S, V>],
     width: usize,
     blank: &Node<S, V>,
 )
-    ensures records { nodes.new ≡ (if fits round.now.n width (length nodes.old) then tidied width blank.now round.now.n first_mark nodes.old else nodes.old) }
-    ensures words { fits round.now.n width (length nodes.old) ≡ true → KeptExactly width blank.now round.now.n nodes.old }
-    ensures paths { fits round.now.n width (length nodes.old) ≡ true → SamePaths width blank.now round.now.n nodes.old nodes.new }
+    ensures records { nodes.new ≡ (if fits round.now.n width (length nodes.old) then tidied width
+        blank.now round.now.n first_mark nodes.old else nodes.old) }
+    ensures words { fits round.now.n width (length nodes.old) ≡ true
+        → KeptExactly width blank.now round.now.n nodes.old }
+    ensures paths { fits round.now.n width (length nodes.old) ≡ true
+        → SamePaths width blank.now round.now.n nodes.old nodes.new }
 {
     if has_room(round, width, nodes.len()) {
         tidy_all(nodes, round.n, width, blank);

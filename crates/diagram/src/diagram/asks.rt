@@ -1,4 +1,4 @@
-// What a diagram is asked.
+//! What a diagram is asked.
 ghost use Rattle.std.specs.Prelude.{◌≡◌, ◌+◌, ◌*◌, ◌<◌, ◌≤◌, length, IfOk};
 ghost use Rattle.tallies.specs.Tallies.{TallySense};
 ghost use Rattle.layers.specs.Calls.{bound, must_answer, settled};
@@ -12,7 +12,7 @@ use refine::settled::settled;
 use rules::rule::Rule;
 use seek::must::must;
 
-// The value of the end, at place n * width.
+/// The value of the end, at place n * width.
 fn end_value<S: Copy, V: Copy>(nodes: &[Node<S, V>], n: usize, width: usize) -> Option<V>
     requires n_bound { n ≤ 16 }
     requires width_bound { width ≤ 128 }
@@ -28,7 +28,7 @@ fn end_value<S: Copy, V: Copy>(nodes: &[Node<S, V>], n: usize, width: usize) -> 
 }
 
 impl<'a, 'n, S: Copy, V: Copy> Diagram<'a, 'n, S, V> {
-    // What no wanted order undercuts; none if no order is left.
+    /// What no wanted order undercuts; none if no order is left.
     pub fn bound(&self) -> Option<V>
         ensures { result ≡ bound self.now.room.round.now.n self.now.room.width self.now.nodes.now }
     {
@@ -36,10 +36,12 @@ impl<'a, 'n, S: Copy, V: Copy> Diagram<'a, 'n, S, V> {
         end_value(self.nodes, round.n, width)
     }
 
-    // Yes if no path has door j at an earlier place than door i, and so if i is ahead of j in every wanted order.
+    /// Yes if no path has door j at an earlier place than door i, and so if i is ahead of j in every wanted order.
     pub fn must(&self, i: usize, j: usize) -> Result<bool, Refusal>
-        ensures answer { result ≡ must_answer self.now.room.round.now.n self.now.room.width i j self.now.nodes.now }
-        ensures paths { IfOk result (λ b. MustMeans self.now.room.round.now.n self.now.room.width i j self.now.nodes.now b) }
+        ensures answer { result ≡ must_answer self.now.room.round.now.n self.now.room.width i j
+            self.now.nodes.now }
+        ensures paths { IfOk result
+            (λ b. MustMeans self.now.room.round.now.n self.now.room.width i j self.now.nodes.now b) }
     {
         let Room { round, width } = self.room;
         let n = round.n;
@@ -52,10 +54,12 @@ impl<'a, 'n, S: Copy, V: Copy> Diagram<'a, 'n, S, V> {
         Ok(must(self.nodes, round.n, width, i, j))
     }
 
-    // Yes if the in-arcs of each node agree and a sweep would take out nothing: then every path is an allowed order. A tally has
-    // no say in it.
+    /// Yes if the in-arcs of each node agree and a sweep would take out nothing: then every path is an allowed order. A tally has
+    /// no say in it.
     pub fn settled<R: Rule<State = S>>(&self, rule: &R) -> bool
-        ensures { (t : TallySense V) → result ≡ settled self.now.room.round.now (R.Rule.sense rule.now) t self.now.room.width self.now.nodes.now }
+        ensures { (t : TallySense V)
+            → result ≡ settled self.now.room.round.now (R.Rule.sense rule.now) t self.now.room.width
+            self.now.nodes.now }
     {
         let Room { round, width } = self.room;
         settled(round, rule, self.nodes, width)

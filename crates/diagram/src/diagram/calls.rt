@@ -1,4 +1,4 @@
-// The calls that alter a diagram: each hands the lent list to the function that does the work.
+//! The calls that alter a diagram: each hands the lent list to the function that does the work.
 ghost use Rattle.std.specs.Prelude.{◌≡◌, ◌+◌, ◌*◌, ◌≤◌, length};
 ghost use Rattle.layers.specs.Calls.{swept, sweep_answer, cut_at, cut_answer, parted, part_answer, joined, join_answer, refined};
 ghost use Rattle.layers.specs.Shape.{Shaped, Timely};
@@ -18,18 +18,20 @@ use split::parting::part;
 use tallies::tally::Tally;
 
 impl<'a, 'n, S: Copy, V: Copy> Diagram<'a, 'n, S, V> {
-    // Takes out each arc that one of the six tests bars, by the labels that stand, and answers how many arcs went.
+    /// Takes out each arc that one of the six tests bars, by the labels that stand, and answers how many arcs went.
     pub fn sweep<R: Rule<State = S>, T: Tally<Value = V>>(&mut self, rule: &R, tally: &T) -> usize
         ensures room { self.new.room ≡ self.old.room }
-        ensures records { self.new.nodes.now ≡ swept self.old.room.round.now (R.Rule.sense rule.now) (T.Tally.sense tally.now) self.old.room.width self.old.nodes.now }
-        ensures answer { result ≡ sweep_answer self.old.room.round.now (R.Rule.sense rule.now) (T.Tally.sense tally.now) self.old.room.width self.old.nodes.now }
+        ensures records { self.new.nodes.now ≡ swept self.old.room.round.now (R.Rule.sense rule.now)
+            (T.Tally.sense tally.now) self.old.room.width self.old.nodes.now }
+        ensures answer { result ≡ sweep_answer self.old.room.round.now (R.Rule.sense rule.now)
+            (T.Tally.sense tally.now) self.old.room.width self.old.nodes.now }
         ensures lender { self.new.nodes.ghost_name ≡ self.old.nodes.ghost_name }
     {
         let Room { round, width } = self.room;
         sweep(round, rule, tally, self.nodes, width)
     }
 
-    // Takes out each arc whose arrival has a value above the ceiling, by the labels that stand, and answers how many arcs went.
+    /// Takes out each arc whose arrival has a value above the ceiling, by the labels that stand, and answers how many arcs went.
     pub fn cut<R: Rule<State = S>, T: Tally<Value = V>>(
         &mut self,
         rule: &R,
@@ -37,16 +39,19 @@ impl<'a, 'n, S: Copy, V: Copy> Diagram<'a, 'n, S, V> {
         ceiling: V,
     ) -> usize
         ensures room { self.new.room ≡ self.old.room }
-        ensures records { self.new.nodes.now ≡ cut_at self.old.room.round.now (R.Rule.sense rule.now) (T.Tally.sense tally.now) self.old.room.width ceiling self.old.nodes.now }
-        ensures answer { result ≡ cut_answer self.old.room.round.now (R.Rule.sense rule.now) (T.Tally.sense tally.now) self.old.room.width ceiling self.old.nodes.now }
+        ensures records { self.new.nodes.now ≡ cut_at self.old.room.round.now
+            (R.Rule.sense rule.now) (T.Tally.sense tally.now) self.old.room.width ceiling
+            self.old.nodes.now }
+        ensures answer { result ≡ cut_answer self.old.room.round.now (R.Rule.sense rule.now)
+            (T.Tally.sense tally.now) self.old.room.width ceiling self.old.nodes.now }
         ensures lender { self.new.nodes.ghost_name ≡ self.old.nodes.ghost_name }
     {
         let Room { round, width } = self.room;
         cut(round, rule, tally, self.nodes, width, ceiling)
     }
 
-    // Parts a node: the in-arcs that differ from the first in what arrives over them go to a new last node of its layer, which has
-    // the same out-arcs. A refusal alters nothing.
+    /// Parts a node: the in-arcs that differ from the first in what arrives over them go to a new last node of its layer, which has
+    /// the same out-arcs. A refusal alters nothing.
     pub fn part<R: Rule<State = S>, T: Tally<Value = V>>(
         &mut self,
         rule: &R,
@@ -55,15 +60,18 @@ impl<'a, 'n, S: Copy, V: Copy> Diagram<'a, 'n, S, V> {
         node: usize,
     ) -> Result<(), Refusal>
         ensures room { self.new.room ≡ self.old.room }
-        ensures records { self.new.nodes.now ≡ parted self.old.room.round.now (R.Rule.sense rule.now) (T.Tally.sense tally.now) self.old.room.width layer node self.old.nodes.now }
-        ensures answer { result ≡ part_answer self.old.room.round.now (R.Rule.sense rule.now) (T.Tally.sense tally.now) self.old.room.width layer node self.old.nodes.now }
+        ensures records { self.new.nodes.now ≡ parted self.old.room.round.now
+            (R.Rule.sense rule.now) (T.Tally.sense tally.now) self.old.room.width layer node
+            self.old.nodes.now }
+        ensures answer { result ≡ part_answer self.old.room.round.now (R.Rule.sense rule.now)
+            (T.Tally.sense tally.now) self.old.room.width layer node self.old.nodes.now }
         ensures lender { self.new.nodes.ghost_name ≡ self.old.nodes.ghost_name }
     {
         let Room { round, width } = self.room;
         part(round, rule, tally, self.nodes, width, layer, node)
     }
 
-    // Joins two nodes of a layer: the one with the lower number takes the in-arcs and the out-arcs of both. A refusal alters nothing.
+    /// Joins two nodes of a layer: the one with the lower number takes the in-arcs and the out-arcs of both. A refusal alters nothing.
     pub fn join<R: Rule<State = S>, T: Tally<Value = V>>(
         &mut self,
         rule: &R,
@@ -73,24 +81,30 @@ impl<'a, 'n, S: Copy, V: Copy> Diagram<'a, 'n, S, V> {
         b: usize,
     ) -> Result<(), Refusal>
         ensures room { self.new.room ≡ self.old.room }
-        ensures records { self.new.nodes.now ≡ joined self.old.room.round.now (R.Rule.sense rule.now) (T.Tally.sense tally.now) self.old.room.width layer a b self.old.nodes.now }
-        ensures answer { result ≡ join_answer self.old.room.round.now (R.Rule.sense rule.now) (T.Tally.sense tally.now) self.old.room.width layer a b self.old.nodes.now }
+        ensures records { self.new.nodes.now ≡ joined self.old.room.round.now
+            (R.Rule.sense rule.now) (T.Tally.sense tally.now) self.old.room.width layer a b
+            self.old.nodes.now }
+        ensures answer { result ≡ join_answer self.old.room.round.now (R.Rule.sense rule.now)
+            (T.Tally.sense tally.now) self.old.room.width layer a b self.old.nodes.now }
         ensures lender { self.new.nodes.ghost_name ≡ self.old.nodes.ghost_name }
     {
         let Room { round, width } = self.room;
         join(round, rule, tally, self.nodes, width, layer, a, b)
     }
 
-    // Sweeps and parts from layer to layer, as long as there is room, then sweeps until nothing is taken out.
+    /// Sweeps and parts from layer to layer, as long as there is room, then sweeps until nothing is taken out.
     pub fn refine<R: Rule<State = S>, T: Tally<Value = V>>(
         &mut self,
         rule: &R,
         tally: &T,
     ) -> Refined
         ensures room { self.new.room ≡ self.old.room }
-        ensures records { self.new.nodes.now ≡ (refined self.old.room.round.now (R.Rule.sense rule.now) (T.Tally.sense tally.now) self.old.room.width self.old.nodes.now).1 }
+        ensures records { self.new.nodes.now ≡ (refined self.old.room.round.now
+            (R.Rule.sense rule.now) (T.Tally.sense tally.now) self.old.room.width
+            self.old.nodes.now).1 }
         ensures within { IsInnerIfFull self.old.room.round.now.n result }
-        ensures answer { result ≡ (refined self.old.room.round.now (R.Rule.sense rule.now) (T.Tally.sense tally.now) self.old.room.width self.old.nodes.now).0 }
+        ensures answer { result ≡ (refined self.old.room.round.now (R.Rule.sense rule.now)
+            (T.Tally.sense tally.now) self.old.room.width self.old.nodes.now).0 }
         ensures lender { self.new.nodes.ghost_name ≡ self.old.nodes.ghost_name }
     {
         let Room { round, width } = self.room;

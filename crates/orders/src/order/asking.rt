@@ -1,4 +1,4 @@
-// When each door of an order finishes, what the order costs, and what is wrong with it.
+//! When each door of an order finishes, what the order costs, and what is wrong with it.
 ghost use Rattle.std.specs.Prelude.{◌≡◌, ℕ, ◌≤◌, IfOk, nat_lt, slice_index};
 ghost use Rattle.round.specs.Clock.{latest, door};
 ghost use Rattle.orders.specs.Costs.{cost};
@@ -13,7 +13,7 @@ use rules::rule::Rule;
 use std::alloc::{AllocError, Global};
 use tallies::tally::Tally;
 
-// Whether door j closes before the work of the van there ends.
+/// Whether door j closes before the work of the van there ends.
 fn closes_before(round: &Round, van: Van, j: usize) -> bool
     ensures { result ≡ nat_lt (door round.now j).closes van.finish }
 {
@@ -21,7 +21,7 @@ fn closes_before(round: &Round, van: Van, j: usize) -> bool
 }
 
 impl<'a> Order<'a> {
-    // The minutes at which the doors finish, in their order.
+    /// The minutes at which the doors finish, in their order.
     pub fn finishes(&self, heap: Global) -> Result<Vec<u32>, AllocError>
         ensures value { IfOk result (λ v. v.items ≡ finishes self.now.round.now self.now.doors.now) }
         ensures bound { IfOk result (λ v. (k : ℕ) → slice_index v.items k ≤ latest 16) }
@@ -35,7 +35,7 @@ impl<'a> Order<'a> {
         Ok(minutes)
     }
 
-    // What the order costs by this tally.
+    /// What the order costs by this tally.
     pub fn cost<T: Tally>(&self, tally: &T) -> T::Value
         ensures { result ≡ cost self.now.round.now (T.Tally.sense tally.now) self.now.doors.now }
     {
@@ -49,10 +49,12 @@ impl<'a> Order<'a> {
         value
     }
 
-    // Whether the order is allowed under this rule, or its first fault.
+    /// Whether the order is allowed under this rule, or its first fault.
     pub fn verdict<R: Rule>(&self, rule: &R) -> Verdict
-        ensures value { result ≡ verdict self.now.round.now (R.Rule.sense rule.now) self.now.doors.now }
-        ensures means { R.Rule.serves rule.now self.now.round.now.n → Judged self.now.round.now (R.Rule.keeps rule.now) self.now.doors.now result }
+        ensures value { result ≡ verdict self.now.round.now (R.Rule.sense rule.now)
+            self.now.doors.now }
+        ensures means { R.Rule.serves rule.now self.now.round.now.n
+            → Judged self.now.round.now (R.Rule.keeps rule.now) self.now.doors.now result }
     {
         if self.doors.len() == self.round.n {
             self.first_fault(rule)
@@ -61,9 +63,10 @@ impl<'a> Order<'a> {
         }
     }
 
-    // The first door that closes too early or breaks the rule, if there is one.
+    /// The first door that closes too early or breaks the rule, if there is one.
     fn first_fault<R: Rule>(&self, rule: &R) -> Verdict
-        ensures { result ≡ verdict_from self.now.round.now (R.Rule.sense rule.now) yard (R.Rule.sense rule.now).start self.now.doors.now }
+        ensures { result ≡ verdict_from self.now.round.now (R.Rule.sense rule.now) yard
+            (R.Rule.sense rule.now).start self.now.doors.now }
     {
         let mut van = Van::at_yard();
         let mut state = rule.start();

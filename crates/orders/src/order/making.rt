@@ -1,4 +1,4 @@
-// Lists of numbers that are part orders.
+//! Lists of numbers that are part orders.
 ghost use Rattle.std.specs.Prelude.{◌≡◌, ◌≤◌, false, not, ◌&&◌, MatchOption};
 ghost use Rattle.doors.specs.Orders.{is_door, is_part_order};
 ghost use Rattle.doors.specs.Sets.{has};
@@ -7,14 +7,14 @@ use super::Order;
 use doors::{DoorSet, contains, with};
 use round::table::Round;
 
-// Whether j is one of the doors 1 to n, and not in the set.
+/// Whether j is one of the doors 1 to n, and not in the set.
 fn is_new(seen: DoorSet, n: usize, j: usize) -> bool
     ensures { result ≡ (is_door n j && not (has seen j)) }
 {
     1 <= j && j <= n && !contains(seen, j)
 }
 
-// Whether the list has doors 1 to n alone, none twice.
+/// Whether the list has doors 1 to n alone, none twice.
 fn is_part_order(list: &[usize], n: usize) -> bool
     requires { n ≤ 16 }
     ensures { result ≡ is_part_order n list.now }
@@ -30,9 +30,10 @@ fn is_part_order(list: &[usize], n: usize) -> bool
 }
 
 impl<'a> Order<'a> {
-    // The list as a part order of the round's doors, if it is one.
+    /// The list as a part order of the round's doors, if it is one.
     pub fn of(round: &'a Round, list: &'a [usize]) -> Option<Order<'a>>
-        ensures { MatchOption result (is_part_order round.now.n list.now ≡ false) (λ o. (o.round ≡ round.entry) × (o.doors ≡ list.entry)) }
+        ensures { MatchOption result (is_part_order round.now.n list.now ≡ false)
+            (λ o. (o.round ≡ round.entry) × (o.doors ≡ list.entry)) }
     {
         if is_part_order(list, round.n) {
             Some(Order { round, doors: list })

@@ -1,4 +1,4 @@
-// `Load` is a side rule: a state is an interval, and stands for the part orders whose load lies in it.
+//! `Load` is a side rule: a state is an interval, and stands for the part orders whose load lies in it.
 ghost use Rattle.std.specs.Prelude.{◌≡◌, ℕ, pos, ◌+ℤ◌, ◌≤ℤ◌, int_lt};
 ghost use Rattle.std.proofs.Common.{subst};
 ghost use Rattle.round.specs.Tables.{at};
@@ -10,14 +10,14 @@ use super::{Interval, Load};
 use crate::rule::Rule;
 use round::table::Round;
 
-// a + by, held within ±9,999.
+/// a + by, held within ±9,999.
 fn held_sum(a: i32, by: i32) -> i32
     ensures { result ≡ held (a +ℤ by) }
 {
     a.saturating_add(by).clamp(-9999, 9999)
 }
 
-// Whether a + by is above the cap.
+/// Whether a + by is above the cap.
 fn above(a: i32, by: i32, cap: i32) -> bool
     requires { cap ≤ℤ pos 999 }
     ensures { result ≡ int_lt cap (a +ℤ by) }
@@ -25,7 +25,7 @@ fn above(a: i32, by: i32, cap: i32) -> bool
     a.saturating_add(by) > cap
 }
 
-// Whether a + by is below 0.
+/// Whether a + by is below 0.
 fn below_zero(a: i32, by: i32) -> bool
     ensures { result ≡ int_lt (a +ℤ by) (pos 0) }
 {
@@ -33,6 +33,7 @@ fn below_zero(a: i32, by: i32) -> bool
 }
 
 impl<'a> Load<'a> {
+    /// The load of a round.
     pub fn of(round: &'a Round) -> Load<'a>
         ensures { result.round ≡ round.entry }
     {

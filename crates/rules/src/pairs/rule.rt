@@ -1,4 +1,4 @@
-// `Pairs` is a side rule: a state is a set of doors, and stands for the part orders within it.
+//! `Pairs` is a side rule: a state is a set of doors, and stands for the part orders within it.
 ghost use Rattle.std.specs.Prelude.{◌≡◌, ℕ};
 ghost use Rattle.std.proofs.Common.{subst};
 ghost use Rattle.doors.specs.Orders.{In};
@@ -13,6 +13,7 @@ use doors::DoorSet;
 use round::table::Round;
 
 impl<'a> Pairs<'a> {
+    /// The pairs of a round.
     pub fn of(round: &'a Round) -> Pairs<'a>
         ensures { result.round ≡ round.entry }
     {

@@ -1,4 +1,4 @@
-// `LateDoors` is a tally: late doors, then late minutes summed, compared in that order.
+//! `LateDoors` is a tally: late doors, then late minutes summed, compared in that order.
 ghost use Rattle.std.specs.Prelude.{◌≡◌, ◌+◌, ◌*◌, ◌≤◌, min};
 ghost use Rattle.round.specs.Clock.{latest};
 ghost use Rattle.tallies.specs.Late.{late_by, late_sense};
@@ -8,7 +8,7 @@ use super::LateDoors;
 use crate::tally::Tally;
 use round::table::Round;
 
-// No number passes this.
+/// No number passes this.
 const MOST: u32 = 1_000_000;
 
 fn capped_sum(a: u32, by: u32) -> u32
@@ -18,14 +18,14 @@ fn capped_sum(a: u32, by: u32) -> u32
 }
 
 impl<'a> LateDoors<'a> {
-    // The due minutes of a round.
+    /// The due minutes of a round.
     pub fn of(round: &'a Round) -> LateDoors<'a>
         ensures { result.round ≡ round.entry }
     {
         LateDoors { round }
     }
 
-    // By how many minutes door j is late, if its work ends at `finish`.
+    /// By how many minutes door j is late, if its work ends at `finish`.
     fn minutes_late(&self, j: usize, finish: u32) -> u32
         ensures { result ≡ late_by self.now.round.now.n self.now.round.now.doors j finish }
     {
