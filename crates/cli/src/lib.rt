@@ -4,5 +4,5 @@
 
 pub mod input;
 pub mod order;
-mod output;
+pub mod output;
 pub mod sheet;

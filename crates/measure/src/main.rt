@@ -3,17 +3,17 @@
 //! the next node, and all labels go into a sum, so that the sum tells of every turn.
 #![tactic(auto)]
 
-use anyhow::anyhow;
+use cli::input::read_round;
+use cli::output::refused;
 use labels::blank::blank_node;
 use labels::relabel::relabel;
 use layers::node::{Arcs, Node};
 use round::table::Round;
 use rules::both::Both;
 use rules::rule::Rule;
-use std::io::Read;
+use std::process::ExitCode;
 use tallies::late::LateDoors;
 use tallies::tally::Tally;
-use text::reading::read_bounded;
 
 const TIMES: usize = 1000;
 
@@ -84,12 +84,12 @@ fn measure(rt: &HostRuntime, round: &Round) -> anyhow::Result<()> {
     Ok(())
 }
 
-fn main(rt: HostRuntime) -> anyhow::Result<()> {
-    let mut bytes = Vec::new(rt.alloc());
-    rt.stdin().read_to_end(&mut bytes)?;
-    let mut round = Round::fresh();
-    match read_bounded(&mut round, bytes.as_slice()) {
-        Ok(()) => measure(&rt, &round),
-        Err(_) => Err(anyhow!("the text is refused")),
+fn main(rt: HostRuntime) -> anyhow::Result<ExitCode> {
+    match read_round(rt.stdin(), rt.alloc())? {
+        Ok(round) => {
+            measure(&rt, &round)?;
+            Ok(ExitCode::SUCCESS)
+        }
+        Err(refusal) => refused(&rt, refusal),
     }
 }
