@@ -1,6 +1,6 @@
 -- While settled answers yes, the labels are exact, so every path is an allowed order and the bound is the least cost.
 use Rattle.std.proofs.Common.{◌≡◌, ℕ, zero, suc, ◌+◌, ◌<◌, ◌≤◌, Bool, true, false, cond, not, eqb, ltb, List, [], ◌∷◌, ◌++◌, length, get_or, Some, None, fold, Option, sym, refl, ap, ◌∙◌, inl, inr, append-nil, not-suc-le-zero, arith}
-use lib.Bits.{bit_and, bit_or, and_self, or_self}
+use lib.Bits.{bit_or}
 use lib.Count.{ones}
 use Rattle.std.proofs.lemmas.Bool.{true≢false, not-true, ltb-false, eqb-true, eqb-false, ne_eqb, and_parts, or_parts}
 use Rattle.doors.proofs.Orders.{each_none, each_more}
@@ -16,75 +16,14 @@ use Rattle.orders.specs.Costs.{Trip, cost, rides, trip_after}
 use Rattle.orders.specs.Times.{finish_of, Timely}
 use Rattle.orders.specs.declared.van.Van.{Van}
 use Rattle.layers.specs.declared.node.Up.{Up}
-use Rattle.layers.specs.Flow.{Outs, Layer, Net, node, target, width, PathFrom, tidy, tidied, Mark, marks_next, join_at, final, every_door, every_arc, ins, gather}
-use Rattle.layers.specs.Labels.{one, leg, ups, Lab, first, arrive, merge, firsts, labels_next, barred, opened, all_doors, agree, agree_all, agreeing}
-use Rattle.layers.specs.Calls.{Call, EachCut, Sweep, Part, Join, Cut, Refine}
-use Rattle.layers.proofs.Flows.{Among, table-long, From, inside, ins-in, ins-from, next-some, next-within, next-at}
+use Rattle.layers.specs.Flow.{Outs, Layer, Net, node, target, PathFrom, final, every_door, every_arc, ins, gather}
+use Rattle.layers.specs.Labels.{one, leg, ups, Lab, first, arrive, merge, firsts, labels_next, barred, agreeing}
+use Rattle.layers.proofs.Flows.{Among, From, inside, ins-in, ins-from, next-some, next-within, next-at, gather-all}
+use Rattle.layers.proofs.Agreeing.{Agree, agree-merge, pairs}
 use Rattle.layers.proofs.Sets.{or_left, or_right, one-self}
 use Rattle.layers.proofs.Ways.{in_split, trip-snoc, state-snoc, length-snoc, snoc-assoc, leg-one}
-use Rattle.layers.proofs.Model.{sweeps, sweep, cuts, cut, part_at, agreed, agrees, quiet, settles, settled, after, bound, valueO}
+use Rattle.layers.proofs.Model.{agreed, agrees, quiet, settles, settled, bound, valueO}
 use Rattle.layers.proofs.Walk.{NeatLayer, Neat, neat-door, path-length, Told, told_none, told-next}
-use Rattle.layers.proofs.Shapes.{neat-tidied, neat-join, neat-part, neat-sweeps, neat-cuts}
-use Rattle.layers.proofs.Calls.{safe-after, neat-opened}
-
--- ---- the shape of every diagram
-tidy-length : (fr : List (Option Mark)) (Ls : Net) → length (tidy fr Ls) ≡ length Ls
-unfolding tidy
-tidy-length fr [] = refl
-tidy-length fr (L ∷ Ls) = ap suc (tidy-length (marks_next fr L (width Ls)) Ls)
-
-pub tidied-length : (Ls : Net) → length (tidied Ls) ≡ length Ls
-unfolding tidied
-tidied-length [] = refl
-tidied-length (L ∷ Ls) = ap suc (tidy-length (marks_next (Some tt ∷ []) L (width Ls)) Ls)
-
-pub join-length : (d lo hi : ℕ) (Ls : Net) → length (join_at d lo hi Ls) ≡ length Ls
-unfolding join_at
-join-length zero lo hi [] = refl
-join-length (suc d) lo hi [] = refl
-join-length zero lo hi (L ∷ []) = refl
-join-length zero lo hi (L ∷ M ∷ Ls) = refl
-join-length (suc d) lo hi (L ∷ Ls) = ap suc (join-length d lo hi Ls)
-
-module _ {S V : Type 0} (r : Round) (rule : RuleSense S) (tally : TallySense V) where
-  pub part_length : (d a : ℕ) (labs : List (Option (Lab r rule tally))) (Ls : Net) → length (part_at r rule tally d a labs Ls) ≡ length Ls
-  unfolding part_at
-  part_length zero a labs [] = refl
-  part_length (suc d) a labs [] = refl
-  part_length zero a labs (L ∷ []) = refl
-  part_length zero a labs (L ∷ M ∷ Ls) = refl
-  part_length (suc d) a labs (L ∷ Ls) = ap suc (part_length d a (labels_next r rule tally labs L (width Ls)) Ls)
-
-  pub sweeps-length : (i : ℕ) (labs : List (Option (Lab r rule tally))) (Ls : Net) → length (sweeps r rule tally i labs Ls) ≡ length Ls
-  unfolding sweeps
-  sweeps-length i labs [] = refl
-  sweeps-length i labs (L ∷ Ls) = ap suc (sweeps-length (suc i) (labels_next r rule tally labs L (width Ls)) Ls)
-
-  pub cuts-length : (c : V) (labs : List (Option (Lab r rule tally))) (Ls : Net) → length (cuts r rule tally c labs Ls) ≡ length Ls
-  unfolding cuts
-  cuts-length c labs [] = refl
-  cuts-length c labs (L ∷ Ls) = ap suc (cuts-length c (labels_next r rule tally labs L (width Ls)) Ls)
-
-  abbrev pub Shape : Net → Type 0
-  Shape Ls = Neat r.n Ls × (length Ls ≡ r.n)
-
-  module _ (W : ℕ) where
-    pub any-cut : (cs : List (Call V)) → EachCut (λ c. Unit {0}) cs
-    any-cut [] = tt
-    any-cut (Sweep ∷ cs) = any-cut cs
-    any-cut (Part i a ∷ cs) = any-cut cs
-    any-cut (Join i a b ∷ cs) = any-cut cs
-    any-cut (Cut c ∷ cs) = (tt, any-cut cs)
-    any-cut (Refine ∷ cs) = any-cut cs
-
-    pub shape-after : (cs : List (Call V)) → Shape (after r rule tally W cs (opened r rule tally))
-    unfolding sweep cut opened
-    shape-after cs = safe-after r rule tally W Shape (λ c. Unit {0})
-        (λ Ls s. (neat-tidied r.n (sweeps r rule tally 0 (firsts r rule tally) Ls) (neat-sweeps r.n r rule tally 0 (firsts r rule tally) Ls s.0), tidied-length (sweeps r rule tally 0 (firsts r rule tally) Ls) ∙ sweeps-length 0 (firsts r rule tally) Ls ∙ s.1))
-        (λ c Ls q s. (neat-tidied r.n (cuts r rule tally c (firsts r rule tally) Ls) (neat-cuts r.n r rule tally c (firsts r rule tally) Ls s.0), tidied-length (cuts r rule tally c (firsts r rule tally) Ls) ∙ cuts-length c (firsts r rule tally) Ls ∙ s.1))
-        (λ d a Ls x y z s. (neat-part r.n r rule tally d a (firsts r rule tally) Ls s.0, part_length d a (firsts r rule tally) Ls ∙ s.1))
-        (λ d lo hi Ls x y z s. (neat-join r.n d lo hi Ls s.0, join-length d lo hi Ls ∙ s.1))
-        cs (opened r rule tally) (any-cut cs) (neat-opened r rule tally, table-long r.n (λ i. all_doors r rule tally ∷ []))
 
 -- ---- tests that passed
 every_door-at : (f : ℕ → ℕ → Bool) (j : ℕ) (ts : Outs) (k m b : ℕ) → j + k ≡ m → every_door f j ts ≡ true → get_or ts k 0 ≡ suc b → f m b ≡ true
@@ -105,55 +44,9 @@ every_arc-at f c (nd ∷ L) zero m (suc k) b h t e =
 every_arc-at f c (nd ∷ L) (suc a) m j b h t e = every_arc-at f (suc c) L a m j b (omega arith) (and_parts (every_door (f c) 1 nd) (every_arc f (suc c) L) t).1 e
 
 module _ {S V : Type 0} {Keeps : List ℕ → Type 0} {Stands : S → List ℕ → Type 0} {Allows : ℕ → V → Type 0} (r : Round) (rule : RuleSense S) (ruled : RuleLaws r.n rule Keeps Stands) (tally : TallySense V) (tallied : TallyLaws r.n tally Allows) where
-  -- ---- labels with one key
-  pub record Same (x y : Lab r rule tally) : Type 0 where
-    pub all : x.all ≡ y.all
-    pub finish : x.finish ≡ y.finish
-    pub lasts : x.lasts ≡ y.lasts
-    pub state : x.state ≡ y.state
-
-  same-agree : (x y : Lab r rule tally) → agree r rule tally x y ≡ true → Same x y
-  unfolding agree
-  same-agree x y e =
-      let p = and_parts (eqb x.all y.all) _ e in
-      let q = and_parts (eqb x.some y.some) _ p.1 in
-      let s = and_parts (eqb x.finish y.finish) _ q.1 in
-      let t = and_parts (eqb x.lasts y.lasts) _ s.1 in
-      record { all = eqb-true x.all y.all p.0; finish = eqb-true x.finish y.finish s.0; lasts = eqb-true x.lasts y.lasts t.0; state = ruled.same_is x.state y.state t.1 }
-
-  same-merge : (x y z : Lab r rule tally) → Same x y → Same x z → Same x (merge r rule tally y z)
-  unfolding merge
-  same-merge x y z p q = record {
-    all = sym (and_self x.all) ∙ ap (λ (t : ℕ). bit_and t x.all) p.all ∙ ap (bit_and y.all) q.all;
-    finish = omega (arith, p.finish, q.finish);
-    lasts = sym (or_self x.lasts) ∙ ap (λ (t : ℕ). bit_or t x.lasts) p.lasts ∙ ap (bit_or y.lasts) q.lasts;
-    state = sym (ruled.cover_same x.state) ∙ ap (λ (t : S). rule.cover t x.state) p.state ∙ ap (rule.cover y.state) q.state;
-  }
-
-  same_self : (x : Lab r rule tally) → Same x x
-  same_self x = record { all = refl; finish = refl; lasts = refl; state = refl }
-
-  same_back : (x y z : Lab r rule tally) → Same x y → Same x z → Same y z
-  same_back x y z p q = record { all = sym p.all ∙ q.all; finish = sym p.finish ∙ q.finish; lasts = sym p.lasts ∙ q.lasts; state = sym p.state ∙ q.state }
-
-  same-all : (x : Lab r rule tally) (l : List (Lab r rule tally)) → agree_all r rule tally x l ≡ true → (y : Lab r rule tally) → Among y l → Same x y
-  unfolding agree_all
-  same-all x [] e y i = absurd i
-  same-all x (z ∷ l) e y (inl f) = rw f (same-agree x z (and_parts (agree r rule tally x z) (agree_all r rule tally x l) e).0)
-  same-all x (z ∷ l) e y (inr i) = same-all x l (and_parts (agree r rule tally x z) (agree_all r rule tally x l) e).1 y i
-
-  same_fold : (x y : Lab r rule tally) (l : List (Lab r rule tally)) → Same x y → ((z : Lab r rule tally) → Among z l → Same x z) → Same x (fold (merge r rule tally) y l)
-  same_fold x y [] s f = s
-  same_fold x y (z ∷ l) s f = same_fold x (merge r rule tally y z) l (same-merge x y z s (f z (inl refl))) (λ t i. f t (inr i))
-
-  same-gather : (l : List (Lab r rule tally)) (m x : Lab r rule tally) → agreeing r rule tally l ≡ true → gather (merge r rule tally) l ≡ Some m → Among x l → Same x m
-  unfolding agreeing gather
-  same-gather [] m x e g i = absurd i
-  same-gather (y ∷ l) m x e g i =
-      let each : (z : Lab r rule tally) → Among z l → Same y z = same-all y l e in
-      let whole : Same y (fold (merge r rule tally) y l) = same_fold y y l (same_self y) each in
-      let z : fold (merge r rule tally) y l ≡ m = cc in
-      rw (← z) (same_back y x (fold (merge r rule tally) y l) (elim i [ inl f ↦ rw f (same_self y) | inr h ↦ each x h ]) whole)
+  -- ---- what is gathered from arrivals that agree agrees with each
+  same-gather : (l : List (Lab r rule tally)) (m x : Lab r rule tally) → agreeing r rule tally l ≡ true → gather (merge r rule tally) l ≡ Some m → Among x l → Agree r rule ruled tally x m
+  same-gather l m x e g i = gather-all (merge r rule tally) (Agree r rule ruled tally x) (agree-merge r rule ruled tally x) l m (λ y k. pairs r rule ruled tally l e x y i k) g
 
   -- the value gathered is that of some arrival
   abbrev Attained : V → List (Lab r rule tally) → Type 0
@@ -196,7 +89,7 @@ module _ {S V : Type 0} {Keeps : List ℕ → Type 0} {Stands : S → List ℕ �
   exact-first : Exact (first r rule tally) []
   exact-first = record { all = λ j i. absurd i; finish = refl; lasts = refl; state = refl }
 
-  exact_same : (x y : Lab r rule tally) (p : List ℕ) → Same x y → Exact x p → Exact y p
+  exact_same : (x y : Lab r rule tally) (p : List ℕ) → Agree r rule ruled tally x y → Exact x p → Exact y p
   exact_same x y p s e = record {
     all = λ j i. rw (← s.all) (e.all j i);
     finish = sym s.finish ∙ e.finish;

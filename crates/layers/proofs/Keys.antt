@@ -1,18 +1,17 @@
 -- A key for each node of the first layers, such that every arc leads from key to key: so the in-arcs there agree, whichever arcs go, and however nodes are renumbered or parted.
 use Rattle.std.proofs.Common.{◌≡◌, ℕ, zero, suc, ◌<◌, ◌≤◌, Bool, true, false, cond, ◌&&◌, eqb, List, [], ◌∷◌, ◌++◌, length, get_or, Some, None, Option, sym, refl, ap, ◌∙◌, inl, inr, arith}
-use lib.Bits.{bit_and, bit_or, and_self, or_self}
 use Rattle.std.proofs.lemmas.Bool.{false≢true, eqb-true, eq-eqb, ne_eqb, and_parts}
 use Rattle.round.specs.declared.table.Round.{Round}
-use Rattle.round.specs.Clock.{finish}
 use Rattle.rules.specs.Rules.{RuleLaws, RuleSense}
 use Rattle.tallies.specs.Tallies.{TallySense}
 use Rattle.layers.specs.Flow.{Layer, Net, node, target, width, redirect, ins, Mark, marks_next, marks_up, flags, rank, compress, renumber, tidy, tidied, Tied}
-use Rattle.layers.specs.Labels.{one, leg, ups, Lab, first, firsts, arrive, merge, labels_next, barred, agree, agree_all, agreeing, first_arrival, leaves}
+use Rattle.layers.specs.Labels.{ups, Lab, first, firsts, arrive, merge, labels_next, barred, first_arrival, leaves}
 use Rattle.layers.proofs.Flows.{Among, has-arc, ins-from, next-some, gather-all, compress-at}
 use Rattle.layers.proofs.Ways.{length-snoc}
 use Rattle.layers.proofs.Model.{sweeps, sweep, part_at, agreed, agrees}
 use Rattle.layers.proofs.Tied.{redirect-back, compress-back, renumber-back}
 use Rattle.layers.proofs.Ties.{more-back}
+use Rattle.layers.proofs.Agreeing.{Agree, agree-self, agree-back, agree-merge, agree-arrive, by-pairs}
 
 -- ---- each arc of one diagram is an arc of another, where f and its like say which node a node was
 abbrev pub Sub : (ℕ → ℕ) → Net → Net → Type 0
@@ -131,88 +130,12 @@ module _ {S V : Type 0} (r : Round) (rule : RuleSense S) (tally : TallySense V) 
   sub_part (suc d) a labs (L ∷ Ls) t = (λ b. b, λ x j b e. e, sub_part d a (labels_next r rule tally labs L (width Ls)) Ls (tied-tail L Ls t))
 
 module _ {S V : Type 0} {Keeps : List ℕ → Type 0} {Stands : S → List ℕ → Type 0} (r : Round) (rule : RuleSense S) (ruled : RuleLaws r.n rule Keeps Stands) (tally : TallySense V) where
-  -- ---- labels that agree in all but the value
-  pub record Agree (x y : Lab r rule tally) : Type 0 where
-    pub all : x.all ≡ y.all
-    pub some : x.some ≡ y.some
-    pub finish : x.finish ≡ y.finish
-    pub lasts : x.lasts ≡ y.lasts
-    pub state : x.state ≡ y.state
-
-  pub agree-yes : (x y : Lab r rule tally) → agree r rule tally x y ≡ true → Agree x y
-  unfolding agree
-  agree-yes x y e =
-      let p = and_parts (eqb x.all y.all) _ e in
-      let q = and_parts (eqb x.some y.some) _ p.1 in
-      let s = and_parts (eqb x.finish y.finish) _ q.1 in
-      let t = and_parts (eqb x.lasts y.lasts) _ s.1 in
-      record { all = eqb-true x.all y.all p.0; some = eqb-true x.some y.some q.0; finish = eqb-true x.finish y.finish s.0; lasts = eqb-true x.lasts y.lasts t.0; state = ruled.same_is x.state y.state t.1 }
-
-  yes-agree : (x y : Lab r rule tally) → Agree x y → agree r rule tally x y ≡ true
-  unfolding agree
-  yes-agree x y e =
-      rw (eq-eqb x.all y.all e.all, eq-eqb x.some y.some e.some, eq-eqb x.finish y.finish e.finish, eq-eqb x.lasts y.lasts e.lasts)
-      (ap (rule.same x.state) (sym e.state) ∙ ruled.same_self x.state)
-
-  pub agree-self : (x : Lab r rule tally) → Agree x x
-  agree-self x = record { all = refl; some = refl; finish = refl; lasts = refl; state = refl }
-
-  pub agree-back : (x y z : Lab r rule tally) → Agree x y → Agree x z → Agree y z
-  agree-back x y z p q = record { all = sym p.all ∙ q.all; some = sym p.some ∙ q.some; finish = sym p.finish ∙ q.finish; lasts = sym p.lasts ∙ q.lasts; state = sym p.state ∙ q.state }
-
-  -- merging what agrees gives the same
-  pub agree-merge : (x y z : Lab r rule tally) → Agree x y → Agree x z → Agree x (merge r rule tally y z)
-  unfolding merge
-  agree-merge x y z p q = record {
-    all = sym (and_self x.all) ∙ ap (λ (t : ℕ). bit_and t x.all) p.all ∙ ap (bit_and y.all) q.all;
-    some = sym (or_self x.some) ∙ ap (λ (t : ℕ). bit_or t x.some) p.some ∙ ap (bit_or y.some) q.some;
-    finish = omega (arith, p.finish, q.finish);
-    lasts = sym (or_self x.lasts) ∙ ap (λ (t : ℕ). bit_or t x.lasts) p.lasts ∙ ap (bit_or y.lasts) q.lasts;
-    state = sym (ruled.cover_same x.state) ∙ ap (λ (t : S). rule.cover t x.state) p.state ∙ ap (rule.cover y.state) q.state;
-  }
-
-  pub agree-arrive : (x y : Lab r rule tally) (j : ℕ) → Agree x y → Agree (arrive r rule tally x j) (arrive r rule tally y j)
-  unfolding arrive
-  agree-arrive x y j p = record {
-    all = ap (λ (t : ℕ). bit_or t (one j)) p.all;
-    some = ap (λ (t : ℕ). bit_or t (one j)) p.some;
-    finish = rw p.finish (ap (λ (t : ℕ). finish r y.finish (leg r t j) j) p.lasts);
-    lasts = refl;
-    state = ap (λ (t : S). rule.step t j) p.state;
-  }
-
-  -- a list of arrivals agrees if any two do
-  all_yes : (x : Lab r rule tally) (l : List (Lab r rule tally)) → agree_all r rule tally x l ≡ true → (y : Lab r rule tally) → Among y l → Agree x y
-  unfolding agree_all
-  all_yes x [] e y i = absurd i
-  all_yes x (z ∷ l) e y (inl f) = rw f (agree-yes x z (and_parts (agree r rule tally x z) (agree_all r rule tally x l) e).0)
-  all_yes x (z ∷ l) e y (inr i) = all_yes x l (and_parts (agree r rule tally x z) (agree_all r rule tally x l) e).1 y i
-
-  yes-all : (x : Lab r rule tally) (l : List (Lab r rule tally)) → ((y : Lab r rule tally) → Among y l → Agree x y) → agree_all r rule tally x l ≡ true
-  unfolding agree_all
-  yes-all x [] f = refl
-  yes-all x (y ∷ l) f = rw (yes-agree x y (f y (inl refl))) (yes-all x l (λ z i. f z (inr i)))
-
-  pub pairs : (l : List (Lab r rule tally)) → agreeing r rule tally l ≡ true → (y z : Lab r rule tally) → Among y l → Among z l → Agree y z
-  unfolding agreeing
-  pairs [] e y z i k = absurd i
-  pairs (x ∷ l) e y z i k = agree-back x y z (one_of y i) (one_of z k)
-    where
-      one_of : (t : Lab r rule tally) → Among t (x ∷ l) → Agree x t
-      one_of t (inl f) = rw f (agree-self x)
-      one_of t (inr m) = all_yes x l e t m
-
-  pub by-pairs : (l : List (Lab r rule tally)) → ((y z : Lab r rule tally) → Among y l → Among z l → Agree y z) → agreeing r rule tally l ≡ true
-  unfolding agreeing
-  by-pairs [] f = refl
-  by-pairs (x ∷ l) f = yes-all x l (λ y i. f x y (inl refl) (inr i))
-
   -- ---- keys: K of the nodes of the first layer, and of i layers more; the end has none
   abbrev pub Keyed : ℕ → (ℕ → Lab r rule tally) → Net → Type 0
   Keyed zero K Ls = Unit {0}
   Keyed (suc i) K [] = Unit {0}
   Keyed (suc i) K (L ∷ []) = Unit {0}
-  Keyed (suc i) K (L ∷ M ∷ Ls) = (K' : ℕ → Lab r rule tally) × ((a j b : ℕ) → target (node L a) j ≡ suc b → Agree (arrive r rule tally (K a) j) (K' b)) × Keyed i K' (M ∷ Ls)
+  Keyed (suc i) K (L ∷ M ∷ Ls) = (K' : ℕ → Lab r rule tally) × ((a j b : ℕ) → target (node L a) j ≡ suc b → Agree r rule ruled tally (arrive r rule tally (K a) j) (K' b)) × Keyed i K' (M ∷ Ls)
 
   keyed-sub : (i : ℕ) (K : ℕ → Lab r rule tally) (f : ℕ → ℕ) (Ms Ls : Net) → Sub f Ms Ls → Keyed i K Ls → Keyed i (λ a. K (f a)) Ms
   keyed-sub zero K f Ms Ls s k = tt
@@ -238,28 +161,28 @@ module _ {S V : Type 0} {Keeps : List ℕ → Type 0} {Stands : S → List ℕ �
 
   -- ---- the labels worked out agree with the keys
   abbrev pub Fit : List (Option (Lab r rule tally)) → (ℕ → Lab r rule tally) → Type 0
-  Fit labs K = (a : ℕ) (l : Lab r rule tally) → get_or labs a None ≡ Some l → Agree (K a) l
+  Fit labs K = (a : ℕ) (l : Lab r rule tally) → get_or labs a None ≡ Some l → Agree r rule ruled tally (K a) l
 
   pub fit-first : Fit (firsts r rule tally) (λ a. first r rule tally)
-  fit-first zero l e = let z : first r rule tally ≡ l = cc in rw (← z) (agree-self (first r rule tally))
+  fit-first zero l e = let z : first r rule tally ≡ l = cc in rw (← z) (agree-self r rule ruled tally (first r rule tally))
   fit-first (suc a) l e = absurd cc
 
-  module _ (labs : List (Option (Lab r rule tally))) (K K' : ℕ → Lab r rule tally) (fit : Fit labs K) (L : Layer) (on : (a j b : ℕ) → target (node L a) j ≡ suc b → Agree (arrive r rule tally (K a) j) (K' b)) where
+  module _ (labs : List (Option (Lab r rule tally))) (K K' : ℕ → Lab r rule tally) (fit : Fit labs K) (L : Layer) (on : (a j b : ℕ) → target (node L a) j ≡ suc b → Agree r rule ruled tally (arrive r rule tally (K a) j) (K' b)) where
     -- so does each arrival
-    arrival-fits : (b : ℕ) (x : Lab r rule tally) → Among x (ins (arrive r rule tally) b labs L) → Agree (K' b) x
+    arrival-fits : (b : ℕ) (x : Lab r rule tally) → Among x (ins (arrive r rule tally) b labs L) → Agree r rule ruled tally (K' b) x
     arrival-fits b x i =
         let f = ins-from (arrive r rule tally) b labs L x i in
-        let p = agree-arrive (K f.source) f.label f.door (fit f.source f.label f.labelled) in
-        rw f.is (agree-back (arrive r rule tally (K f.source) f.door) (K' b) (arrive r rule tally f.label f.door) (on f.source f.door b f.arc) p)
+        let p = agree-arrive r rule ruled tally (K f.source) f.label f.door (fit f.source f.label f.labelled) in
+        rw f.is (agree-back r rule ruled tally (arrive r rule tally (K f.source) f.door) (K' b) (arrive r rule tally f.label f.door) (on f.source f.door b f.arc) p)
 
     pub fit_next : (count : ℕ) → Fit (labels_next r rule tally labs L count) K'
     unfolding labels_next
-    fit_next count b m e = gather-all (merge r rule tally) (Agree (K' b)) (agree-merge (K' b)) (ins (arrive r rule tally) b labs L) m (arrival-fits b) (next-some (arrive r rule tally) (merge r rule tally) labs L count b m e)
+    fit_next count b m e = gather-all (merge r rule tally) (Agree r rule ruled tally (K' b)) (agree-merge r rule ruled tally (K' b)) (ins (arrive r rule tally) b labs L) m (arrival-fits b) (next-some (arrive r rule tally) (merge r rule tally) labs L count b m e)
 
     agreed-keyed : (k : ℕ) → agreed r rule tally labs L k ≡ true
     unfolding agreed
     agreed-keyed zero = refl
-    agreed-keyed (suc b) = rw (by-pairs (ins (arrive r rule tally) b labs L) (λ y z i k. agree-back (K' b) y z (arrival-fits b y i) (arrival-fits b z k))) (agreed-keyed b)
+    agreed-keyed (suc b) = rw (by-pairs r rule ruled tally (ins (arrive r rule tally) b labs L) (λ y z i k. agree-back r rule ruled tally (K' b) y z (arrival-fits b y i) (arrival-fits b z k))) (agreed-keyed b)
 
   agrees-keyed : (i : ℕ) (K : ℕ → Lab r rule tally) (labs : List (Option (Lab r rule tally))) (Ls : Net) → length Ls ≤ suc i → Fit labs K → Keyed i K Ls → agrees r rule tally labs Ls ≡ true
   unfolding agrees

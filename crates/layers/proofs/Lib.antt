@@ -1,8 +1,10 @@
+pub mod Agreeing
 pub mod Bridge
 pub mod Calls
 pub mod Counts
 pub mod Exact
 pub mod Flows
+pub mod Keeping
 pub mod Keys
 pub mod Laid
 pub mod Lively

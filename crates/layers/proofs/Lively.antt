@@ -6,9 +6,8 @@ use Rattle.tallies.specs.Tallies.{TallySense}
 use Rattle.layers.specs.declared.node.Up.{Up}
 use Rattle.layers.specs.Flow.{table, Layer, Net, node, width, PathFrom, redirect, up, Mark, marks_next, marks_up, flags, compress, renumber, tidy, tidied, moved, both_out, join_at, Led, Tied, Roomy}
 use Rattle.layers.specs.Labels.{Lab, arrive, merge, labels_next, climb, merge_up, no_up, ups, all_doors}
-use Rattle.layers.proofs.Ways.{length-snoc}
 use Rattle.layers.proofs.Flows.{next-at, up_at, has-arc}
-use Rattle.layers.proofs.Model.{sweeps, cuts, part_at}
+use Rattle.layers.proofs.Model.{sweeps, cuts}
 use Rattle.layers.proofs.Tied.{redirect-length}
 use Rattle.layers.proofs.Ties.{drop-length}
 
@@ -56,14 +55,6 @@ module _ {S V : Type 0} (r : Round) (rule : RuleSense S) (tally : TallySense V) 
   unfolding cuts
   roomy-cuts c labs [] h = tt
   roomy-cuts c labs (L ∷ Ls) h = (simp redirect-length h.0, roomy-cuts c (labels_next r rule tally labs L (width Ls)) Ls h.1)
-
-  pub roomy-part : (d a : ℕ) (labs : List (Option (Lab r rule tally))) (Ls : Net) → length (get_or Ls (suc d) []) < W → Roomy W Ls → Roomy W (part_at r rule tally d a labs Ls)
-  unfolding part_at
-  roomy-part zero a labs [] k h = h
-  roomy-part (suc d) a labs [] k h = h
-  roomy-part zero a labs (L ∷ []) k h = h
-  roomy-part zero a labs (L ∷ M ∷ Ls) k h = (simp redirect-length h.0, (omega (arith, length-snoc M (node M a)), h.1.1))
-  roomy-part (suc d) a labs (L ∷ Ls) k h = (h.0, roomy-part d a (labels_next r rule tally labs L (width Ls)) Ls k h.1)
 
   pub roomy-open : (k : ℕ) → Roomy W (table k (λ i. all_doors r rule tally ∷ []))
   roomy-open zero = tt

@@ -12,10 +12,11 @@ use Rattle.layers.specs.Records.{laid}
 use Rattle.layers.specs.Calls.{Call, arcs, relaid, bound, must, settled}
 use Rattle.layers.specs.Claim.{IsPath, MustMeans, NothingLost, NothingFalse, Kept, WorkedOut, SettledMeans}
 use Rattle.layers.proofs.Model.{after, bound as boundOf, must as mustOf, settled as settled_of}
+use Rattle.layers.proofs.Walk.{Neat}
 use Rattle.layers.proofs.Calls.{still, bound-below}
 use Rattle.layers.proofs.Seeks.{seen, sought, all_there, one-ahead}
-use Rattle.layers.proofs.Exact.{shape-after, paths-allowed, bound-attained}
-use Rattle.layers.proofs.Proper.{proper-opened, proper-after}
+use Rattle.layers.proofs.Exact.{paths-allowed, bound-attained}
+use Rattle.layers.proofs.Proper.{neat-of, proper-opened, proper-after}
 use Rattle.layers.proofs.Standing.{Well, X, arcs-X, bound-X, must-X, settled-X, settled-means-X, run-opened}
 
 module _ {S V : Type 0} {Keeps : List ℕ → Type 0} {Stands : S → List ℕ → Type 0} {Allows : ℕ → V → Type 0} (r : Round) (rule : RuleSense S) (ruled : RuleLaws r.n rule Keeps Stands) (tally : TallySense V) (tallied : TallyLaws r.n tally Allows) (W : ℕ) (w1 : 1 ≤ W) (later : List (Node S V)) (cs : List (Call V)) where
@@ -27,6 +28,9 @@ module _ {S V : Type 0} {Keeps : List ℕ → Type 0} {Stands : S → List ℕ �
 
   well : Well r rule ruled.same_self tally W w1 later D
   well = proper-after r rule ruled.same_self tally W w1 cs (opened r rule tally) (proper-opened r rule tally W w1)
+
+  neat : Neat r.n D
+  neat = neat-of r.n D well.even
 
   -- from the records to the arcs and back
   on-path : (w : List ℕ) → PathFrom D 0 w → IsPath r.n W Y w
@@ -44,29 +48,28 @@ module _ {S V : Type 0} {Keeps : List ℕ → Type 0} {Stands : S → List ℕ �
   none-lost : NothingLost r rule Keeps tally W cs Y
   unfolding mustOf
   none-lost = record {
-    still = λ w o. on-path w (still r rule ruled tally tallied W w o.0 cs o.1).1;
-    low = λ w v o e. let s = still r rule ruled tally tallied W w o.0 cs o.1 in let b = bound-below r rule ruled tally tallied w D o.0 s.0 s.1 in let e' = of-bound (Some v) e in
+    still = λ w o. on-path w (still r rule ruled tally tallied W w1 w o.0 cs o.1);
+    low = λ w v o e. let s = still r rule ruled tally tallied W w1 w o.0 cs o.1 in let b = bound-below r rule ruled tally tallied w D o.0 neat s in let e' = of-bound (Some v) e in
         let x : b.0 ≡ v = cc (b.1, e') in rw (← x) b.2;
-    low_none = λ e w o. let s = still r rule ruled tally tallied W w o.0 cs o.1 in let b = bound-below r rule ruled tally tallied w D o.0 s.0 s.1 in let e' = of-bound None e in
+    low_none = λ e w o. let s = still r rule ruled tally tallied W w1 w o.0 cs o.1 in let b = bound-below r rule ruled tally tallied w D o.0 neat s in let e' = of-bound None e in
         let z : ◌≡◌ {A = ℕ} 0 1 = cc (b.1, e') in omega arith;
-    must_yes = λ i j di dj ne e w o. let s = still r rule ruled tally tallied W w o.0 cs o.1 in
+    must_yes = λ i j di dj ne e w o. let s = still r rule ruled tally tallied W w1 w o.0 cs o.1 in
         elim (one-ahead i j w ne (all_there r.n w o.0.whole o.0.part i di) (all_there r.n w o.0.whole o.0.part j dj)) [
           | inl h ↦ h
-          | inr h ↦ absurd (true≢false (sym (seen D j i w s.1 h) ∙ not-true (seeks D 0 (j ∷ i ∷ [])) (of-must i j true e)))
+          | inr h ↦ absurd (true≢false (sym (seen D j i w s h) ∙ not-true (seeks D 0 (j ∷ i ∷ [])) (of-must i j true e)))
         ];
   }
 
   none-false : settled r rule tally W Y ≡ true → NothingFalse r rule Keeps tally W cs Y
   unfolding mustOf
   none-false s =
-      let sh = shape-after r rule tally W cs in
       let s' : settled_of r rule tally D ≡ true = sym (settled-X r rule ruled.same_self tally W w1 later D well) ∙ s in
-      let ok : (w : List ℕ) → PathFrom D 0 w → Allowed r Keeps w = λ w q. paths-allowed r rule ruled tally tallied D w sh.1 sh.0 s' q in
+      let ok : (w : List ℕ) → PathFrom D 0 w → Allowed r Keeps w = λ w q. paths-allowed r rule ruled tally tallied D w well.deep neat s' q in
       record {
         allowed = λ w q. ok w (off-path w q);
-        least = λ v e. let b = bound-attained r rule ruled tally tallied D v sh.1 sh.0 s' (of-bound (Some v) e) in (b.0, on-path b.0 b.1, b.2);
-        least_of = λ v e w q. let b = bound-below r rule ruled tally tallied w D (ok w (off-path w q)) sh.0 (off-path w q) in let e' = of-bound (Some v) e in let x : b.0 ≡ v = cc (b.1, e') in rw (← x) b.2;
-        least_none = λ e w q. let b = bound-below r rule ruled tally tallied w D (ok w (off-path w q)) sh.0 (off-path w q) in let e' = of-bound None e in let z : ◌≡◌ {A = ℕ} 0 1 = cc (b.1, e') in omega arith;
+        least = λ v e. let b = bound-attained r rule ruled tally tallied D v well.deep neat s' (of-bound (Some v) e) in (b.0, on-path b.0 b.1, b.2);
+        least_of = λ v e w q. let b = bound-below r rule ruled tally tallied w D (ok w (off-path w q)) neat (off-path w q) in let e' = of-bound (Some v) e in let x : b.0 ≡ v = cc (b.1, e') in rw (← x) b.2;
+        least_none = λ e w q. let b = bound-below r rule ruled tally tallied w D (ok w (off-path w q)) neat (off-path w q) in let e' = of-bound None e in let z : ◌≡◌ {A = ℕ} 0 1 = cc (b.1, e') in omega arith;
         must_no = λ i j e. let b = sought D j i (not-false (seeks D 0 (j ∷ i ∷ [])) (of-must i j false e)) in (b.0, on-path b.0 b.1, b.2);
       }
 

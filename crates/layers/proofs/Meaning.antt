@@ -13,10 +13,9 @@ use Rattle.layers.specs.LabelLaws.{LeadsTo, Labelled, LabelsMean}
 use Rattle.layers.proofs.Flows.{table_at}
 use Rattle.layers.proofs.Model.{after}
 use Rattle.layers.proofs.Walk.{Neat, Good}
-use Rattle.layers.proofs.Exact.{shape-after}
 use Rattle.layers.proofs.Lively.{way_on}
 use Rattle.layers.proofs.Bridge.{Labs, Full, top, stood, labsAt, table-long}
-use Rattle.layers.proofs.Proper.{proper-opened, proper-after}
+use Rattle.layers.proofs.Proper.{neat-of, proper-opened, proper-after}
 use Rattle.layers.proofs.Standing.{Well, X, full, nodes-X, arcs-X, run-opened}
 use Rattle.layers.proofs.Means.{Tells, all-exact, some-exact, owed-at, tells_at, good-at, up-exact}
 
@@ -112,4 +111,4 @@ labels-mean {S} {V} {Allows} A B rule tally ruled tallied r e f W lo hi lent cs 
     let x = ruled r.n e in let y = tallied r.n f in let l = drop (r.n * W + 1) lent in
     let D = after r rule tally W cs (opened r rule tally) in
     let p = proper-after r rule x.same_self tally W lo cs (opened r rule tally) (proper-opened r rule tally W lo) in
-    rw (run-opened r rule x.same_self tally W lo lent cs) (labelled-X r rule x tally W lo y l D p (shape-after r rule tally W cs).0)
+    rw (run-opened r rule x.same_self tally W lo lent cs) (labelled-X r rule x tally W lo y l D p (neat-of r.n D p.even))

@@ -1,5 +1,5 @@
 -- What every diagram is, after every list of calls; and so the calls on records are the calls on arcs.
-use Rattle.std.proofs.Common.{◌≡◌, ℕ, zero, suc, ◌<◌, ◌≤◌, Bool, true, false, List, [], ◌∷◌, length, get_or, set, Some, Option, refl, ap, ◌∙◌, inl, inr, arith}
+use Rattle.std.proofs.Common.{◌≡◌, ℕ, zero, suc, ◌<◌, ◌≤◌, Bool, true, false, List, [], ◌∷◌, length, get_or, set, Some, Option, sym, refl, ap, ◌∙◌, inl, inr, arith}
 use Rattle.round.specs.declared.table.Round.{Round}
 use Rattle.rules.specs.Rules.{RuleSense}
 use Rattle.tallies.specs.Tallies.{TallySense}
@@ -9,14 +9,13 @@ use Rattle.layers.specs.Calls.{Call, parted_at}
 use Rattle.layers.proofs.Ways.{length-snoc}
 use Rattle.layers.proofs.Flows.{Among, among-split}
 use Rattle.layers.proofs.Model.{one_group, parted, refines, sweeps, sweep, cuts, cut, part_at, after}
-use Rattle.layers.proofs.Walk.{node-among}
+use Rattle.layers.proofs.Walk.{node-among, Neat}
 use Rattle.layers.proofs.Shapes.{each_door-length}
-use Rattle.layers.proofs.Calls.{safe-after, safe-parted, safe-refines}
-use Rattle.layers.proofs.Exact.{any-cut, tidied-length, join-length, part_length, sweeps-length, cuts-length}
+use Rattle.layers.proofs.Keeping.{safe-after, safe-parted, safe-refines, any-cut, tidied-length, join-length, sweeps-length, cuts-length}
 use Rattle.layers.proofs.Tied.{redirect-length, tidied-tied}
-use Rattle.layers.proofs.Ties.{opened-tied, part-tied, parted-tied, join_tied}
-use Rattle.layers.proofs.Lively.{roomy-tidied, roomy-join, roomy-sweeps, roomy-cuts, roomy-part, roomy-open}
-use Rattle.layers.proofs.Bridge.{Even, table-long}
+use Rattle.layers.proofs.Ties.{opened-tied, parted-tied, join_tied}
+use Rattle.layers.proofs.Lively.{roomy-tidied, roomy-join, roomy-sweeps, roomy-cuts, roomy-open}
+use Rattle.layers.proofs.Bridge.{Even, table-long, labsAt, group_at, part-at}
 
 abbrev pub EvenLayer : ℕ → Layer → Type 0
 EvenLayer n L = (nd : Outs) → Among nd L → length nd ≡ n
@@ -24,6 +23,11 @@ EvenLayer n L = (nd : Outs) → Among nd L → length nd ≡ n
 abbrev pub EvenIn : ℕ → Net → Type 0
 EvenIn n [] = Unit {0}
 EvenIn n (L ∷ Ls) = EvenLayer n L × EvenIn n Ls
+
+-- so no node has more targets than there are doors
+pub neat-of : (n : ℕ) (Ls : Net) → EvenIn n Ls → Neat n Ls
+neat-of n [] h = tt
+neat-of n (L ∷ Ls) h = (λ nd i. omega (arith, h.0 nd i), neat-of n Ls h.1)
 
 module _ (n : ℕ) where
   pub even-of : (Ls : Net) → EvenIn n Ls → Even n Ls
@@ -131,20 +135,6 @@ module _ {S V : Type 0} (r : Round) (rule : RuleSense S) (tally : TallySense V) 
   even-cuts c labs [] h = (tt, refl)
   even-cuts c labs (L ∷ Ls) h = ((even-redirect r.n _ L h.0, (even-cuts c (labels_next r rule tally labs L (width Ls)) Ls h.1).0), simp redirect-length)
 
-  even-part : (d a : ℕ) (labs : List (Option (Lab r rule tally))) (Ls : Net) → a < length (get_or Ls (suc d) []) → EvenIn r.n Ls → EvenIn r.n (part_at r rule tally d a labs Ls) × (width (part_at r rule tally d a labs Ls) ≡ width Ls)
-  unfolding part_at
-  even-part zero a labs [] k h = (h, refl)
-  even-part (suc d) a labs [] k h = (h, refl)
-  even-part zero a labs (L ∷ []) k h = (h, refl)
-  even-part zero a labs (L ∷ M ∷ Ls) k h = (
-    (
-      even-redirect r.n _ L h.0,
-      ((λ nd i. elim (among-split nd M (node M a ∷ []) i) [ inl x ↦ h.1.0 nd x | inr x ↦ elim x [ inl e ↦ rw e (h.1.0 (node M a) (node-among M a k)) | inr y ↦ absurd y ] ]), h.1.1),
-    ),
-    simp redirect-length,
-  )
-  even-part (suc d) a labs (L ∷ Ls) k h = ((h.0, (even-part d a (labels_next r rule tally labs L (width Ls)) Ls k h.1).0), refl)
-
   pub proper-opened : Proper r.n W (opened r rule tally)
   proper-opened = record {
     deep = unfold opened in table-long r.n (λ i. all_doors r rule tally ∷ []);
@@ -219,8 +209,16 @@ module _ {S V : Type 0} (r : Round) (rule : RuleSense S) (tally : TallySense V) 
 -- parting, and so a list of calls, by the laws of the rule: an arrival agrees with itself
 module _ {S V : Type 0} (r : Round) (rule : RuleSense S) (self : (s : S) → rule.same s s ≡ true) (tally : TallySense V) (W : ℕ) (w : 1 ≤ W) where
   pub proper-part : (d a : ℕ) (Ls : Net) → a < length (get_or Ls (suc d) []) → length (get_or Ls (suc d) []) < W → one_group r rule tally d a (firsts r rule tally) Ls ≡ false → Proper r.n W Ls → Proper r.n W (part_at r rule tally d a (firsts r rule tally) Ls)
-  proper-part d a Ls x y z p = let e = even-part r rule tally W w d a (firsts r rule tally) Ls x p.even in
-      record { deep = part_length r rule tally d a (firsts r rule tally) Ls ∙ p.deep; one_first = e.1 ∙ p.one_first; even = e.0; roomy = roomy-part r rule tally W w d a (firsts r rule tally) Ls y p.roomy; tied = part-tied r rule self tally d a (firsts r rule tally) Ls x z p.tied }
+  proper-part d a Ls x y z p =
+      let e = part-at r rule tally W w d a (firsts r rule tally) Ls in
+      let in' = there (suc d) Ls a x in
+      let g = group_at r rule tally W w d a (firsts r rule tally) Ls (omega arith) in
+      rw (← e) (proper-parted-at r rule tally W w self d a (labsAt r rule tally W w d (firsts r rule tally) Ls) Ls x y (sym g ∙ z) p)
+    where
+      there : (d : ℕ) (Ls : Net) (a : ℕ) → a < length (get_or Ls d []) → d < length Ls
+      there d [] a h = absurd (omega arith)
+      there zero (L ∷ Ls) a h = omega arith
+      there (suc d) (L ∷ Ls) a h = let k = there d Ls a h in omega arith
 
   pub proper-after : (cs : List (Call V)) (Ls : Net) → Proper r.n W Ls → Proper r.n W (after r rule tally W cs Ls)
   proper-after cs Ls p = safe-after r rule tally W (Proper r.n W) (λ c. Unit {0}) (proper-sweep r rule tally W w) (proper-cut r rule tally W w) proper-part (proper-join r rule tally W w) cs Ls (any-cut r rule tally W cs) p

@@ -1,15 +1,14 @@
 -- Part and join keep every path; all calls keep the doors of arcs within the round's.
-use Rattle.std.proofs.Common.{◌≡◌, ℕ, zero, suc, ◌-◌, ◌<◌, ◌≤◌, Bool, true, false, cond, not, ◌&&◌, eqb, ltb, List, [], ◌∷◌, ◌++◌, length, get_or, set, Some, None, Option, refl, ap, ◌∙◌, inl, inr, le_of_suc-le-suc, not-suc-le-zero, arith}
+use Rattle.std.proofs.Common.{◌≡◌, ℕ, zero, suc, ◌-◌, ◌<◌, ◌≤◌, Bool, true, false, cond, not, ◌&&◌, eqb, ltb, List, [], ◌∷◌, ◌++◌, length, get_or, set, None, Option, refl, ap, ◌∙◌, le_of_suc-le-suc, not-suc-le-zero, arith}
 use Rattle.std.proofs.lemmas.Bool.{true≢false, ltb-true, ltb-false, eqb-true, eqb-false, and_parts, or_parts}
 use Rattle.std.proofs.lemmas.List.{get_or_append_left, get_or_push, get_or-set_same, get_or-set_other}
 use Rattle.round.specs.declared.table.Round.{Round}
 use Rattle.rules.specs.Rules.{RuleSense}
 use Rattle.tallies.specs.Tallies.{TallySense}
-use Rattle.layers.specs.Flow.{Outs, Layer, Net, node, target, width, PathFrom, each_door, each_node, redirect, Mark, marks_next, marks_up, flags, compress, renumber, tidy, tidied, either_target, both_out, apart_t, clash, without_at, moved, join_at, ins}
-use Rattle.layers.specs.Labels.{Lab, arrive, labels_next, leaves, first_arrival, barred, dear, ups}
-use Rattle.layers.proofs.Flows.{among-split, redirect-arc, has-arc}
-use Rattle.layers.proofs.Model.{part_at, sweeps, cuts}
-use Rattle.layers.proofs.Walk.{NeatLayer, Neat}
+use Rattle.layers.specs.Flow.{Outs, Layer, Net, node, target, width, PathFrom, each_door, redirect, either_target, both_out, apart_t, clash, without_at, moved, join_at, ins}
+use Rattle.layers.specs.Labels.{Lab, arrive, labels_next, leaves, first_arrival}
+use Rattle.layers.proofs.Flows.{redirect-arc, has-arc}
+use Rattle.layers.proofs.Model.{part_at}
 
 -- ---- part
 module _ {S V : Type 0} (r : Round) (rule : RuleSense S) (tally : TallySense V) where
@@ -139,113 +138,8 @@ join-keeps zero lo hi (L ∷ M ∷ Ls) x (j ∷ k ∷ w) a b n p =
 join-keeps (suc d) lo hi (L ∷ Ls) x [] a b n p = absurd p
 join-keeps (suc d) lo hi (L ∷ Ls) x (j ∷ w) a b n p = (p.0, p.1, join-keeps d lo hi Ls p.0 w a b n p.2)
 
--- ---- neat
 pub each_door-length : (f : ℕ → ℕ → ℕ) (j : ℕ) (ts : Outs) → length (each_door f j ts) ≡ length ts
 unfolding each_door
 each_door-length f j [] = refl
 each_door-length f j (zero ∷ ts) = ap suc (each_door-length f (suc j) ts)
 each_door-length f j (suc b ∷ ts) = ap suc (each_door-length f (suc j) ts)
-
-module _ (n : ℕ) where
-  neat-each : (f : ℕ → ℕ → ℕ → ℕ) (c : ℕ) (L : Layer) → NeatLayer n L → NeatLayer n (each_node f c L)
-  unfolding each_node
-  neat-each f c [] h nd i = absurd i
-  neat-each f c (x ∷ L) h nd (inl e) = let z = h x (inl refl) in omega (arith, each_door-length (f c) 1 x, ap (λ (y : Outs). length y) e)
-  neat-each f c (x ∷ L) h nd (inr i) = neat-each f (suc c) L (λ y k. h y (inr k)) nd i
-
-  neat-redirect : (f : ℕ → ℕ → ℕ → ℕ) (L : Layer) → NeatLayer n L → NeatLayer n (redirect f L)
-  unfolding redirect
-  neat-redirect f L h = neat-each f 0 L h
-
-  neat-compress : (fs : List Bool) (L : Layer) → NeatLayer n L → NeatLayer n (compress fs L)
-  unfolding compress
-  neat-compress [] L h nd i = absurd i
-  neat-compress (f ∷ fs) [] h nd i = absurd i
-  neat-compress (true ∷ fs) (x ∷ L) h nd (inl e) = h nd (inl e)
-  neat-compress (true ∷ fs) (x ∷ L) h nd (inr i) = neat-compress fs L (λ y k. h y (inr k)) nd i
-  neat-compress (false ∷ fs) (x ∷ L) h nd i = neat-compress fs L (λ y k. h y (inr k)) nd i
-
-  neat-node : (L : Layer) (a : ℕ) → NeatLayer n L → length (node L a) ≤ n
-  neat-node [] a h = omega arith
-  neat-node (x ∷ L) zero h = h x (inl refl)
-  neat-node (x ∷ L) (suc a) h = neat-node L a (λ y k. h y (inr k))
-
-  neat-set : (L : Layer) (i : ℕ) (v : Outs) → length v ≤ n → NeatLayer n L → NeatLayer n (set L i v)
-  neat-set [] i v g h nd k = absurd k
-  neat-set (x ∷ L) zero v g h nd (inl e) = rw e g
-  neat-set (x ∷ L) zero v g h nd (inr k) = h nd (inr k)
-  neat-set (x ∷ L) (suc i) v g h nd (inl e) = h nd (inl e)
-  neat-set (x ∷ L) (suc i) v g h nd (inr k) = neat-set L i v g (λ y m. h y (inr m)) nd k
-
-  neat-drop : (i : ℕ) (L : Layer) → NeatLayer n L → NeatLayer n (without_at i L)
-  unfolding without_at
-  neat-drop zero [] h nd k = absurd k
-  neat-drop (suc i) [] h nd k = absurd k
-  neat-drop zero (x ∷ L) h nd k = h nd (inr k)
-  neat-drop (suc i) (x ∷ L) h nd (inl e) = h nd (inl e)
-  neat-drop (suc i) (x ∷ L) h nd (inr k) = neat-drop i L (λ y m. h y (inr m)) nd k
-
-  both-length : (x y : Outs) → length x ≤ n → length y ≤ n → length (both_out x y) ≤ n
-  unfolding both_out
-  both-length x y a b = le n x y a b
-    where
-      le : (m : ℕ) (x y : Outs) → length x ≤ m → length y ≤ m → length (both_out x y) ≤ m
-      le m [] y a b = b
-      le m (s ∷ x) [] a b = a
-      le zero (s ∷ x) (t ∷ y) a b = absurd (not-suc-le-zero a)
-      le (suc m) (s ∷ x) (t ∷ y) a b = let h = le m x y (le_of_suc-le-suc a) (le_of_suc-le-suc b) in omega arith
-
-  pub neat-tidy : (fr : List (Option Mark)) (Ls : Net) → Neat n Ls → Neat n (tidy fr Ls)
-  unfolding tidy
-  neat-tidy fr [] h = tt
-  neat-tidy fr (L ∷ Ls) h = (
-    neat-compress (flags fr (marks_up (L ∷ Ls))) (redirect (λ a j b. renumber (flags (marks_next fr L (width Ls)) (marks_up Ls)) b) L)
-        (neat-redirect (λ a j b. renumber (flags (marks_next fr L (width Ls)) (marks_up Ls)) b) L h.0),
-    neat-tidy (marks_next fr L (width Ls)) Ls h.1,
-  )
-
-  pub neat-tidied : (Ls : Net) → Neat n Ls → Neat n (tidied Ls)
-  unfolding tidied
-  neat-tidied [] h = tt
-  neat-tidied (L ∷ Ls) h = (neat-redirect (λ a j b. renumber (flags (marks_next (Some tt ∷ []) L (width Ls)) (marks_up Ls)) b) L h.0, neat-tidy (marks_next (Some tt ∷ []) L (width Ls)) Ls h.1)
-
-  pub neat-join : (d lo hi : ℕ) (Ls : Net) → Neat n Ls → Neat n (join_at d lo hi Ls)
-  unfolding join_at
-  neat-join zero lo hi [] h = h
-  neat-join (suc d) lo hi [] h = h
-  neat-join zero lo hi (L ∷ []) h = h
-  neat-join zero lo hi (L ∷ M ∷ Ls) h = (
-    neat-redirect (λ a j b. suc (moved lo hi b)) L h.0,
-    (
-      neat-drop hi (set M lo (both_out (node M lo) (node M hi))) (neat-set M lo (both_out (node M lo) (node M hi)) (both-length (node M lo) (node M hi) (neat-node M lo h.1.0) (neat-node M hi h.1.0)) h.1.0),
-      h.1.1,
-    ),
-  )
-  neat-join (suc d) lo hi (L ∷ Ls) h = (h.0, neat-join d lo hi Ls h.1)
-
-  module _ {S V : Type 0} (r : Round) (rule : RuleSense S) (tally : TallySense V) where
-    pub neat-part : (d a : ℕ) (labs : List (Option (Lab r rule tally))) (Ls : Net) → Neat n Ls → Neat n (part_at r rule tally d a labs Ls)
-    unfolding part_at
-    neat-part zero a labs [] h = h
-    neat-part (suc d) a labs [] h = h
-    neat-part zero a labs (L ∷ []) h = h
-    neat-part zero a labs (L ∷ M ∷ Ls) h = (
-      neat-redirect (λ u j b. cond (eqb b a && leaves r rule tally (first_arrival r rule tally (ins (arrive r rule tally) a labs L)) (get_or labs u None) j) (suc (length M)) (suc b)) L h.0,
-      (
-        λ nd i. elim (among-split nd M (node M a ∷ []) i) [ inl x ↦ h.1.0 nd x | inr x ↦ elim x [ inl e ↦ rw e (neat-node M a h.1.0) | inr y ↦ absurd y ] ],
-        h.1.1,
-      ),
-    )
-    neat-part (suc d) a labs (L ∷ Ls) h = (h.0, neat-part d a (labels_next r rule tally labs L (width Ls)) Ls h.1)
-
-    pub neat-sweeps : (i : ℕ) (labs : List (Option (Lab r rule tally))) (Ls : Net) → Neat n Ls → Neat n (sweeps r rule tally i labs Ls)
-    unfolding sweeps
-    neat-sweeps i labs [] h = tt
-    neat-sweeps i labs (L ∷ Ls) h =
-        (neat-redirect (λ a j b. cond (barred r rule tally i (suc (length Ls)) j (get_or labs a None) (get_or (ups Ls) b None)) 0 (suc b)) L h.0, neat-sweeps (suc i) (labels_next r rule tally labs L (width Ls)) Ls h.1)
-
-    pub neat-cuts : (c : V) (labs : List (Option (Lab r rule tally))) (Ls : Net) → Neat n Ls → Neat n (cuts r rule tally c labs Ls)
-    unfolding cuts
-    neat-cuts c labs [] h = tt
-    neat-cuts c labs (L ∷ Ls) h =
-        (neat-redirect (λ a j b. cond (dear r rule tally c j (get_or labs a None)) 0 (suc b)) L h.0, neat-cuts c (labels_next r rule tally labs L (width Ls)) Ls h.1)

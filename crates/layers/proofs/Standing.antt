@@ -1,38 +1,30 @@
 -- In a run with one rule and one tally, from opened records on, the labels that stand are those worked out from the arcs: each call on records is the call on arcs.
-use Rattle.std.proofs.Common.{◌≡◌, ℕ, zero, suc, ◌+◌, ◌-◌, ◌*◌, ◌<◌, ◌≤◌, min, max, Bool, true, false, cond, not, ◌&&◌, ◌||◌, eqb, ltb, leb, List, [], ◌∷◌, ◌++◌, length, get_or, drop, is_ok, Ok, Err, sym, refl, ap, ◌∙◌, ap₂, arith}
-use Rattle.std.proofs.lemmas.Bool.{ltb-true, ltb-false, leb-true, leb-false, eqb-true, lt-ltb, le-leb, eq-eqb, ne_eqb, and_parts, or_parts}
+use Rattle.std.proofs.Common.{◌≡◌, ℕ, zero, suc, ◌+◌, ◌-◌, ◌*◌, ◌<◌, ◌≤◌, min, max, Bool, true, false, not, ◌&&◌, eqb, ltb, leb, List, [], ◌∷◌, ◌++◌, length, get_or, drop, sym, refl, ap, ◌∙◌, ap₂, arith}
+use Rattle.std.proofs.lemmas.Bool.Decides.{nat_tests}
+use Rattle.std.proofs.lemmas.Bool.{leb-false, eqb-true, eq-eqb, and_parts}
 use Rattle.round.specs.declared.table.Round.{Round}
 use Rattle.rules.specs.Rules.{RuleSense}
 use Rattle.tallies.specs.Tallies.{TallySense}
 use Rattle.layers.specs.declared.node.Node.{Node}
 use Rattle.layers.specs.declared.refined.Refined.{Refined}
-use Rattle.layers.specs.declared.refined.Refined.TheVariants.{Full as FullLayer}
-use Rattle.layers.specs.declared.refusal.Refusal.{Refusal}
-use Rattle.layers.specs.declared.refusal.Refusal.TheVariants.{NoLayer, NoNode, OneGroup, LayerFull, SameNode, Clash}
-use Rattle.layers.specs.Flow.{Net, node, count_arcs, ins, tidied, clash, join_at, seeks}
+use Rattle.layers.specs.Flow.{Net, count_arcs, ins, tidied, join_at, seeks}
 use Rattle.layers.specs.Labels.{firsts, arrive, opened}
 use Rattle.layers.specs.Records.{arcs_in, downs_in, laid}
-use Rattle.layers.specs.Calls.{Answer, Call, Sweep, Part, Join, Cut, Refine, arrivals, parted_at, nodes, arcs, layer, relaid, opened_on, fewer, swept, sweep_answer, cut_at, part_answer, split, join_answer, joined, splits, splits_all, swept_out, refined, does, run, bound, must, settled, agreed_all, value_in, one_group as oneGroupIn, is_full, parted as partedIn, bad_node as badNodeIn}
-use Rattle.layers.proofs.Model.{sweep, cut, one_group, part_at, count, done, refused, bad_layer, bad_node, part, join, unless, swept as untilQuiet, parted as partedArcs, refines, refine, act, after, agrees, settles, bound as boundOf, must as mustOf, settled as settled_of}
+use Rattle.layers.specs.Calls.{Call, Sweep, Part, Join, Cut, Refine, arrivals, parted_at, nodes, arcs, layer, relaid, opened_on, fewer, swept, sweep_answer, cut_at, part_answer, split, join_answer, joined, splits, splits_all, swept_out, refined, does, run, bound, must, settled, agreed_all, value_in, one_group as oneGroupIn, parted as partedIn}
+use Rattle.layers.proofs.Model.{sweep, cut, one_group, part_at, count, bad_layer, part, join, unless, swept as untilQuiet, parted as partedArcs, refines, refine, act, after, agrees, settles, bound as boundOf, must as mustOf, settled as settled_of}
 use Rattle.layers.proofs.Counts.{sweep-fewer, settled-yes, settled-if}
 use Rattle.layers.proofs.Bridge.{Full, stood, labsAt, thinned-stood, trimmed-stood, quiet-stood, agrees-stood, stood-at, group_at, part-at, value-stood, later-stays}
 use Rattle.layers.proofs.Laid.{full as full-laid, nodes-laid, arcs-laid}
 use Rattle.layers.proofs.Proper.{Proper, proper-opened, proper-sweep, proper-part, proper-after, proper-parted, proper-refines}
 
 pub same_bool : (p q : Bool) → (p ≡ true → q ≡ true) → (q ≡ true → p ≡ true) → p ≡ q
-same_bool true q f g = sym (f refl)
-same_bool false true f g = g refl
-same_bool false false f g = refl
+same_bool p q f g = grind arith
 
 past : (m a : ℕ) → ltb m (suc a) ≡ leb m a
-past m a = same_bool (ltb m (suc a)) (leb m a)
-    (λ e. le-leb m a (let h = ltb-true m (suc a) e in omega arith))
-    (λ e. lt-ltb m (suc a) (let h = leb-true m a e in omega arith))
+past m a = grind (arith, nat_tests)
 
 nothing-less : (m k : ℕ) → k ≤ m → eqb (m - k) 0 ≡ eqb k m
-nothing-less m k h = same_bool (eqb (m - k) 0) (eqb k m)
-    (λ e. eq-eqb k m (let z = eqb-true (m - k) 0 e in omega arith))
-    (λ e. eq-eqb (m - k) 0 (let z = eqb-true k m e in omega arith))
+nothing-less m k h = grind (arith, nat_tests)
 
 module _ {S V : Type 0} (r : Round) (rule : RuleSense S) (self : (s : S) → rule.same s s ≡ true) (tally : TallySense V) (W : ℕ) (w : 1 ≤ W) (later : List (Node S V)) where
   abbrev pub Well : Net → Type 0
@@ -86,54 +78,26 @@ module _ {S V : Type 0} (r : Round) (rule : RuleSense S) (self : (s : S) → rul
       ∙ rw e (part-at r rule tally W w (i - 1) c (firsts r rule tally) Ls))
 
   -- ---- part and join: a refusal leaves the list
-  abbrev barring : Bool → Refusal → Answer → Answer
-  barring q e o = cond q (Err e) o
-
-  refusals : (x y z t : Bool) (a b c d : Refusal) (o : Answer) (A B : List (Node S V)) → is_ok o ≡ true → cond (is_ok (barring x a (barring y b (barring z c (barring t d o))))) A B ≡ cond x B (cond y B (cond z B (cond t B A)))
-  refusals true y z t a b c d o A B e = refl
-  refusals false true z t a b c d o A B e = refl
-  refusals false false true t a b c d o A B e = refl
-  refusals false false false true a b c d o A B e = refl
-  refusals false false false false a b c d o A B e = ap (λ (q : Bool). cond q A B) e
-
-  outcomes : (x y z t : Bool) (a b c d : ℕ) (Ls Ms : Net)
-      → X (unless r rule tally W Ls (elim x [ true ↦ refused a | false ↦ elim y [ true ↦ refused b | false ↦ elim z [ true ↦ refused c | false ↦ elim t [ true ↦ refused d | false ↦ done Ms ] ] ] ])) ≡ cond x (X Ls) (cond y (X Ls) (cond z (X Ls) (cond t (X Ls) (X Ms))))
-  outcomes true y z t a b c d Ls Ms = refl
-  outcomes false true z t a b c d Ls Ms = refl
-  outcomes false false true t a b c d Ls Ms = refl
-  outcomes false false false true a b c d Ls Ms = refl
-  outcomes false false false false a b c d Ls Ms = refl
-
   placed : (i : ℕ) → bad_layer r rule tally i ≡ false → (1 ≤ i) × (i < r.n)
-  placed i e = let q = or_parts (ltb i 1) (leb r.n i) e in (ltb-false i 1 q.0, leb-false r.n i q.1)
-
-  four : (x : Bool) (y y' z z' t t' : Bool) (A A' B : List (Node S V)) → (x ≡ false → (y ≡ y') × (z ≡ z') × (t ≡ t') × (A ≡ A')) → cond x B (cond y B (cond z B (cond t B A))) ≡ cond x B (cond y' B (cond z' B (cond t' B A')))
-  four true y y' z z' t t' A A' B f = refl
-  four false y y' z z' t t' A A' B f = let q = f refl in
-      ap₂ (λ (y z : Bool). cond y B (cond z B (cond t B A))) q.0 q.1 ∙ ap₂ (λ (t : Bool) (A : List (Node S V)). cond y' B (cond z' B (cond t B A))) q.2 q.3
+  placed i e = (grind (arith, nat_tests), grind (arith, nat_tests))
 
   pub part-X : (i a : ℕ) (Ls : Net) → Well Ls → partedIn r rule tally W i a (X Ls) ≡ X (unless r rule tally W Ls (part r rule tally W i a Ls))
   unfolding partedIn part_answer part
-  part-X i a Ls p =
-      refusals (bad_layer r rule tally i) (badNodeIn r rule tally W i a (X Ls)) (oneGroupIn r rule tally W i a (X Ls)) (is_full r rule tally W i (X Ls)) NoLayer NoNode OneGroup LayerFull (Ok tt) (split r rule tally W i a (X Ls)) (X Ls) refl
-      ∙ four (bad_layer r rule tally i) (badNodeIn r rule tally W i a (X Ls)) (bad_node r rule tally i a Ls) (oneGroupIn r rule tally W i a (X Ls)) (one_group r rule tally (i - 1) (a - 1) (firsts r rule tally) Ls) (is_full r rule tally W i (X Ls)) (leb W (count r rule tally i Ls)) (split r rule tally W i a (X Ls)) (X (part_at r rule tally (i - 1) (a - 1) (firsts r rule tally) Ls)) (X Ls)
-      (λ e. let b = placed i e in let n = (at-X i Ls p b.1).2 in
-      (ap (λ (m : ℕ). ltb a 1 || ltb m a) n, group-X i a (a - 1) Ls p b.0 b.1 refl, ap (leb W) n, split-X i a (a - 1) Ls p b.0 b.1 refl))
-      ∙ sym (outcomes (bad_layer r rule tally i) (bad_node r rule tally i a Ls) (one_group r rule tally (i - 1) (a - 1) (firsts r rule tally) Ls) (leb W (count r rule tally i Ls)) 20 21 23 24 Ls (part_at r rule tally (i - 1) (a - 1) (firsts r rule tally) Ls))
+  part-X i a Ls p = go (bad_layer r rule tally i) refl
+    where
+      go : (q : Bool) → bad_layer r rule tally i ≡ q → partedIn r rule tally W i a (X Ls) ≡ X (unless r rule tally W Ls (part r rule tally W i a Ls))
+      go true e = grind (arith, nat_tests)
+      go false e =
+          let b = placed i e in
+          grind (arith, nat_tests, (at-X i Ls p b.1).2, group-X i a (a - 1) Ls p b.0 b.1 refl, split-X i a (a - 1) Ls p b.0 b.1 refl)
 
   pub join-X : (i a b : ℕ) (Ls : Net) → Well Ls → joined r rule tally W i a b (X Ls) ≡ X (unless r rule tally W Ls (join r rule tally W i a b Ls))
   unfolding joined join_answer join
-  join-X i a b Ls p =
-      let D : Net = arcs r.n W (X Ls) in
-      let J : Net → Net = join_at (i - 1) (min a b - 1) (max a b - 1) in
-      let C : Net → Bool = λ Ms. clash (node (get_or Ms i []) (min a b - 1)) (node (get_or Ms i []) (max a b - 1)) in
-      let B : Bool = badNodeIn r rule tally W i a (X Ls) || badNodeIn r rule tally W i b (X Ls) in
-      let B' : Bool = bad_node r rule tally i a Ls || bad_node r rule tally i b Ls in
-      refusals (bad_layer r rule tally i) B (eqb a b) (C D) NoLayer NoNode SameNode Clash (Ok tt) (relaid r rule tally W (X Ls) (J D)) (X Ls) refl
-      ∙ four (bad_layer r rule tally i) B B' (eqb a b) (eqb a b) (C D) (C Ls) (relaid r rule tally W (X Ls) (J D)) (X (J Ls)) (X Ls)
-      (λ e. let q = placed i e in
-      (ap (λ (m : ℕ). (ltb a 1 || ltb m a) || (ltb b 1 || ltb m b)) (at-X i Ls p q.1).2, refl, ap C (arcs-X Ls p), relaid-X Ls (J D) p ∙ ap (λ (z : Net). X (J z)) (arcs-X Ls p)))
-      ∙ sym (outcomes (bad_layer r rule tally i) B' (eqb a b) (C Ls) 20 21 25 26 Ls (J Ls))
+  join-X i a b Ls p = go (bad_layer r rule tally i) refl
+    where
+      go : (q : Bool) → bad_layer r rule tally i ≡ q → joined r rule tally W i a b (X Ls) ≡ X (unless r rule tally W Ls (join r rule tally W i a b Ls))
+      go true e = grind (arith, nat_tests)
+      go false e = grind (arith, nat_tests, (at-X i Ls p (placed i e).1).2, arcs-X Ls p, relaid-X Ls (join_at (i - 1) (min a b - 1) (max a b - 1) Ls) p)
 
   -- ---- refine
   abbrev pub lift : {A : Type 0} → A × Net → A × List (Node S V)
@@ -143,29 +107,13 @@ module _ {S V : Type 0} (r : Round) (rule : RuleSense S) (self : (s : S) → rul
   unfolding splits partedArcs
   splits-X zero i a Ls p lo hi = refl
   splits-X (suc k) i a Ls p lo hi =
-      let n = (at-X i Ls p hi).2 in
-      ap₂ (λ (x z : Bool). cond x (false, X Ls) (cond (oneGroupIn r rule tally W i (suc a) (X Ls)) (splits r rule tally W k i (suc (suc a)) (X Ls)) (cond z (true, X Ls) (splits r rule tally W k i (suc (suc a)) (split r rule tally W i (suc a) (X Ls))))))
-      (rw n (past (count r rule tally i Ls) a)) (ap (leb W) n)
-      ∙ ap (λ (y : Bool). cond (leb (count r rule tally i Ls) a) (false, X Ls) (cond y (splits r rule tally W k i (suc (suc a)) (X Ls)) (cond (leb W (count r rule tally i Ls)) (true, X Ls) (splits r rule tally W k i (suc (suc a)) (split r rule tally W i (suc a) (X Ls))))))
-      (group-X i (suc a) a Ls p lo hi (omega arith))
-      ∙ go (leb (count r rule tally i Ls) a) refl (one_group r rule tally (i - 1) a (firsts r rule tally) Ls) refl (leb W (count r rule tally i Ls)) refl (splits-X k i (suc a) Ls p lo hi)
-      (λ q. splits-X k i (suc a) (part_at r rule tally (i - 1) a (firsts r rule tally) Ls) q lo hi)
-    where
-      P : Net
-      P = part_at r rule tally (i - 1) a (firsts r rule tally) Ls
-
-      go : (x : Bool) → leb (count r rule tally i Ls) a ≡ x → (y : Bool) → one_group r rule tally (i - 1) a (firsts r rule tally) Ls ≡ y → (z : Bool) → leb W (count r rule tally i Ls) ≡ z
-          → splits r rule tally W k i (suc (suc a)) (X Ls) ≡ lift (partedArcs r rule tally W k i (suc a) Ls)
-          → (Well P → splits r rule tally W k i (suc (suc a)) (X P) ≡ lift (partedArcs r rule tally W k i (suc a) P))
-          → cond x (false, X Ls) (cond y (splits r rule tally W k i (suc (suc a)) (X Ls)) (cond z (true, X Ls) (splits r rule tally W k i (suc (suc a)) (split r rule tally W i (suc a) (X Ls)))))
-          ≡ lift (elim x [ true ↦ (false, Ls) | false ↦ elim y [ true ↦ partedArcs r rule tally W k i (suc a) Ls | false ↦ elim z [ true ↦ (true, Ls) | false ↦ partedArcs r rule tally W k i (suc a) P ] ] ])
-      go true e y f z g s t = refl
-      go false e true f z g s t = s
-      go false e false f true g s t = refl
-      go false e false f false g s t =
-          let ei : suc (i - 1) ≡ i = omega arith in
-          ap (splits r rule tally W k i (suc (suc a))) (split-X i (suc a) a Ls p lo hi (omega arith))
-          ∙ t (proper-part r rule self tally W w (i - 1) a Ls (rw ei (leb-false (count r rule tally i Ls) a e)) (rw ei (leb-false W (count r rule tally i Ls) g)) f p)
+      let P = part_at r rule tally (i - 1) a (firsts r rule tally) Ls in
+      let ei : suc (i - 1) ≡ i = omega arith in
+      let more : leb (count r rule tally i Ls) a ≡ false → leb W (count r rule tally i Ls) ≡ false → one_group r rule tally (i - 1) a (firsts r rule tally) Ls ≡ false
+          → splits r rule tally W k i (suc (suc a)) (X P) ≡ lift (partedArcs r rule tally W k i (suc a) P) =
+          λ e g f. splits-X k i (suc a) P (proper-part r rule self tally W w (i - 1) a Ls (rw ei (leb-false (count r rule tally i Ls) a e)) (rw ei (leb-false W (count r rule tally i Ls) g)) f p) lo hi in
+      grind (arith, nat_tests, (at-X i Ls p hi).2, group-X i (suc a) a Ls p lo hi (omega arith), split-X i (suc a) a Ls p lo hi (omega arith), splits-X k i (suc a) Ls p lo hi,
+          past (count r rule tally i Ls) a, more)
 
   splits_all-X : (k i : ℕ) (Ls : Net) → Well Ls → 1 ≤ i → i + k ≤ r.n → splits_all r rule tally W k i (X Ls) ≡ lift (refines r rule tally W k i Ls)
   unfolding splits_all refines
@@ -174,13 +122,7 @@ module _ {S V : Type 0} (r : Round) (rule : RuleSense S) (self : (s : S) → rul
       let s = sweep r rule tally Ls in
       let ps = proper-sweep r rule tally W w Ls p in
       let q = partedArcs r rule tally W W i 0 s in
-      let G : Bool × List (Node S V) → Refined × List (Node S V) = λ p. cond p.0 (FullLayer i, p.1) (splits_all r rule tally W k (suc i) p.1) in
-      ap G (ap (splits r rule tally W W i 1) (swept-X Ls p) ∙ splits-X W i 0 s ps lo (omega arith))
-      ∙ go q.0 q.1 (splits_all-X k (suc i) q.1 (proper-parted r rule self tally W w W i 0 s lo ps) (omega arith) (omega arith))
-    where
-      go : (x : Bool) (Ms : Net) → splits_all r rule tally W k (suc i) (X Ms) ≡ lift (refines r rule tally W k (suc i) Ms) → cond x (FullLayer i, X Ms) (splits_all r rule tally W k (suc i) (X Ms)) ≡ lift (elim x [ true ↦ (FullLayer i, Ms) | false ↦ refines r rule tally W k (suc i) Ms ])
-      go true Ms h = refl
-      go false Ms h = h
+      grind (arith, swept-X Ls p, splits-X W i 0 s ps lo (omega arith), splits_all-X k (suc i) q.1 (proper-parted r rule self tally W w W i 0 s lo ps) (omega arith) (omega arith))
 
   pub answer-X : (Ls : Net) → Well Ls → sweep_answer r rule tally W (X Ls) ≡ count_arcs Ls - count_arcs (sweep r rule tally Ls)
   unfolding fewer
@@ -191,12 +133,7 @@ module _ {S V : Type 0} (r : Round) (rule : RuleSense S) (self : (s : S) → rul
   swept_out-X zero Ls p = refl
   swept_out-X (suc k) Ls p =
       let s = sweep r rule tally Ls in
-      ap₂ (λ (x : Bool) (y : List (Node S V)). cond x y (swept_out r rule tally W k y)) (rw (answer-X Ls p) (nothing-less (count_arcs Ls) (count_arcs s) (sweep-fewer r rule tally Ls))) (swept-X Ls p)
-      ∙ go (eqb (count_arcs s) (count_arcs Ls)) (swept_out-X k s (proper-sweep r rule tally W w Ls p))
-    where
-      go : (x : Bool) → swept_out r rule tally W k (X (sweep r rule tally Ls)) ≡ X (untilQuiet r rule tally W k (sweep r rule tally Ls)) → cond x (X (sweep r rule tally Ls)) (swept_out r rule tally W k (X (sweep r rule tally Ls))) ≡ X (elim x [ true ↦ sweep r rule tally Ls | false ↦ untilQuiet r rule tally W k (sweep r rule tally Ls) ])
-      go true h = refl
-      go false h = h
+      grind (arith, answer-X Ls p, nothing-less (count_arcs Ls) (count_arcs s) (sweep-fewer r rule tally Ls), swept-X Ls p, swept_out-X k s (proper-sweep r rule tally W w Ls p))
 
   pub refined-X : (Ls : Net) → Well Ls → refined r rule tally W (X Ls) ≡ ((refine r rule tally W Ls).0, X (refine r rule tally W Ls).1)
   unfolding refined refine

@@ -9,7 +9,7 @@ use Rattle.layers.specs.Labels.{opened}
 use Rattle.layers.specs.Calls.{Refine, refined}
 use Rattle.layers.specs.SweepLaws.{RefineSweepsOutAlways}
 use Rattle.layers.proofs.Model.{sweep, swept, refines, refine, act, after}
-use Rattle.layers.proofs.Calls.{either}
+use Rattle.layers.proofs.Keeping.{either}
 use Rattle.layers.proofs.Counts.{sweep-fewer, sweep-same}
 use Rattle.layers.proofs.Proper.{Proper, proper-opened, proper-sweep, proper-after, proper-refines}
 use Rattle.layers.proofs.Standing.{answer-X, refined-X, run-opened}

@@ -6,11 +6,10 @@ use Rattle.round.specs.declared.table.Round.{Round}
 use Rattle.rules.specs.Rules.{RuleSense}
 use Rattle.tallies.specs.Tallies.{TallySense}
 use Rattle.layers.specs.Flow.{table, Outs, Layer, Net, node, target, redirect, ins, clash, either_target, both_out, without_at, moved, join_at, Ranged, Fed, Led, Tied}
-use Rattle.layers.specs.Labels.{Lab, arrive, labels_next, agree, agree_all, agreeing, leaves, first_arrival, opened, all_doors}
+use Rattle.layers.specs.Labels.{Lab, arrive, agree, agree_all, agreeing, leaves, first_arrival, opened, all_doors}
 use Rattle.layers.specs.Calls.{parted_at}
 use Rattle.layers.proofs.Flows.{Among, redirect-arc, has-arc, table_at, From, ins-from}
 use Rattle.layers.proofs.Ways.{length-snoc}
-use Rattle.layers.proofs.Model.{part_at, one_group}
 use Rattle.layers.proofs.Shapes.{drop-below, drop-above, join-node}
 use Rattle.layers.proofs.Tied.{redirect-back, redirect-length}
 
@@ -157,27 +156,7 @@ module _ {S V : Type 0} (r : Round) (rule : RuleSense S) (self : (s : S) → rul
         go j b e true t = (j, length M, moves-to u j b true e t)
         go j b e false t = (j, b, moves-to u j b false e t)
 
-  pub part-tied : (d a : ℕ) (labs : List (Option (Lab r rule tally))) (Ls : Net) → a < length (get_or Ls (suc d) []) → one_group r rule tally d a labs Ls ≡ false → Tied Ls → Tied (part_at r rule tally d a labs Ls)
-  unfolding part_at one_group
-  part-tied zero a labs [] k e t = tt
-  part-tied (suc d) a labs [] k e t = tt
-  part-tied zero a labs (L ∷ []) k e t = t
-  part-tied zero a labs (L ∷ M ∷ Ls) k e t =
-      (part-ranged a labs L M k e t.0, part-fed a labs L M k e t.1, more-led M a k t.2, more-tied M a k Ls t.3)
-  part-tied (suc d) a labs (L ∷ []) k e t = absurd (not-suc-le-zero (none-there d a k))
-    where
-      none-there : (d a : ℕ) → a < length {A = Outs} (get_or [] (suc d) []) → a < 0
-      none-there d a k = k
-  part-tied (suc zero) a labs (L ∷ M ∷ []) k e t = t
-  part-tied (suc zero) a labs (L ∷ M ∷ N ∷ Ls) k e t =
-      let labs' = labels_next r rule tally labs L (length M) in
-      let rest = part-tied zero a labs' (M ∷ N ∷ Ls) k e t.3 in
-      let n = redirect-length (f a labs' M N k e) M in
-      (rw n t.0, rw n t.1, part-led a labs' M N k e t.2, rest)
-  part-tied (suc (suc d)) a labs (L ∷ M ∷ Ls) k e t =
-      (t.0, t.1, t.2, part-tied (suc d) a (labels_next r rule tally labs L (length M)) (M ∷ Ls) k e t.3)
-
-  -- the same with any labels of the layer before, as they may stand in records
+  -- with any labels of the layer before, as they may stand in records
   pub parted-tied : (d a : ℕ) (labs : List (Option (Lab r rule tally))) (Ls : Net) → a < length (get_or Ls (suc d) []) → agreeing r rule tally (ins (arrive r rule tally) a labs (get_or Ls d [])) ≡ false → Tied Ls → Tied (parted_at r rule tally d a labs Ls)
   unfolding parted_at
   parted-tied zero a labs [] k e t = tt

@@ -14,13 +14,14 @@ use Rattle.layers.specs.Calls.{Refine, refined, settled}
 use Rattle.layers.specs.Claim.{WholeSettlesAlways}
 use Rattle.layers.proofs.Flows.{Among, From, has-arc, ins-in, ins-from, next-some, next-at, gather-all}
 use Rattle.layers.proofs.Model.{sweep, part_at, one_group, count, swept, parted, refines, refine, act, after, settled as settled_of}
-use Rattle.layers.proofs.Calls.{either}
+use Rattle.layers.proofs.Keeping.{either}
 use Rattle.layers.proofs.Counts.{sweep-fewer, settled-yes, settled-if}
 use Rattle.layers.proofs.Tied.{redirect-back, redirect-length}
 use Rattle.layers.proofs.Lively.{labels_full}
 use Rattle.layers.proofs.Proper.{Proper, proper-opened, proper-sweep, proper-part, proper-after, proper-parted, proper-refines}
 use Rattle.layers.proofs.Standing.{settled-X, refined-X, run-opened}
-use Rattle.layers.proofs.Keys.{Agree, agree-self, agree-yes, agree-back, agree-merge, agree-arrive, pairs, by-pairs, Keyed, KeyedTo, keyed-sweep, keyed-part, Fit, fit-first, fit_next, keyed-agrees}
+use Rattle.layers.proofs.Agreeing.{Agree, agree-self, agree-yes, agree-back, agree-merge, agree-arrive, pairs, by-pairs}
+use Rattle.layers.proofs.Keys.{Keyed, KeyedTo, keyed-sweep, keyed-part, Fit, fit-first, fit_next, keyed-agrees}
 
 roomy-at : (W i : ℕ) (Ls : Net) → Roomy W Ls → length (get_or Ls i []) ≤ W
 roomy-at W i [] h = omega arith
