@@ -110,10 +110,18 @@ module _ {S V : Type 0} (r : Round) (rule : RuleSense S) (self : (s : S) → rul
       let P = part_at r rule tally (i - 1) a (firsts r rule tally) Ls in
       let ei : suc (i - 1) ≡ i = omega arith in
       let more : leb (count r rule tally i Ls) a ≡ false → leb W (count r rule tally i Ls) ≡ false → one_group r rule tally (i - 1) a (firsts r rule tally) Ls ≡ false
-          → splits r rule tally W k i (suc (suc a)) (X P) ≡ lift (partedArcs r rule tally W k i (suc a) P) =
-          λ e g f. splits-X k i (suc a) P (proper-part r rule self tally W w (i - 1) a Ls (rw ei (leb-false (count r rule tally i Ls) a e)) (rw ei (leb-false W (count r rule tally i Ls) g)) f p) lo hi in
-      grind (arith, nat_tests, (at-X i Ls p hi).2, group-X i (suc a) a Ls p lo hi (omega arith), split-X i (suc a) a Ls p lo hi (omega arith), splits-X k i (suc a) Ls p lo hi,
-          past (count r rule tally i Ls) a, more)
+      → splits r rule tally W k i (suc (suc a)) (X P) ≡ lift (partedArcs r rule tally W k i (suc a) P) =
+      λ e g f. splits-X k i (suc a) P (proper-part r rule self tally W w (i - 1) a Ls (rw ei (leb-false (count r rule tally i Ls) a e)) (rw ei (leb-false W (count r rule tally i Ls) g)) f p) lo hi in
+      grind (
+        arith,
+        nat_tests,
+        (at-X i Ls p hi).2,
+        group-X i (suc a) a Ls p lo hi (omega arith),
+        split-X i (suc a) a Ls p lo hi (omega arith),
+        splits-X k i (suc a) Ls p lo hi,
+        past (count r rule tally i Ls) a,
+        more,
+      )
 
   splits_all-X : (k i : ℕ) (Ls : Net) → Well Ls → 1 ≤ i → i + k ≤ r.n → splits_all r rule tally W k i (X Ls) ≡ lift (refines r rule tally W k i Ls)
   unfolding splits_all refines
