@@ -20,9 +20,9 @@ use text::reading::read_bounded;
 fn refine_once(room: Room<'_>, rule: &Side<'_>, tally: &LateDoors<'_>, records: &mut [Place]) -> u32
     requires { room.round.now.n * room.width + 1 ≤ length records.old }
     ensures answer { result
-        ≡ word_of_refined (refined room.entry.round.now (side_sense rule.now) (doors_sense tally.now)
-        room.entry.width (opened_on room.entry.round.now (side_sense rule.now)
-        (doors_sense tally.now) room.entry.width records.old)).0 }
+        ≡ word_of_refined (refined room.entry.round.now (side_sense rule.now)
+        (doors_sense tally.now) room.entry.width (opened_on room.entry.round.now
+        (side_sense rule.now) (doors_sense tally.now) room.entry.width records.old)).0 }
     ensures records { records.new
         ≡ (refined room.entry.round.now (side_sense rule.now) (doors_sense tally.now)
         room.entry.width (opened_on room.entry.round.now (side_sense rule.now)
