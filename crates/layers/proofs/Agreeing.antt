@@ -6,19 +6,21 @@ use Rattle.round.specs.declared.table.Round.{Round}
 use Rattle.round.specs.Clock.{finish}
 use Rattle.rules.specs.Rules.{RuleLaws, RuleSense}
 use Rattle.tallies.specs.Tallies.{TallySense}
-use Rattle.layers.specs.Labels.{one, leg, Lab, arrive, merge, agree, agree_all, agreeing}
+use Rattle.layers.specs.Labels.{bit_of, leg, arrive, merge, agree, agree_all, agreeing}
 use Rattle.layers.proofs.Flows.{Among}
+use Rattle.layers.specs.Settings.{Setting}
+use Rattle.layers.specs.declared.node.Down.{Down}
 
-module _ {S V : Type 0} {Keeps : List ℕ → Type 0} {Stands : S → List ℕ → Type 0} (r : Round) (rule : RuleSense S) (ruled : RuleLaws r.n rule Keeps Stands) (tally : TallySense V) where
+module _ {S V : Type 0} {Keeps : List ℕ → Type 0} {Stands : S → List ℕ → Type 0} (by : Setting S V) (ruled : RuleLaws by.round.n by.rule Keeps Stands) where
   -- ---- labels that agree in all but the value
-  pub record Agree (x y : Lab r rule tally) : Type 0 where
+  pub record Agree (x y : Down S V) : Type 0 where
     pub all : x.all ≡ y.all
     pub some : x.some ≡ y.some
     pub finish : x.finish ≡ y.finish
     pub lasts : x.lasts ≡ y.lasts
     pub state : x.state ≡ y.state
 
-  pub agree-yes : (x y : Lab r rule tally) → agree r rule tally x y ≡ true → Agree x y
+  pub agree-yes : (x y : Down S V) → agree by.rule x y ≡ true → Agree x y
   unfolding agree
   agree-yes x y e =
       let p = and_parts (eqb x.all y.all) _ e in
@@ -27,61 +29,61 @@ module _ {S V : Type 0} {Keeps : List ℕ → Type 0} {Stands : S → List ℕ �
       let t = and_parts (eqb x.lasts y.lasts) _ s.1 in
       record { all = eqb-true x.all y.all p.0; some = eqb-true x.some y.some q.0; finish = eqb-true x.finish y.finish s.0; lasts = eqb-true x.lasts y.lasts t.0; state = ruled.same_is x.state y.state t.1 }
 
-  yes-agree : (x y : Lab r rule tally) → Agree x y → agree r rule tally x y ≡ true
+  yes-agree : (x y : Down S V) → Agree x y → agree by.rule x y ≡ true
   unfolding agree
   yes-agree x y e =
       rw (eq-eqb x.all y.all e.all, eq-eqb x.some y.some e.some, eq-eqb x.finish y.finish e.finish, eq-eqb x.lasts y.lasts e.lasts)
-      (ap (rule.same x.state) (sym e.state) ∙ ruled.same_self x.state)
+      (ap (by.rule.same x.state) (sym e.state) ∙ ruled.same_self x.state)
 
-  pub agree-self : (x : Lab r rule tally) → Agree x x
+  pub agree-self : (x : Down S V) → Agree x x
   agree-self x = record { all = refl; some = refl; finish = refl; lasts = refl; state = refl }
 
-  pub agree-back : (x y z : Lab r rule tally) → Agree x y → Agree x z → Agree y z
+  pub agree-back : (x y z : Down S V) → Agree x y → Agree x z → Agree y z
   agree-back x y z p q = record { all = sym p.all ∙ q.all; some = sym p.some ∙ q.some; finish = sym p.finish ∙ q.finish; lasts = sym p.lasts ∙ q.lasts; state = sym p.state ∙ q.state }
 
   -- merging what agrees gives the same
-  pub agree-merge : (x y z : Lab r rule tally) → Agree x y → Agree x z → Agree x (merge r rule tally y z)
+  pub agree-merge : (x y z : Down S V) → Agree x y → Agree x z → Agree x (merge by.rule by.tally y z)
   unfolding merge
   agree-merge x y z p q = record {
     all = sym (and_self x.all) ∙ ap (λ (t : ℕ). bit_and t x.all) p.all ∙ ap (bit_and y.all) q.all;
     some = sym (or_self x.some) ∙ ap (λ (t : ℕ). bit_or t x.some) p.some ∙ ap (bit_or y.some) q.some;
     finish = omega (arith, p.finish, q.finish);
     lasts = sym (or_self x.lasts) ∙ ap (λ (t : ℕ). bit_or t x.lasts) p.lasts ∙ ap (bit_or y.lasts) q.lasts;
-    state = sym (ruled.cover_same x.state) ∙ ap (λ (t : S). rule.cover t x.state) p.state ∙ ap (rule.cover y.state) q.state;
+    state = sym (ruled.cover_same x.state) ∙ ap (λ (t : S). by.rule.cover t x.state) p.state ∙ ap (by.rule.cover y.state) q.state;
   }
 
-  pub agree-arrive : (x y : Lab r rule tally) (j : ℕ) → Agree x y → Agree (arrive r rule tally x j) (arrive r rule tally y j)
+  pub agree-arrive : (x y : Down S V) (j : ℕ) → Agree x y → Agree (arrive by x j) (arrive by y j)
   unfolding arrive
   agree-arrive x y j p = record {
-    all = ap (λ (t : ℕ). bit_or t (one j)) p.all;
-    some = ap (λ (t : ℕ). bit_or t (one j)) p.some;
-    finish = rw p.finish (ap (λ (t : ℕ). finish r y.finish (leg r t j) j) p.lasts);
+    all = ap (λ (t : ℕ). bit_or t (bit_of j)) p.all;
+    some = ap (λ (t : ℕ). bit_or t (bit_of j)) p.some;
+    finish = rw p.finish (ap (λ (t : ℕ). finish by.round y.finish (leg by.round t j) j) p.lasts);
     lasts = refl;
-    state = ap (λ (t : S). rule.step t j) p.state;
+    state = ap (λ (t : S). by.rule.step t j) p.state;
   }
 
   -- a list of arrivals agrees if any two do
-  all_yes : (x : Lab r rule tally) (l : List (Lab r rule tally)) → agree_all r rule tally x l ≡ true → (y : Lab r rule tally) → Among y l → Agree x y
+  all_yes : (x : Down S V) (l : List (Down S V)) → agree_all by.rule x l ≡ true → (y : Down S V) → Among y l → Agree x y
   unfolding agree_all
   all_yes x [] e y i = absurd i
-  all_yes x (z ∷ l) e y (inl f) = rw f (agree-yes x z (and_parts (agree r rule tally x z) (agree_all r rule tally x l) e).0)
-  all_yes x (z ∷ l) e y (inr i) = all_yes x l (and_parts (agree r rule tally x z) (agree_all r rule tally x l) e).1 y i
+  all_yes x (z ∷ l) e y (inl f) = rw f (agree-yes x z (and_parts (agree by.rule x z) (agree_all by.rule x l) e).0)
+  all_yes x (z ∷ l) e y (inr i) = all_yes x l (and_parts (agree by.rule x z) (agree_all by.rule x l) e).1 y i
 
-  yes-all : (x : Lab r rule tally) (l : List (Lab r rule tally)) → ((y : Lab r rule tally) → Among y l → Agree x y) → agree_all r rule tally x l ≡ true
+  yes-all : (x : Down S V) (l : List (Down S V)) → ((y : Down S V) → Among y l → Agree x y) → agree_all by.rule x l ≡ true
   unfolding agree_all
   yes-all x [] f = refl
   yes-all x (y ∷ l) f = rw (yes-agree x y (f y (inl refl))) (yes-all x l (λ z i. f z (inr i)))
 
-  pub pairs : (l : List (Lab r rule tally)) → agreeing r rule tally l ≡ true → (y z : Lab r rule tally) → Among y l → Among z l → Agree y z
+  pub pairs : (l : List (Down S V)) → agreeing by.rule l ≡ true → (y z : Down S V) → Among y l → Among z l → Agree y z
   unfolding agreeing
   pairs [] e y z i k = absurd i
   pairs (x ∷ l) e y z i k = agree-back x y z (one_of y i) (one_of z k)
     where
-      one_of : (t : Lab r rule tally) → Among t (x ∷ l) → Agree x t
+      one_of : (t : Down S V) → Among t (x ∷ l) → Agree x t
       one_of t (inl f) = rw f (agree-self x)
       one_of t (inr m) = all_yes x l e t m
 
-  pub by-pairs : (l : List (Lab r rule tally)) → ((y z : Lab r rule tally) → Among y l → Among z l → Agree y z) → agreeing r rule tally l ≡ true
+  pub by-pairs : (l : List (Down S V)) → ((y z : Down S V) → Among y l → Among z l → Agree y z) → agreeing by.rule l ≡ true
   unfolding agreeing
   by-pairs [] f = refl
   by-pairs (x ∷ l) f = yes-all x l (λ y i. f x y (inl refl) (inr i))

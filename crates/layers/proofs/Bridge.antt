@@ -9,13 +9,15 @@ use Rattle.tallies.specs.Tallies.{TallySense}
 use Rattle.layers.specs.declared.node.Node.{Node}
 use Rattle.layers.specs.declared.node.Up.{Up}
 use Rattle.layers.specs.Flow.{table, Outs, Layer, Net, node, target, width, each_door, each_node, redirect, every_door, every_arc, ins, gather, next, up, final, Led, Tied, Roomy}
-use Rattle.layers.specs.Labels.{Lab, first, firsts, arrive, merge, labels_next, no_up, ups, barred, dear, agreeing}
-use Rattle.layers.specs.Records.{used, standing, layers, arcs_in, downs_in, ups_in, drawn, padded, or_no_up, or_blank, place, laid_from, laid}
-use Rattle.layers.specs.Calls.{thinned, trimmed, arrivals, parted_at, agreed_below, agreed_all, quiet_from, value_in}
+use Rattle.layers.specs.Labels.{first, firsts, arrive, merge, labels_next, no_up, ups, barred, dear, agreeing}
+use Rattle.layers.specs.Records.{used, standing, layers, arcs_in, downs_in, ups_in, drawn, padded, place, laid_from, laid}
+use Rattle.layers.specs.Calls.{thinned, trimmed, arrivals, parted_at, agreed_below, agreed_all, quiet_from, value_in, labels_in, LayerLabels}
 use Rattle.layers.proofs.Flows.{ins-from, next-some, next-at, gather-all, table_at, has-arc}
 use Rattle.layers.proofs.Sets.{or_left, one-self, none_has}
-use Rattle.layers.proofs.Model.{sweeps, cuts, part_at, one_group, agreed, agrees, quiet, valueO}
+use Rattle.layers.proofs.Model.{sweeps, cuts, part_at, one_group, agrees, quiet, valueO, or_blank, or_no_up, labels_at}
 use Rattle.layers.proofs.Lively.{labels_full, ups-full}
+use Rattle.layers.specs.Settings.{Setting}
+use Rattle.layers.specs.declared.node.Down.{Down}
 pub use Rattle.layers.specs.Flow.{Even}
 pub use Rattle.layers.proofs.Flows.{table-long}
 
@@ -100,16 +102,16 @@ stand-table (suc W) zero f h on off = ap (λ (q : Bool). cond q (f 0 ∷ standin
 stand-table (suc W) (suc m) f h on off =
     rw (on 0 (omega arith)) (ap (λ (z : List (Node _ _)). f 0 ∷ z) (stand-table W m (λ k. f (suc k)) (le_of_suc-le-suc h) (λ k q. on (suc k) (omega arith)) (λ q. off (omega arith))))
 
-module _ {S V : Type 0} (r : Round) (rule : RuleSense S) (tally : TallySense V) (W : ℕ) (w : 1 ≤ W) where
+module _ {S V : Type 0} (by : Setting S V) (w : 1 ≤ by.width) where
   abbrev pub Labs : Type 0
-  Labs = List (Option (Lab r rule tally))
+  Labs = List (Option (Down S V))
 
   abbrev pub Lasting : Labs → Type 0
-  Lasting labs = (a : ℕ) (l : Lab r rule tally) → get_or labs a None ≡ Some l → eqb l.lasts 0 ≡ false
+  Lasting labs = (a : ℕ) (l : Down S V) → get_or labs a None ≡ Some l → eqb l.lasts 0 ≡ false
 
   -- labels of a layer: one for each node, with a last door, and none beyond
   pub record Filled (labs : Labs) (m : ℕ) : Type 0 where
-    pub there : (a : ℕ) → a < m → (l : Lab r rule tally) × (get_or labs a None ≡ Some l)
+    pub there : (a : ℕ) → a < m → (l : Down S V) × (get_or labs a None ≡ Some l)
     pub beyond : get_or labs m None ≡ None
     pub long : length labs ≡ m
     pub lasting : Lasting labs
@@ -117,7 +119,7 @@ module _ {S V : Type 0} (r : Round) (rule : RuleSense S) (tally : TallySense V) 
   lasting-if : (m j : ℕ) → has m j ≡ true → eqb m 0 ≡ false
   lasting-if m j h = ne_eqb m 0 (λ e. none_has j (rw (← e) h))
 
-  filled-first : Filled (firsts r rule tally) 1
+  filled-first : Filled (firsts by.rule by.tally) 1
   filled-first = record {
     there = one-there;
     beyond = refl;
@@ -125,38 +127,38 @@ module _ {S V : Type 0} (r : Round) (rule : RuleSense S) (tally : TallySense V) 
     lasting = once;
   }
     where
-      one-there : (a : ℕ) → a < 1 → (l : Lab r rule tally) × (get_or (firsts r rule tally) a None ≡ Some l)
-      one-there zero h = (first r rule tally, refl)
+      one-there : (a : ℕ) → a < 1 → (l : Down S V) × (get_or (firsts by.rule by.tally) a None ≡ Some l)
+      one-there zero h = (first by.rule by.tally, refl)
       one-there (suc a) h = absurd (not-suc-le-zero (le_of_suc-le-suc h))
 
-      once : (a : ℕ) (l : Lab r rule tally) → get_or (firsts r rule tally) a None ≡ Some l → eqb l.lasts 0 ≡ false
-      once zero l e = let x : first r rule tally ≡ l = cc in rw (← x) refl
+      once : (a : ℕ) (l : Down S V) → get_or (firsts by.rule by.tally) a None ≡ Some l → eqb l.lasts 0 ≡ false
+      once zero l e = let x : first by.rule by.tally ≡ l = cc in rw (← x) refl
       once (suc a) l e = absurd cc
 
-  lasting-next : (labs : Labs) (L : Layer) (count : ℕ) → Lasting (labels_next r rule tally labs L count)
+  lasting-next : (labs : Labs) (L : Layer) (count : ℕ) → Lasting (labels_next by labs L count)
   unfolding labels_next arrive merge
   lasting-next labs L count a l e =
-      let q = gather-all (merge r rule tally) (λ x. (j : ℕ) × (has x.lasts j ≡ true)) (λ x y p q. (p.0, or_left x.lasts y.lasts p.0 p.1)) (ins (arrive r rule tally) a labs L) l
-      (λ x i. let f = ins-from (arrive r rule tally) a labs L x i in (f.door, ap (λ (z : Lab r rule tally). has z.lasts f.door) f.is ∙ one-self f.door))
-      (next-some (arrive r rule tally) (merge r rule tally) labs L count a l e) in
+      let q = gather-all (merge by.rule by.tally) (λ x. (j : ℕ) × (has x.lasts j ≡ true)) (λ x y p q. (p.0, or_left x.lasts y.lasts p.0 p.1)) (ins (arrive by) a labs L) l
+      (λ x i. let f = ins-from (arrive by) a labs L x i in (f.door, ap (λ (z : Down S V). has z.lasts f.door) f.is ∙ one-self f.door))
+      (next-some (arrive by) (merge by.rule by.tally) labs L count a l e) in
       lasting-if l.lasts q.0 q.1
 
-  filled_next : (labs : Labs) (L M : Layer) (Ls : Net) → Tied (L ∷ M ∷ Ls) → Filled labs (length L) → Filled (labels_next r rule tally labs L (length M)) (length M)
+  filled_next : (labs : Labs) (L M : Layer) (Ls : Net) → Tied (L ∷ M ∷ Ls) → Filled labs (length L) → Filled (labels_next by labs L (length M)) (length M)
   filled_next labs L M Ls t f = record {
-    there = labels_full r rule tally W w labs L M Ls t f.there;
-    beyond = unfold labels_next next in table-end (length M) (λ b. gather (merge r rule tally) (ins (arrive r rule tally) b labs L));
-    long = unfold labels_next next in table-long (length M) (λ b. gather (merge r rule tally) (ins (arrive r rule tally) b labs L));
+    there = labels_full by w labs L M Ls t f.there;
+    beyond = unfold labels_next next in table-end (length M) (λ b. gather (merge by.rule by.tally) (ins (arrive by) b labs L));
+    long = unfold labels_next next in table-long (length M) (λ b. gather (merge by.rule by.tally) (ins (arrive by) b labs L));
     lasting = lasting-next labs L (length M);
   }
 
   -- ---- the nodes that stand, by layers
   abbrev pub top : Labs → Net → List (Node S V)
-  top labs [] = standing (place r rule tally [] labs [] 0 ∷ [])
-  top labs (L ∷ Ls) = table (length L) (place r rule tally L labs (ups (L ∷ Ls)))
+  top labs [] = standing (place by [] labs [] 0 ∷ [])
+  top labs (L ∷ Ls) = table (length L) (place by L labs (ups (L ∷ Ls)))
 
   abbrev pub rest : Labs → Net → List (List (Node S V))
   rest labs [] = []
-  rest labs (L ∷ Ls) = let labs' = labels_next r rule tally labs L (width Ls) in top labs' Ls ∷ rest labs' Ls
+  rest labs (L ∷ Ls) = let labs' = labels_next by labs L (width Ls) in top labs' Ls ∷ rest labs' Ls
 
   abbrev pub stood : Labs → Net → List (List (Node S V))
   stood labs Ls = top labs Ls ∷ rest labs Ls
@@ -164,179 +166,157 @@ module _ {S V : Type 0} (r : Round) (rule : RuleSense S) (tally : TallySense V) 
   -- what makes them so
   pub record Fit (labs : Labs) (L : Layer) (Ls : Net) : Type 0 where
     pub filled : Filled labs (length L)
-    pub room : length L ≤ W
-    pub even : (a : ℕ) → a < length L → length (node L a) ≡ r.n
-    pub tops : (a j b : ℕ) → target (node L a) j ≡ suc b → get_or (ups_in (top (labels_next r rule tally labs L (width Ls)) Ls)) b None ≡ get_or (ups Ls) b None
+    pub room : length L ≤ by.width
+    pub even : (a : ℕ) → a < length L → length (node L a) ≡ by.round.n
+    pub tops : (a j b : ℕ) → target (node L a) j ≡ suc b → get_or (ups_in (top (labels_next by labs L (width Ls)) Ls)) b None ≡ get_or (ups Ls) b None
 
   abbrev pub Full : Labs → Net → Type 0
   Full labs [] = Lasting labs
-  Full labs (L ∷ Ls) = Fit labs L Ls × Full (labels_next r rule tally labs L (width Ls)) Ls
+  Full labs (L ∷ Ls) = Fit labs L Ls × Full (labels_next by labs L (width Ls)) Ls
 
   -- ---- a layer
-  row-arcs : (labs : Labs) (L : Layer) (Ls : Net) → Fit labs L Ls → arcs_in r.n (top labs (L ∷ Ls)) ≡ L
+  row-arcs : (labs : Labs) (L : Layer) (Ls : Net) → Fit labs L Ls → arcs_in by.round.n (top labs (L ∷ Ls)) ≡ L
   row-arcs labs L Ls f =
-      map-table (λ (x : Node S V). take r.n x.arcs.to) (length L) (place r rule tally L labs (ups (L ∷ Ls)))
-      ∙ table-ext (length L) _ (λ k. get_or L k []) (λ k h. pad-back r.n 16 (node L k) (f.even k h) r.most) ∙ table-back [] L
+      map-table (λ (x : Node S V). take by.round.n x.arcs.to) (length L) (place by L labs (ups (L ∷ Ls)))
+      ∙ table-ext (length L) _ (λ k. get_or L k []) (λ k h. pad-back by.round.n 16 (node L k) (f.even k h) by.round.most) ∙ table-back [] L
 
   row-downs : (labs : Labs) (L : Layer) (Ls : Net) → Fit labs L Ls → downs_in (top labs (L ∷ Ls)) ≡ labs
   row-downs labs L Ls f =
-      map-table (λ (x : Node S V). Some x.label.down) (length L) (place r rule tally L labs (ups (L ∷ Ls)))
-      ∙ table-ext (length L) _ (λ k. get_or labs k None) (λ k h. let x = f.filled.there k h in ap (λ (o : Option (Lab r rule tally)). Some (or_blank r rule tally o)) x.1 ∙ sym x.1)
+      map-table (λ (x : Node S V). Some x.label.down) (length L) (place by L labs (ups (L ∷ Ls)))
+      ∙ table-ext (length L) _ (λ k. get_or labs k None) (λ k h. let x = f.filled.there k h in ap (λ (o : Option (Down S V)). Some (or_blank by.rule by.tally o)) x.1 ∙ sym x.1)
       ∙ rw (← f.filled.long) (table-back None labs)
 
   -- the end's node
-  end-top : (labs : Labs) (l : Lab r rule tally) → get_or labs 0 None ≡ Some l → eqb l.lasts 0 ≡ false → top labs [] ≡ record { arcs = record { to = padded [] }; label = record { down = l; up = no_up } } ∷ []
+  end-top : (labs : Labs) (l : Down S V) → get_or labs 0 None ≡ Some l → eqb l.lasts 0 ≡ false → top labs [] ≡ record { arcs = record { to = padded [] }; label = record { down = l; up = no_up } } ∷ []
   end-top labs l e q =
-      let P : Option (Lab r rule tally) → Node S V = λ o. record { arcs = record { to = padded [] }; label = record { down = or_blank r rule tally o; up = no_up } } in
+      let P : Option (Down S V) → Node S V = λ o. record { arcs = record { to = padded [] }; label = record { down = or_blank by.rule by.tally o; up = no_up } } in
       rw e (ap (λ (z : Bool). cond (not z) (P (Some l) ∷ []) []) q)
 
-  tops-end : (labs : Labs) (L : Layer) → Filled labs (length L) → Tied (L ∷ []) → (a j b : ℕ) → target (node L a) j ≡ suc b → get_or (ups_in (top (labels_next r rule tally labs L 1) [])) b None ≡ get_or (ups []) b None
+  tops-end : (labs : Labs) (L : Layer) → Filled labs (length L) → Tied (L ∷ []) → (a j b : ℕ) → target (node L a) j ≡ suc b → get_or (ups_in (top (labels_next by labs L 1) [])) b None ≡ get_or (ups []) b None
   unfolding labels_next
   tops-end labs L f t a j b e =
       let z : b ≡ 0 = omega (arith, t a j b e) in
       let l = f.there a (has-arc L a j b e) in
-      let n = next-at {A = Lab r rule tally} (merge r rule tally) (λ x y. Unit {0}) (λ x. tt) (λ x y z f g. tt) (λ x y. tt) (λ x y. tt) (arrive r rule tally) labs L 1 a j b l.0 e l.1 (t a j b e) in
-      let n0 : get_or (next (arrive r rule tally) (merge r rule tally) labs L 1) 0 None ≡ Some n.0 = ap (λ (k : ℕ). get_or (next (arrive r rule tally) (merge r rule tally) labs L 1) k None) (sym z) ∙ n.1 in
+      let n = next-at {A = Down S V} (merge by.rule by.tally) (λ x y. Unit {0}) (λ x. tt) (λ x y z f g. tt) (λ x y. tt) (λ x y. tt) (arrive by) labs L 1 a j b l.0 e l.1 (t a j b e) in
+      let n0 : get_or (next (arrive by) (merge by.rule by.tally) labs L 1) 0 None ≡ Some n.0 = ap (λ (k : ℕ). get_or (next (arrive by) (merge by.rule by.tally) labs L 1) k None) (sym z) ∙ n.1 in
       let q = lasting-next labs L 1 0 n.0 n0 in
-      ap (λ (x : List (Node S V)). get_or (ups_in x) b None) (end-top (next (arrive r rule tally) (merge r rule tally) labs L 1) n.0 n0 q)
+      ap (λ (x : List (Node S V)). get_or (ups_in x) b None) (end-top (next (arrive by) (merge by.rule by.tally) labs L 1) n.0 n0 q)
       ∙ ap (λ (k : ℕ). get_or {A = Option Up} (Some no_up ∷ []) k None) z ∙ sym (ups-end b z)
 
   tops-inner : (labs : Labs) (M : Layer) (Ls : Net) (b : ℕ) → Led M → Tied (M ∷ Ls) → b < length M → get_or (ups_in (top labs (M ∷ Ls))) b None ≡ get_or (ups (M ∷ Ls)) b None
   tops-inner labs M Ls b led t h =
       let x = ups-full M Ls led t b h in
-      ap (λ (z : List (Option Up)). get_or z b None) (map-table (λ (x : Node S V). Some x.label.up) (length M) (place r rule tally M labs (ups (M ∷ Ls))))
+      ap (λ (z : List (Option Up)). get_or z b None) (map-table (λ (x : Node S V). Some x.label.up) (length M) (place by M labs (ups (M ∷ Ls))))
       ∙ table_at (length M) b (λ k. Some (or_no_up (get_or (ups (M ∷ Ls)) k None))) None h ∙ ap (λ (o : Option Up). Some (or_no_up o)) x.1 ∙ sym x.1
 
-  full_from : (labs : Labs) (L : Layer) (Ls : Net) → Filled labs (length L) → Tied (L ∷ Ls) → Roomy W (L ∷ Ls) → Even r.n (L ∷ Ls) → Full labs (L ∷ Ls)
+  full_from : (labs : Labs) (L : Layer) (Ls : Net) → Filled labs (length L) → Tied (L ∷ Ls) → Roomy by.width (L ∷ Ls) → Even by.round.n (L ∷ Ls) → Full labs (L ∷ Ls)
   full_from labs L [] f t room even = (record { filled = f; room = room.0; even = even.0; tops = tops-end labs L f t }, lasting-next labs L 1)
   full_from labs L (M ∷ Ls) f t room even = (
-    record { filled = f; room = room.0; even = even.0; tops = λ a j b e. tops-inner (labels_next r rule tally labs L (length M)) M Ls b t.2 t.3 (t.0 a j b e) },
-    full_from (labels_next r rule tally labs L (length M)) M Ls (filled_next labs L M Ls t f) t.3 room.1 even.1,
+    record { filled = f; room = room.0; even = even.0; tops = λ a j b e. tops-inner (labels_next by labs L (length M)) M Ls b t.2 t.3 (t.0 a j b e) },
+    full_from (labels_next by labs L (length M)) M Ls (filled_next labs L M Ls t f) t.3 room.1 even.1,
   )
 
-  pub full-first : (L : Layer) (Ls : Net) → length L ≡ 1 → Tied (L ∷ Ls) → Roomy W (L ∷ Ls) → Even r.n (L ∷ Ls) → Full (firsts r rule tally) (L ∷ Ls)
-  full-first L Ls e t room even = full_from (firsts r rule tally) L Ls (rw e filled-first) t room even
+  pub full-first : (L : Layer) (Ls : Net) → length L ≡ 1 → Tied (L ∷ Ls) → Roomy by.width (L ∷ Ls) → Even by.round.n (L ∷ Ls) → Full (firsts by.rule by.tally) (L ∷ Ls)
+  full-first L Ls e t room even = full_from (firsts by.rule by.tally) L Ls (rw e filled-first) t room even
 
   -- ---- reading the records
-  one-row : (labs : Labs) (L : Layer) (Ls : Net) → Fit labs L Ls → standing (table W (place r rule tally L labs (ups (L ∷ Ls)))) ≡ top labs (L ∷ Ls)
-  one-row labs L Ls f = stand-table W (length L) (place r rule tally L labs (ups (L ∷ Ls))) f.room
+  one-row : (labs : Labs) (L : Layer) (Ls : Net) → Fit labs L Ls → standing (table by.width (place by L labs (ups (L ∷ Ls)))) ≡ top labs (L ∷ Ls)
+  one-row labs L Ls f = stand-table by.width (length L) (place by L labs (ups (L ∷ Ls))) f.room
       (λ k h. let x = f.filled.there k h in rw x.1 (ap not (f.filled.lasting k x.0 x.1)))
-      (λ h. ap (λ (o : Option (Lab r rule tally)). not (eqb (or_blank r rule tally o).lasts 0)) f.filled.beyond)
+      (λ h. ap (λ (o : Option (Down S V)). not (eqb (or_blank by.rule by.tally o).lasts 0)) f.filled.beyond)
 
-  pub layers-laid : (later : List (Node S V)) (labs : Labs) (Ls : Net) → Full labs Ls → layers W (length Ls) (laid_from r rule tally W labs Ls ++ later) ≡ stood labs Ls
+  pub layers-laid : (later : List (Node S V)) (labs : Labs) (Ls : Net) → Full labs Ls → layers by.width (length Ls) (laid_from by labs Ls ++ later) ≡ stood labs Ls
   unfolding laid_from
   layers-laid later labs [] f = refl
   layers-laid later labs (L ∷ Ls) f =
-      let f' = place r rule tally L labs (ups (L ∷ Ls)) in
-      let X = laid_from r rule tally W (labels_next r rule tally labs L (width Ls)) Ls in
-      ap₂ (λ (x y : List (Node S V)). standing x ∷ layers W (length Ls) y)
-      (ap (take W) (append_assoc (table W f') X later) ∙ take-table W f' (X ++ later))
-      (ap (drop W) (append_assoc (table W f') X later) ∙ drop-table W f' (X ++ later))
-      ∙ ap₂ (λ (x : List (Node S V)) (y : List (List (Node S V))). x ∷ y) (one-row labs L Ls f.0) (layers-laid later (labels_next r rule tally labs L (width Ls)) Ls f.1)
+      let f' = place by L labs (ups (L ∷ Ls)) in
+      let X = laid_from by (labels_next by labs L (width Ls)) Ls in
+      ap₂ (λ (x y : List (Node S V)). standing x ∷ layers by.width (length Ls) y)
+      (ap (take by.width) (append_assoc (table by.width f') X later) ∙ take-table by.width f' (X ++ later))
+      (ap (drop by.width) (append_assoc (table by.width f') X later) ∙ drop-table by.width f' (X ++ later))
+      ∙ ap₂ (λ (x : List (Node S V)) (y : List (List (Node S V))). x ∷ y) (one-row labs L Ls f.0) (layers-laid later (labels_next by labs L (width Ls)) Ls f.1)
 
-  pub drawn-stood : (labs : Labs) (Ls : Net) → Full labs Ls → drawn r.n (stood labs Ls) ≡ Ls
+  pub drawn-stood : (labs : Labs) (Ls : Net) → Full labs Ls → drawn by.round.n (stood labs Ls) ≡ Ls
   drawn-stood labs [] f = refl
-  drawn-stood labs (L ∷ Ls) f = ap₂ (λ (x : Layer) (y : Net). x ∷ y) (row-arcs labs L Ls f.0) (drawn-stood (labels_next r rule tally labs L (width Ls)) Ls f.1)
+  drawn-stood labs (L ∷ Ls) f = ap₂ (λ (x : Layer) (y : Net). x ∷ y) (row-arcs labs L Ls f.0) (drawn-stood (labels_next by labs L (width Ls)) Ls f.1)
 
-  -- ---- the calls on the nodes that stand
-  pub thinned-stood : (i : ℕ) (labs : Labs) (Ls : Net) → i + length Ls ≡ r.n → Full labs Ls → thinned r rule tally i (stood labs Ls) ≡ sweeps r rule tally i labs Ls
-  unfolding thinned sweeps
-  thinned-stood i labs [] e f = refl
-  thinned-stood i labs (L ∷ Ls) e f =
-      let labs' = labels_next r rule tally labs L (width Ls) in
-      let F : ℕ → Labs → List (Option Up) → ℕ → ℕ → ℕ → ℕ = λ h x y a j b. cond (barred r rule tally i h j (get_or x a None) (get_or y b None)) 0 (suc b) in
+  -- ---- the calls with the labels that stand
+  abbrev pub Standing : Labs → Net → List (LayerLabels S V)
+  Standing labs Ls = labels_in (stood labs Ls)
+
+  pub thinned-stood : (i : ℕ) (labs : Labs) (Ls : Net) → Full labs Ls → thinned by.round by.rule i Ls (Standing labs Ls) ≡ sweeps by i labs Ls
+  unfolding thinned
+  thinned-stood i labs [] f = refl
+  thinned-stood i labs (L ∷ Ls) f =
+      let labs' = labels_next by labs L (width Ls) in
+      let Q : Labs → ℕ → ℕ → Option Up → ℕ → ℕ = λ x a j u b. cond (barred by.round by.rule i (suc (length Ls)) j (get_or x a None) u) 0 (suc b) in
+      let F : Labs → List (Option Up) → ℕ → ℕ → ℕ → ℕ = λ x y a j b. Q x a j (get_or y b None) b in
       ap₂ (λ (x : Layer) (y : Net). x ∷ y)
-      (ap₂ (λ (x : Labs) (y : Layer). redirect (F (r.n - i) x (ups_in (top labs' Ls))) y) (row-downs labs L Ls f.0) (row-arcs labs L Ls f.0)
-      ∙ redirect-cong (F (r.n - i) labs (ups_in (top labs' Ls))) (F (suc (length Ls)) labs (ups Ls)) L
-      (λ a j b g. ap₂ (λ (h : ℕ) (u : Option Up). cond (barred r rule tally i h j (get_or labs a None) u) 0 (suc b)) (omega arith) (f.0.tops a j b g)))
-      (thinned-stood (suc i) labs' Ls (omega arith) f.1)
+      (ap (λ (x : Labs). redirect (F x (ups_in (top labs' Ls))) L) (row-downs labs L Ls f.0)
+      ∙ redirect-cong (F labs (ups_in (top labs' Ls))) (F labs (ups Ls)) L (λ a j b g. ap (λ (u : Option Up). Q labs a j u b) (f.0.tops a j b g)))
+      (thinned-stood (suc i) labs' Ls f.1)
 
-  pub quiet-stood : (i : ℕ) (labs : Labs) (Ls : Net) → i + length Ls ≡ r.n → Full labs Ls → quiet_from r rule tally i (stood labs Ls) ≡ quiet r rule tally i labs Ls
-  unfolding quiet_from quiet
-  quiet-stood i labs [] e f = refl
-  quiet-stood i labs (L ∷ Ls) e f =
-      let labs' = labels_next r rule tally labs L (width Ls) in
-      let F : ℕ → Labs → List (Option Up) → ℕ → ℕ → ℕ → Bool = λ h x y a j b. not (barred r rule tally i h j (get_or x a None) (get_or y b None)) in
+  pub quiet-stood : (i : ℕ) (labs : Labs) (Ls : Net) → Full labs Ls → quiet_from by.round by.rule i Ls (Standing labs Ls) ≡ quiet by i labs Ls
+  unfolding quiet_from
+  quiet-stood i labs [] f = refl
+  quiet-stood i labs (L ∷ Ls) f =
+      let labs' = labels_next by labs L (width Ls) in
+      let Q : Labs → ℕ → ℕ → Option Up → Bool = λ x a j u. not (barred by.round by.rule i (suc (length Ls)) j (get_or x a None) u) in
+      let F : Labs → List (Option Up) → ℕ → ℕ → ℕ → Bool = λ x y a j b. Q x a j (get_or y b None) in
       ap₂ ◌&&◌
-      (ap₂ (λ (x : Labs) (y : Layer). every_arc (F (r.n - i) x (ups_in (top labs' Ls))) 0 y) (row-downs labs L Ls f.0) (row-arcs labs L Ls f.0)
-      ∙ every_arc-cong (F (r.n - i) labs (ups_in (top labs' Ls))) (F (suc (length Ls)) labs (ups Ls)) 0 L
-      (λ a j b g. ap₂ (λ (h : ℕ) (u : Option Up). not (barred r rule tally i h j (get_or labs (0 + a) None) u)) (omega arith) (f.0.tops a j b g)))
-      (quiet-stood (suc i) labs' Ls (omega arith) f.1)
+      (ap (λ (x : Labs). every_arc (F x (ups_in (top labs' Ls))) 0 L) (row-downs labs L Ls f.0)
+      ∙ every_arc-cong (F labs (ups_in (top labs' Ls))) (F labs (ups Ls)) 0 L (λ a j b g. ap (λ (u : Option Up). Q labs (0 + a) j u) (f.0.tops a j b g)))
+      (quiet-stood (suc i) labs' Ls f.1)
 
-  pub trimmed-stood : (c : V) (labs : Labs) (Ls : Net) → Full labs Ls → trimmed r rule tally c (stood labs Ls) ≡ cuts r rule tally c labs Ls
-  unfolding trimmed cuts
+  pub trimmed-stood : (c : V) (labs : Labs) (Ls : Net) → Full labs Ls → trimmed by.round by.tally c Ls (Standing labs Ls) ≡ cuts by c labs Ls
+  unfolding trimmed
   trimmed-stood c labs [] f = refl
   trimmed-stood c labs (L ∷ Ls) f =
       ap₂ (λ (x : Layer) (y : Net). x ∷ y)
-      (ap₂ (λ (x : Labs) (y : Layer). redirect (λ a j b. cond (dear r rule tally c j (get_or x a None)) 0 (suc b)) y) (row-downs labs L Ls f.0) (row-arcs labs L Ls f.0))
-      (trimmed-stood c (labels_next r rule tally labs L (width Ls)) Ls f.1)
+      (ap (λ (x : Labs). redirect (λ a j b. cond (dear by.round by.tally c j (get_or x a None)) 0 (suc b)) L) (row-downs labs L Ls f.0))
+      (trimmed-stood c (labels_next by labs L (width Ls)) Ls f.1)
 
-  row-arrivals : (labs : Labs) (L : Layer) (Ls : Net) (b : ℕ) → Fit labs L Ls → arrivals r rule tally (top labs (L ∷ Ls)) b ≡ ins (arrive r rule tally) b labs L
-  unfolding arrivals
-  row-arrivals labs L Ls b f = ap₂ (λ (x : Labs) (y : Layer). ins (arrive r rule tally) b x y) (row-downs labs L Ls f) (row-arcs labs L Ls f)
-
-  agreed-stood : (labs : Labs) (L : Layer) (Ls : Net) (b : ℕ) → Fit labs L Ls → agreed_below r rule tally (top labs (L ∷ Ls)) b ≡ agreed r rule tally labs L b
-  unfolding agreed_below agreed
-  agreed-stood labs L Ls zero f = refl
-  agreed-stood labs L Ls (suc b) f = ap₂ ◌&&◌ (ap (agreeing r rule tally) (row-arrivals labs L Ls b f)) (agreed-stood labs L Ls b f)
-
-  pub agrees-stood : (labs : Labs) (Ls : Net) → Full labs Ls → agreed_all r rule tally (stood labs Ls) ≡ agrees r rule tally labs Ls
-  unfolding agreed_all agrees
+  pub agrees-stood : (labs : Labs) (Ls : Net) → Full labs Ls → agreed_all by Ls (Standing labs Ls) ≡ agrees by labs Ls
+  unfolding agreed_all
   agrees-stood labs [] f = refl
   agrees-stood labs (L ∷ []) f = refl
   agrees-stood labs (L ∷ M ∷ Ls) f =
-      let labs' = labels_next r rule tally labs L (length M) in
-      ap₂ ◌&&◌ (ap (agreed_below r rule tally (top labs (L ∷ M ∷ Ls))) (table-long (length M) (place r rule tally M labs' (ups (M ∷ Ls)))) ∙ agreed-stood labs L (M ∷ Ls) (length M) f.0)
-      (agrees-stood labs' (M ∷ Ls) f.1)
-
-  -- the labels of layer d
-  abbrev pub labsAt : ℕ → Labs → Net → Labs
-  labsAt zero labs Ls = labs
-  labsAt (suc d) labs [] = []
-  labsAt (suc d) labs (L ∷ Ls) = labsAt d (labels_next r rule tally labs L (width Ls)) Ls
+      ap₂ ◌&&◌ (ap (λ (x : Labs). agreed_below by x L (length M)) (row-downs labs L (M ∷ Ls) f.0)) (agrees-stood (labels_next by labs L (length M)) (M ∷ Ls) f.1)
 
   pub stood-at : (d : ℕ) (labs : Labs) (Ls : Net) → Full labs Ls → d < length Ls
-      → (downs_in (get_or (stood labs Ls) d []) ≡ labsAt d labs Ls) × (arcs_in r.n (get_or (stood labs Ls) d []) ≡ get_or Ls d []) × (length (get_or (stood labs Ls) d []) ≡ length (get_or Ls d []))
+      → (downs_in (get_or (stood labs Ls) d []) ≡ labels_at by d labs Ls) × (arcs_in by.round.n (get_or (stood labs Ls) d []) ≡ get_or Ls d []) × (length (get_or (stood labs Ls) d []) ≡ length (get_or Ls d []))
   stood-at d labs [] f h = absurd (not-suc-le-zero h)
-  stood-at zero labs (L ∷ Ls) f h = (row-downs labs L Ls f.0, row-arcs labs L Ls f.0, table-long (length L) (place r rule tally L labs (ups (L ∷ Ls))))
-  stood-at (suc d) labs (L ∷ Ls) f h = stood-at d (labels_next r rule tally labs L (width Ls)) Ls f.1 (le_of_suc-le-suc h)
+  stood-at zero labs (L ∷ Ls) f h = (row-downs labs L Ls f.0, row-arcs labs L Ls f.0, table-long (length L) (place by L labs (ups (L ∷ Ls))))
+  stood-at (suc d) labs (L ∷ Ls) f h = stood-at d (labels_next by labs L (width Ls)) Ls f.1 (le_of_suc-le-suc h)
 
-  pub group_at : (d a : ℕ) (labs : Labs) (Ls : Net) → d < length Ls → one_group r rule tally d a labs Ls ≡ agreeing r rule tally (ins (arrive r rule tally) a (labsAt d labs Ls) (get_or Ls d []))
+  pub group_at : (d a : ℕ) (labs : Labs) (Ls : Net) → d < length Ls → one_group by d a labs Ls ≡ agreeing by.rule (ins (arrive by) a (labels_at by d labs Ls) (get_or Ls d []))
   unfolding one_group
   group_at d a labs [] h = absurd (not-suc-le-zero h)
   group_at zero a labs (L ∷ Ls) h = refl
-  group_at (suc d) a labs (L ∷ Ls) h = group_at d a (labels_next r rule tally labs L (width Ls)) Ls (le_of_suc-le-suc h)
-
-  pub part-at : (d a : ℕ) (labs : Labs) (Ls : Net) → parted_at r rule tally d a (labsAt d labs Ls) Ls ≡ part_at r rule tally d a labs Ls
-  unfolding parted_at part_at
-  part-at zero a labs [] = refl
-  part-at (suc d) a labs [] = refl
-  part-at zero a labs (L ∷ []) = refl
-  part-at zero a labs (L ∷ M ∷ Ls) = refl
-  part-at (suc d) a labs (L ∷ Ls) = ap (λ (x : Net). L ∷ x) (part-at d a (labels_next r rule tally labs L (width Ls)) Ls)
+  group_at (suc d) a labs (L ∷ Ls) h = group_at d a (labels_next by labs L (width Ls)) Ls (le_of_suc-le-suc h)
 
   -- the end's value
-  pub value-stood : (labs : Labs) (Ls : Net) → Full labs Ls → value_in (get_or (stood labs Ls) (length Ls) []) ≡ valueO r rule tally (final (arrive r rule tally) (merge r rule tally) labs Ls)
+  pub value-stood : (labs : Labs) (Ls : Net) → Full labs Ls → value_in (get_or (stood labs Ls) (length Ls) []) ≡ valueO by (final (arrive by) (merge by.rule by.tally) labs Ls)
   unfolding final labels_next
   value-stood labs [] f = go (get_or labs 0 None) refl
     where
-      P : Option (Lab r rule tally) → Node S V
-      P o = record { arcs = record { to = padded [] }; label = record { down = or_blank r rule tally o; up = no_up } }
+      P : Option (Down S V) → Node S V
+      P o = record { arcs = record { to = padded [] }; label = record { down = or_blank by.rule by.tally o; up = no_up } }
 
-      go : (o : Option (Lab r rule tally)) → get_or labs 0 None ≡ o → value_in (standing (P o ∷ [])) ≡ valueO r rule tally o
+      go : (o : Option (Down S V)) → get_or labs 0 None ≡ o → value_in (standing (P o ∷ [])) ≡ valueO by o
       go None e = refl
       go (Some l) e = ap (λ (z : Bool). value_in (cond (not z) (P (Some l) ∷ []) [])) (f 0 l e)
-  value-stood labs (L ∷ Ls) f = value-stood (labels_next r rule tally labs L (width Ls)) Ls f.1
+  value-stood labs (L ∷ Ls) f = value-stood (labels_next by labs L (width Ls)) Ls f.1
 
   -- ---- later places
-  pub laid-long : (labs : Labs) (Ls : Net) → length (laid_from r rule tally W labs Ls) ≡ length Ls * W + 1
+  pub laid-long : (labs : Labs) (Ls : Net) → length (laid_from by labs Ls) ≡ length Ls * by.width + 1
   unfolding laid_from
-  laid-long labs [] = omega (arith, zero-mul W)
+  laid-long labs [] = omega (arith, zero-mul by.width)
   laid-long labs (L ∷ Ls) =
-      let f' = place r rule tally L labs (ups (L ∷ Ls)) in
-      let X = laid_from r rule tally W (labels_next r rule tally labs L (width Ls)) Ls in
-      omega (arith, length-append (table W f') X, table-long W f', laid-long (labels_next r rule tally labs L (width Ls)) Ls, suc-mul (length Ls) W)
+      let f' = place by L labs (ups (L ∷ Ls)) in
+      let X = laid_from by (labels_next by labs L (width Ls)) Ls in
+      omega (arith, length-append (table by.width f') X, table-long by.width f', laid-long (labels_next by labs L (width Ls)) Ls, suc-mul (length Ls) by.width)
 
-  pub later-stays : (later : List (Node S V)) (Ls : Net) → length Ls ≡ r.n → drop (r.n * W + 1) (laid r rule tally W Ls ++ later) ≡ later
+  pub later-stays : (later : List (Node S V)) (Ls : Net) → length Ls ≡ by.round.n → drop (by.round.n * by.width + 1) (laid by Ls ++ later) ≡ later
   unfolding laid
-  later-stays later Ls e = drop_at (laid_from r rule tally W (firsts r rule tally) Ls) later (r.n * W + 1) (laid-long (firsts r rule tally) Ls ∙ ap (λ (k : ℕ). k * W + 1) e)
+  later-stays later Ls e = drop_at (laid_from by (firsts by.rule by.tally) Ls) later (by.round.n * by.width + 1) (laid-long (firsts by.rule by.tally) Ls ∙ ap (λ (k : ℕ). k * by.width + 1) e)

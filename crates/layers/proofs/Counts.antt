@@ -5,11 +5,14 @@ use Rattle.round.specs.declared.table.Round.{Round}
 use Rattle.rules.specs.Rules.{RuleSense}
 use Rattle.tallies.specs.Tallies.{TallySense}
 use Rattle.layers.specs.Flow.{Outs, Layer, Net, node, target, width, each_door, each_node, redirect, count_doors, count_layer, count_arcs, every_door, every_arc, up, Mark, marks_next, marks_up, flags, rank, compress, renumber, tidy, tidied, Led, Tied}
-use Rattle.layers.specs.Labels.{Lab, firsts, labels_next, barred, ups}
+use Rattle.layers.specs.Labels.{firsts, labels_next, barred, ups}
 use Rattle.layers.proofs.Flows.{has-arc, mark-next, flags-at, renumber-at}
 use Rattle.layers.proofs.Model.{sweeps, sweep, settles, settled, agrees, quiet}
 use Rattle.layers.proofs.Exact.{every_arc-at}
 use Rattle.layers.proofs.Tied.{climbs}
+use Rattle.layers.specs.Settings.{Setting}
+use Rattle.layers.specs.declared.node.Down.{Down}
+use Rattle.layers.specs.Calls.{thinned, quiet_from}
 
 count-one : (t : ℕ) (ts : Outs) → count_doors (t ∷ ts) ≤ suc (count_doors ts)
 unfolding count_doors
@@ -52,17 +55,17 @@ tidied-fewer (L ∷ Ls) =
     let f : ℕ → ℕ → ℕ → ℕ = λ a j b. renumber (flags (marks_next (Some tt ∷ []) L (width Ls)) (marks_up Ls)) b in
     omega (arith, redirect-fewer f L, tidy-fewer (marks_next (Some tt ∷ []) L (width Ls)) Ls)
 
-module _ {S V : Type 0} (r : Round) (rule : RuleSense S) (tally : TallySense V) where
-  sweeps-fewer : (i : ℕ) (labs : List (Option (Lab r rule tally))) (Ls : Net) → count_arcs (sweeps r rule tally i labs Ls) ≤ count_arcs Ls
-  unfolding count_arcs sweeps
+module _ {S V : Type 0} (by : Setting S V) where
+  sweeps-fewer : (i : ℕ) (labs : List (Option (Down S V))) (Ls : Net) → count_arcs (sweeps by i labs Ls) ≤ count_arcs Ls
+  unfolding count_arcs thinned
   sweeps-fewer i labs [] = omega arith
   sweeps-fewer i labs (L ∷ Ls) =
-      let f : ℕ → ℕ → ℕ → ℕ = λ a j b. cond (barred r rule tally i (suc (length Ls)) j (get_or labs a None) (get_or (ups Ls) b None)) 0 (suc b) in
-      omega (arith, redirect-fewer f L, sweeps-fewer (suc i) (labels_next r rule tally labs L (width Ls)) Ls)
+      let f : ℕ → ℕ → ℕ → ℕ = λ a j b. cond (barred by.round by.rule i (suc (length Ls)) j (get_or labs a None) (get_or (ups Ls) b None)) 0 (suc b) in
+      omega (arith, redirect-fewer f L, sweeps-fewer (suc i) (labels_next by labs L (width Ls)) Ls)
 
-  pub sweep-fewer : (Ls : Net) → count_arcs (sweep r rule tally Ls) ≤ count_arcs Ls
+  pub sweep-fewer : (Ls : Net) → count_arcs (sweep by Ls) ≤ count_arcs Ls
   unfolding sweep
-  sweep-fewer Ls = omega (arith, tidied-fewer (sweeps r rule tally 0 (firsts r rule tally) Ls), sweeps-fewer 0 (firsts r rule tally) Ls)
+  sweep-fewer Ls = omega (arith, tidied-fewer (sweeps by 0 (firsts by.rule by.tally) Ls), sweeps-fewer 0 (firsts by.rule by.tally) Ls)
 
 -- ---- tidying leaves a tied diagram as it is
 each_door-same : (f : ℕ → ℕ → ℕ) (j : ℕ) (ts : Outs) → ((k b : ℕ) → get_or ts k 0 ≡ suc b → f (j + k) b ≡ suc b) → each_door f j ts ≡ ts
@@ -153,69 +156,69 @@ tidied-same (L ∷ M ∷ Ls) w t =
     only zero k = refl
     only (suc a) k = absurd (not-suc-le-zero (le_of_suc-le-suc k))
 
--- ---- settled: a sweep would change nothing
-module _ {S V : Type 0} (r : Round) (rule : RuleSense S) (tally : TallySense V) where
-  kept-arcs : (i h : ℕ) (labs : List (Option (Lab r rule tally))) (Ls : Net) (L : Layer) → every_arc (λ a j b. not (barred r rule tally i h j (get_or labs a None) (get_or (ups Ls) b None))) 0 L ≡ true
-      → redirect (λ a j b. cond (barred r rule tally i h j (get_or labs a None) (get_or (ups Ls) b None)) 0 (suc b)) L ≡ L
-  kept-arcs i h labs Ls L e = redirect-same (λ a j b. cond (barred r rule tally i h j (get_or labs a None) (get_or (ups Ls) b None)) 0 (suc b)) L (λ a j b g.
-      ap (λ (q : Bool). cond q 0 (suc b)) (not-true (barred r rule tally i h j (get_or labs a None) (get_or (ups Ls) b None)) (every_arc-at (λ a j b. not (barred r rule tally i h j (get_or labs a None) (get_or (ups Ls) b None))) 0 L a a j b (omega arith) e g)))
+-- where a sweep takes out nothing, no arc is one that it takes out
+doors-quiet : (t : ℕ → ℕ → Bool) (j : ℕ) (ts : Outs) → count_doors (each_door (λ j b. cond (t j b) 0 (suc b)) j ts) ≡ count_doors ts → every_door (λ j b. not (t j b)) j ts ≡ true
+unfolding count_doors each_door every_door
+doors-quiet t j [] e = refl
+doors-quiet t j (zero ∷ ts) e = doors-quiet t (suc j) ts e
+doors-quiet t j (suc b ∷ ts) e = go (t j b) e (λ h. doors-quiet t (suc j) ts h)
+  where
+    go : (q : Bool) → count_doors (cond q 0 (suc b) ∷ each_door (λ j b. cond (t j b) 0 (suc b)) (suc j) ts) ≡ suc (count_doors ts)
+        → (count_doors (each_door (λ j b. cond (t j b) 0 (suc b)) (suc j) ts) ≡ count_doors ts → every_door (λ j b. not (t j b)) (suc j) ts ≡ true)
+        → (not q && every_door (λ j b. not (t j b)) (suc j) ts) ≡ true
+    go true h f = absurd (omega (arith, h, doors-fewer (λ j b. cond (t j b) 0 (suc b)) (suc j) ts))
+    go false h f = f (omega arith)
 
-  quiet_same : (i : ℕ) (labs : List (Option (Lab r rule tally))) (Ls : Net) → quiet r rule tally i labs Ls ≡ true → sweeps r rule tally i labs Ls ≡ Ls
-  unfolding sweeps quiet
+pub layer-quiet : (t : ℕ → ℕ → ℕ → Bool) (i : ℕ) (L : Layer) → count_layer (each_node (λ a j b. cond (t a j b) 0 (suc b)) i L) ≡ count_layer L → every_arc (λ a j b. not (t a j b)) i L ≡ true
+unfolding count_layer each_node every_arc
+layer-quiet t i [] e = refl
+layer-quiet t i (nd ∷ L) e =
+    let x = doors-fewer (λ j b. cond (t i j b) 0 (suc b)) 1 nd in
+    let y = nodes-fewer (λ a j b. cond (t a j b) 0 (suc b)) (suc i) L in
+    rw (doors-quiet (t i) 1 nd (omega arith)) (layer-quiet t (suc i) L (omega arith))
+
+-- ---- settled: a sweep would change nothing
+module _ {S V : Type 0} (by : Setting S V) where
+  kept-arcs : (i h : ℕ) (labs : List (Option (Down S V))) (Ls : Net) (L : Layer) → every_arc (λ a j b. not (barred by.round by.rule i h j (get_or labs a None) (get_or (ups Ls) b None))) 0 L ≡ true
+      → redirect (λ a j b. cond (barred by.round by.rule i h j (get_or labs a None) (get_or (ups Ls) b None)) 0 (suc b)) L ≡ L
+  kept-arcs i h labs Ls L e = redirect-same (λ a j b. cond (barred by.round by.rule i h j (get_or labs a None) (get_or (ups Ls) b None)) 0 (suc b)) L (λ a j b g.
+      ap (λ (q : Bool). cond q 0 (suc b)) (not-true (barred by.round by.rule i h j (get_or labs a None) (get_or (ups Ls) b None)) (every_arc-at (λ a j b. not (barred by.round by.rule i h j (get_or labs a None) (get_or (ups Ls) b None))) 0 L a a j b (omega arith) e g)))
+
+  quiet_same : (i : ℕ) (labs : List (Option (Down S V))) (Ls : Net) → quiet by i labs Ls ≡ true → sweeps by i labs Ls ≡ Ls
+  unfolding thinned quiet_from
   quiet_same i labs [] e = refl
   quiet_same i labs (L ∷ Ls) e =
-      let q = and_parts (every_arc (λ a j b. not (barred r rule tally i (suc (length Ls)) j (get_or labs a None) (get_or (ups Ls) b None))) 0 L) (quiet r rule tally (suc i) (labels_next r rule tally labs L (width Ls)) Ls) e in
-      ap₂ (λ (x : Layer) (y : Net). x ∷ y) (kept-arcs i (suc (length Ls)) labs Ls L q.0) (quiet_same (suc i) (labels_next r rule tally labs L (width Ls)) Ls q.1)
+      let q = and_parts (every_arc (λ a j b. not (barred by.round by.rule i (suc (length Ls)) j (get_or labs a None) (get_or (ups Ls) b None))) 0 L) (quiet by (suc i) (labels_next by labs L (width Ls)) Ls) e in
+      ap₂ (λ (x : Layer) (y : Net). x ∷ y) (kept-arcs i (suc (length Ls)) labs Ls L q.0) (quiet_same (suc i) (labels_next by labs L (width Ls)) Ls q.1)
 
-  -- where a sweep takes out nothing, no arc is one that it takes out
-  doors-quiet : (t : ℕ → ℕ → Bool) (j : ℕ) (ts : Outs) → count_doors (each_door (λ j b. cond (t j b) 0 (suc b)) j ts) ≡ count_doors ts → every_door (λ j b. not (t j b)) j ts ≡ true
-  unfolding count_doors each_door every_door
-  doors-quiet t j [] e = refl
-  doors-quiet t j (zero ∷ ts) e = doors-quiet t (suc j) ts e
-  doors-quiet t j (suc b ∷ ts) e = go (t j b) e (λ h. doors-quiet t (suc j) ts h)
-    where
-      go : (q : Bool) → count_doors (cond q 0 (suc b) ∷ each_door (λ j b. cond (t j b) 0 (suc b)) (suc j) ts) ≡ suc (count_doors ts)
-          → (count_doors (each_door (λ j b. cond (t j b) 0 (suc b)) (suc j) ts) ≡ count_doors ts → every_door (λ j b. not (t j b)) (suc j) ts ≡ true)
-          → (not q && every_door (λ j b. not (t j b)) (suc j) ts) ≡ true
-      go true h f = absurd (omega (arith, h, doors-fewer (λ j b. cond (t j b) 0 (suc b)) (suc j) ts))
-      go false h f = f (omega arith)
-
-  pub layer-quiet : (t : ℕ → ℕ → ℕ → Bool) (i : ℕ) (L : Layer) → count_layer (each_node (λ a j b. cond (t a j b) 0 (suc b)) i L) ≡ count_layer L → every_arc (λ a j b. not (t a j b)) i L ≡ true
-  unfolding count_layer each_node every_arc
-  layer-quiet t i [] e = refl
-  layer-quiet t i (nd ∷ L) e =
-      let x = doors-fewer (λ j b. cond (t i j b) 0 (suc b)) 1 nd in
-      let y = nodes-fewer (λ a j b. cond (t a j b) 0 (suc b)) (suc i) L in
-      rw (doors-quiet (t i) 1 nd (omega arith)) (layer-quiet t (suc i) L (omega arith))
-
-  sweeps-quiet : (i : ℕ) (labs : List (Option (Lab r rule tally))) (Ls : Net) → count_arcs (sweeps r rule tally i labs Ls) ≡ count_arcs Ls → quiet r rule tally i labs Ls ≡ true
-  unfolding sweeps quiet count_arcs redirect
+  sweeps-quiet : (i : ℕ) (labs : List (Option (Down S V))) (Ls : Net) → count_arcs (sweeps by i labs Ls) ≡ count_arcs Ls → quiet by i labs Ls ≡ true
+  unfolding thinned quiet_from count_arcs redirect
   sweeps-quiet i labs [] e = refl
   sweeps-quiet i labs (L ∷ Ls) e =
-      let t : ℕ → ℕ → ℕ → Bool = λ a j b. barred r rule tally i (suc (length Ls)) j (get_or labs a None) (get_or (ups Ls) b None) in
+      let t : ℕ → ℕ → ℕ → Bool = λ a j b. barred by.round by.rule i (suc (length Ls)) j (get_or labs a None) (get_or (ups Ls) b None) in
       let x = nodes-fewer (λ a j b. cond (t a j b) 0 (suc b)) 0 L in
-      let y = sweeps-fewer r rule tally (suc i) (labels_next r rule tally labs L (width Ls)) Ls in
+      let y = sweeps-fewer by (suc i) (labels_next by labs L (width Ls)) Ls in
       let p : every_arc (λ a j b. not (t a j b)) 0 L ≡ true = layer-quiet t 0 L (omega arith) in
-      rw p (sweeps-quiet (suc i) (labels_next r rule tally labs L (width Ls)) Ls (omega arith))
+      rw p (sweeps-quiet (suc i) (labels_next by labs L (width Ls)) Ls (omega arith))
 
   -- a sweep that takes out no arc leaves all as it is
-  pub sweep-same : (Ls : Net) → width Ls ≡ 1 → Tied Ls → count_arcs (sweep r rule tally Ls) ≡ count_arcs Ls → sweep r rule tally Ls ≡ Ls
+  pub sweep-same : (Ls : Net) → width Ls ≡ 1 → Tied Ls → count_arcs (sweep by Ls) ≡ count_arcs Ls → sweep by Ls ≡ Ls
   unfolding sweep
   sweep-same Ls w t c =
-      let x = tidied-fewer (sweeps r rule tally 0 (firsts r rule tally) Ls) in
-      let y = sweeps-fewer r rule tally 0 (firsts r rule tally) Ls in
-      ap tidied (quiet_same 0 (firsts r rule tally) Ls (sweeps-quiet 0 (firsts r rule tally) Ls (omega arith))) ∙ tidied-same Ls w t
+      let x = tidied-fewer (sweeps by 0 (firsts by.rule by.tally) Ls) in
+      let y = sweeps-fewer by 0 (firsts by.rule by.tally) Ls in
+      ap tidied (quiet_same 0 (firsts by.rule by.tally) Ls (sweeps-quiet 0 (firsts by.rule by.tally) Ls (omega arith))) ∙ tidied-same Ls w t
 
   -- settled is yes exactly when the in-arcs agree and a sweep would answer 0
-  pub settled-yes : (Ls : Net) → width Ls ≡ 1 → Tied Ls → settled r rule tally Ls ≡ true → (agrees r rule tally (firsts r rule tally) Ls ≡ true) × (sweep r rule tally Ls ≡ Ls)
+  pub settled-yes : (Ls : Net) → width Ls ≡ 1 → Tied Ls → settled by Ls ≡ true → (agrees by (firsts by.rule by.tally) Ls ≡ true) × (sweep by Ls ≡ Ls)
   unfolding settled settles sweep
   settled-yes Ls w t e =
-      let p = and_parts (agrees r rule tally (firsts r rule tally) Ls) (quiet r rule tally 0 (firsts r rule tally) Ls) e in
-      (p.0, ap tidied (quiet_same 0 (firsts r rule tally) Ls p.1) ∙ tidied-same Ls w t)
+      let p = and_parts (agrees by (firsts by.rule by.tally) Ls) (quiet by 0 (firsts by.rule by.tally) Ls) e in
+      (p.0, ap tidied (quiet_same 0 (firsts by.rule by.tally) Ls p.1) ∙ tidied-same Ls w t)
 
-  pub settled-if : (Ls : Net) → agrees r rule tally (firsts r rule tally) Ls ≡ true → count_arcs (sweep r rule tally Ls) ≡ count_arcs Ls → settled r rule tally Ls ≡ true
+  pub settled-if : (Ls : Net) → agrees by (firsts by.rule by.tally) Ls ≡ true → count_arcs (sweep by Ls) ≡ count_arcs Ls → settled by Ls ≡ true
   unfolding settled settles sweep
   settled-if Ls a c =
-      let x = tidied-fewer (sweeps r rule tally 0 (firsts r rule tally) Ls) in
-      let y = sweeps-fewer r rule tally 0 (firsts r rule tally) Ls in
-      rw a (sweeps-quiet 0 (firsts r rule tally) Ls (omega arith))
+      let x = tidied-fewer (sweeps by 0 (firsts by.rule by.tally) Ls) in
+      let y = sweeps-fewer by 0 (firsts by.rule by.tally) Ls in
+      rw a (sweeps-quiet 0 (firsts by.rule by.tally) Ls (omega arith))

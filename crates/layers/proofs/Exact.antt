@@ -17,13 +17,16 @@ use Rattle.orders.specs.Times.{finish_of, Timely}
 use Rattle.orders.specs.declared.van.Van.{Van}
 use Rattle.layers.specs.declared.node.Up.{Up}
 use Rattle.layers.specs.Flow.{Outs, Layer, Net, node, target, PathFrom, final, every_door, every_arc, ins, gather}
-use Rattle.layers.specs.Labels.{one, leg, ups, Lab, first, arrive, merge, firsts, labels_next, barred, agreeing}
+use Rattle.layers.specs.Labels.{bit_of, leg, ups, first, arrive, merge, firsts, labels_next, barred, agreeing}
 use Rattle.layers.proofs.Flows.{Among, From, inside, ins-in, ins-from, next-some, next-within, next-at, gather-all}
 use Rattle.layers.proofs.Agreeing.{Agree, agree-merge, pairs}
 use Rattle.layers.proofs.Sets.{or_left, or_right, one-self}
 use Rattle.layers.proofs.Ways.{in_split, trip-snoc, state-snoc, length-snoc, snoc-assoc, leg-one}
-use Rattle.layers.proofs.Model.{agreed, agrees, quiet, settles, settled, bound, valueO}
+use Rattle.layers.proofs.Model.{agrees, quiet, settles, settled, bound, valueO}
 use Rattle.layers.proofs.Walk.{NeatLayer, Neat, neat-door, path-length, Told, told_none, told-next}
+use Rattle.layers.specs.Calls.{agreed_below, agreed_all, quiet_from}
+use Rattle.layers.specs.Settings.{Setting}
+use Rattle.layers.specs.declared.node.Down.{Down}
 
 -- ---- tests that passed
 every_door-at : (f : ℕ → ℕ → Bool) (j : ℕ) (ts : Outs) (k m b : ℕ) → j + k ≡ m → every_door f j ts ≡ true → get_or ts k 0 ≡ suc b → f m b ≡ true
@@ -43,53 +46,53 @@ every_arc-at f c (nd ∷ L) zero m (suc k) b h t e =
     ap (λ (x : ℕ). f x (suc k) b) (omega arith) ∙ every_door-at (f c) 1 nd k (suc k) b (omega arith) (and_parts (every_door (f c) 1 nd) (every_arc f (suc c) L) t).0 e
 every_arc-at f c (nd ∷ L) (suc a) m j b h t e = every_arc-at f (suc c) L a m j b (omega arith) (and_parts (every_door (f c) 1 nd) (every_arc f (suc c) L) t).1 e
 
-module _ {S V : Type 0} {Keeps : List ℕ → Type 0} {Stands : S → List ℕ → Type 0} {Allows : ℕ → V → Type 0} (r : Round) (rule : RuleSense S) (ruled : RuleLaws r.n rule Keeps Stands) (tally : TallySense V) (tallied : TallyLaws r.n tally Allows) where
+module _ {S V : Type 0} {Keeps : List ℕ → Type 0} {Stands : S → List ℕ → Type 0} {Allows : ℕ → V → Type 0} (by : Setting S V) (ruled : RuleLaws by.round.n by.rule Keeps Stands) (tallied : TallyLaws by.round.n by.tally Allows) where
   -- ---- what is gathered from arrivals that agree agrees with each
-  same-gather : (l : List (Lab r rule tally)) (m x : Lab r rule tally) → agreeing r rule tally l ≡ true → gather (merge r rule tally) l ≡ Some m → Among x l → Agree r rule ruled tally x m
-  same-gather l m x e g i = gather-all (merge r rule tally) (Agree r rule ruled tally x) (agree-merge r rule ruled tally x) l m (λ y k. pairs r rule ruled tally l e x y i k) g
+  same-gather : (l : List (Down S V)) (m x : Down S V) → agreeing by.rule l ≡ true → gather (merge by.rule by.tally) l ≡ Some m → Among x l → Agree by ruled x m
+  same-gather l m x e g i = gather-all (merge by.rule by.tally) (Agree by ruled x) (agree-merge by ruled x) l m (λ y k. pairs by ruled l e x y i k) g
 
   -- the value gathered is that of some arrival
-  abbrev Attained : V → List (Lab r rule tally) → Type 0
-  Attained v l = (x : Lab r rule tally) × Among x l × (x.value ≡ v)
+  abbrev Attained : V → List (Down S V) → Type 0
+  Attained v l = (x : Down S V) × Among x l × (x.value ≡ v)
 
-  lesser-one : (a b : V) (l : List (Lab r rule tally)) → Attained a l → Attained b l → Attained (tally.lesser a b) l
-  lesser-one a b l p q = rw (tallied.lesser_is a b) (go (tally.not_above a b))
+  lesser-one : (a b : V) (l : List (Down S V)) → Attained a l → Attained b l → Attained (by.tally.lesser a b) l
+  lesser-one a b l p q = rw (tallied.lesser_is a b) (go (by.tally.not_above a b))
     where
       go : (t : Bool) → Attained (cond t a b) l
       go true = p
       go false = q
 
-  fold-value : (y : Lab r rule tally) (all l : List (Lab r rule tally)) → Attained y.value all → ((z : Lab r rule tally) → Among z l → Among z all) → Attained (fold (merge r rule tally) y l).value all
+  fold-value : (y : Down S V) (all l : List (Down S V)) → Attained y.value all → ((z : Down S V) → Among z l → Among z all) → Attained (fold (merge by.rule by.tally) y l).value all
   unfolding merge
   fold-value y all [] p f = p
-  fold-value y all (z ∷ l) p f = fold-value (merge r rule tally y z) all l (lesser-one y.value z.value all p (z, f z (inl refl), refl)) (λ t i. f t (inr i))
+  fold-value y all (z ∷ l) p f = fold-value (merge by.rule by.tally y z) all l (lesser-one y.value z.value all p (z, f z (inl refl), refl)) (λ t i. f t (inr i))
 
-  value-gather : (l : List (Lab r rule tally)) (m : Lab r rule tally) → gather (merge r rule tally) l ≡ Some m → Attained m.value l
+  value-gather : (l : List (Down S V)) (m : Down S V) → gather (merge by.rule by.tally) l ≡ Some m → Attained m.value l
   unfolding gather
   value-gather [] m g = absurd cc
   value-gather (y ∷ l) m g =
-      let z : fold (merge r rule tally) y l ≡ m = cc in
+      let z : fold (merge by.rule by.tally) y l ≡ m = cc in
       rw (← z) (fold-value y (y ∷ l) l (y, inl refl, refl) (λ t i. inr i))
 
   -- ---- exact labels
   pub record Sound (p : List ℕ) : Type 0 where
     pub keeps : Keeps p
-    pub timely : Timely r p
-    pub told : Told r rule ruled tally tallied p
+    pub timely : Timely by.round p
+    pub told : Told by ruled tallied p
 
-  pub record Exact (l : Lab r rule tally) (p : List ℕ) : Type 0 where
+  pub record Exact (l : Down S V) (p : List ℕ) : Type 0 where
     pub all : (j : ℕ) → In j p → has l.all j ≡ true
-    pub finish : l.finish ≡ (trip_after r tally p).van.finish
-    pub lasts : l.lasts ≡ one (trip_after r tally p).van.last
-    pub state : l.state ≡ state_of rule p
+    pub finish : l.finish ≡ (trip_after by.round by.tally p).van.finish
+    pub lasts : l.lasts ≡ bit_of (trip_after by.round by.tally p).van.last
+    pub state : l.state ≡ state_of by.rule p
 
   sound_none : Sound []
-  sound_none = record { keeps = ruled.keeps_none; timely = each_none _; told = told_none r rule ruled tally tallied }
+  sound_none = record { keeps = ruled.keeps_none; timely = each_none _; told = told_none by ruled tallied }
 
-  exact-first : Exact (first r rule tally) []
+  exact-first : Exact (first by.rule by.tally) []
   exact-first = record { all = λ j i. absurd i; finish = refl; lasts = refl; state = refl }
 
-  exact_same : (x y : Lab r rule tally) (p : List ℕ) → Agree r rule ruled tally x y → Exact x p → Exact y p
+  exact_same : (x y : Down S V) (p : List ℕ) → Agree by ruled x y → Exact x p → Exact y p
   exact_same x y p s e = record {
     all = λ j i. rw (← s.all) (e.all j i);
     finish = sym s.finish ∙ e.finish;
@@ -98,123 +101,123 @@ module _ {S V : Type 0} {Keeps : List ℕ → Type 0} {Stands : S → List ℕ �
   }
 
   -- what a sweep that takes nothing says of an arc
-  pub record Clear (l : Lab r rule tally) (j : ℕ) : Type 0 where
+  pub record Clear (l : Down S V) (j : ℕ) : Type 0 where
     pub new : has l.all j ≡ false
-    pub early : finish r l.finish (leg r l.lasts j) j ≤ (door r j).closes
-    pub free : rule.bars l.state j ≡ false
+    pub early : finish by.round l.finish (leg by.round l.lasts j) j ≤ (door by.round j).closes
+    pub free : by.rule.bars l.state j ≡ false
 
-  clear : (i h j : ℕ) (l : Lab r rule tally) (u : Option Up) → barred r rule tally i h j (Some l) u ≡ false → Clear l j
+  clear : (i h j : ℕ) (l : Down S V) (u : Option Up) → barred by.round by.rule i h j (Some l) u ≡ false → Clear l j
   clear i h j l None e = absurd (true≢false e)
   clear i h j l (Some u) e =
       let a = or_parts (has l.all j) _ e in
-      let b = or_parts (ltb (ones (bit_or l.some (one j))) (suc i)) _ a.1 in
-      let c = or_parts (ltb (door r j).closes (finish r l.finish (leg r l.lasts j) j)) _ b.1 in
-      let d = or_parts (rule.bars l.state j) _ c.1 in
-      record { new = a.0; early = ltb-false (door r j).closes (finish r l.finish (leg r l.lasts j) j) c.0; free = d.0 }
+      let b = or_parts (ltb (ones (bit_or l.some (bit_of j))) (suc i)) _ a.1 in
+      let c = or_parts (ltb (door by.round j).closes (finish by.round l.finish (leg by.round l.lasts j) j)) _ b.1 in
+      let d = or_parts (by.rule.bars l.state j) _ c.1 in
+      record { new = a.0; early = ltb-false (door by.round j).closes (finish by.round l.finish (leg by.round l.lasts j) j) c.0; free = d.0 }
 
-  -- one door on
-  pub record Onward (l : Lab r rule tally) (p : List ℕ) (j : ℕ) : Type 0 where
+  -- bit_of door on
+  pub record Onward (l : Down S V) (p : List ℕ) (j : ℕ) : Type 0 where
     pub sound : Sound (p ++ (j ∷ []))
-    pub exact : Exact (arrive r rule tally l j) (p ++ (j ∷ []))
-    pub worth : l.value ≡ cost r tally p → (arrive r rule tally l j).value ≡ cost r tally (p ++ (j ∷ []))
+    pub exact : Exact (arrive by l j) (p ++ (j ∷ []))
+    pub worth : l.value ≡ cost by.round by.tally p → (arrive by l j).value ≡ cost by.round by.tally (p ++ (j ∷ []))
 
-  onward : (l : Lab r rule tally) (p : List ℕ) (j : ℕ) → length p < 16 → Door r.n j → Sound p → Exact l p → Clear l j → Onward l p j
+  onward : (l : Down S V) (p : List ℕ) (j : ℕ) → length p < 16 → Door by.round.n j → Sound p → Exact l p → Clear l j → Onward l p j
   unfolding arrive
   onward l p j k d s e c =
       let n : ¬ In j p = λ i. absurd (true≢false (sym (e.all j i) ∙ c.new)) in
-      let z = trip-snoc r tally p j in
+      let z = trip-snoc by.round by.tally p j in
       let t = s.told in
-      let g : leg r l.lasts j ≡ drive r (trip_after r tally p).van.last j =
-      ap (λ (m : ℕ). leg r m j) e.lasts ∙ leg-one r (trip_after r tally p).van.last j t.here (ne_eqb (trip_after r tally p).van.last j (t.last j n d.low)) in
-      let f : finish r l.finish (leg r l.lasts j) j ≡ (rides r tally (trip_after r tally p) j).van.finish =
-      ap (λ (x : ℕ). finish r x (leg r l.lasts j) j) e.finish ∙ ap (λ (x : ℕ). finish r (trip_after r tally p).van.finish x j) g in
-      let v : finish_of r (p ++ (j ∷ [])) ≡ finish r l.finish (leg r l.lasts j) j =
-      ap (λ (a : Van). a.finish) (sym (trip-van r tally (p ++ (j ∷ [])))) ∙ ap (λ (q : Trip V). q.van.finish) z ∙ sym f in
+      let g : leg by.round l.lasts j ≡ drive by.round (trip_after by.round by.tally p).van.last j =
+      ap (λ (m : ℕ). leg by.round m j) e.lasts ∙ leg-one by.round (trip_after by.round by.tally p).van.last j t.here (ne_eqb (trip_after by.round by.tally p).van.last j (t.last j n d.low)) in
+      let f : finish by.round l.finish (leg by.round l.lasts j) j ≡ (rides by.round by.tally (trip_after by.round by.tally p) j).van.finish =
+      ap (λ (x : ℕ). finish by.round x (leg by.round l.lasts j) j) e.finish ∙ ap (λ (x : ℕ). finish by.round (trip_after by.round by.tally p).van.finish x j) g in
+      let v : finish_of by.round (p ++ (j ∷ [])) ≡ finish by.round l.finish (leg by.round l.lasts j) j =
+      ap (λ (a : Van). a.finish) (sym (trip-van by.round by.tally (p ++ (j ∷ [])))) ∙ ap (λ (q : Trip V). q.van.finish) z ∙ sym f in
       record {
         sound = record {
           keeps = ruled.clear_keeps p j (record { part = t.part; door = d; new = n }) s.keeps (rw (← e.state) c.free);
           timely = each_more _ p j s.timely (rw v c.early);
-          told = told-next r rule ruled tally tallied p j t d k n;
+          told = told-next by ruled tallied p j t d k n;
         };
         exact = record {
           all = λ i h. elim (in_split i p (j ∷ []) h) [
-            | inl x ↦ or_left l.all (one j) i (e.all i x)
-            | inr x ↦ or_right l.all (one j) i (elim x [ inl y ↦ rw y (one-self j) | inr y ↦ absurd y ])
+            | inl x ↦ or_left l.all (bit_of j) i (e.all i x)
+            | inr x ↦ or_right l.all (bit_of j) i (elim x [ inl y ↦ rw y (one-self j) | inr y ↦ absurd y ])
           ];
           finish = f ∙ ap (λ (q : Trip V). q.van.finish) (sym z);
-          lasts = ap (λ (q : Trip V). one q.van.last) (sym z);
-          state = ap (λ (q : S). rule.step q j) e.state ∙ sym (state-snoc rule p j);
+          lasts = ap (λ (q : Trip V). bit_of q.van.last) (sym z);
+          state = ap (λ (q : S). by.rule.step q j) e.state ∙ sym (state-snoc by.rule p j);
         };
-        worth = λ v. ap (λ (q : V). tally.step q j (leg r l.lasts j) (finish r l.finish (leg r l.lasts j) j)) v
-            ∙ ap (λ (q : ℕ). tally.step (cost r tally p) j q (finish r l.finish (leg r l.lasts j) j)) g
-            ∙ ap (λ (q : ℕ). tally.step (cost r tally p) j (drive r (trip_after r tally p).van.last j) q) f
+        worth = λ v. ap (λ (q : V). by.tally.step q j (leg by.round l.lasts j) (finish by.round l.finish (leg by.round l.lasts j) j)) v
+            ∙ ap (λ (q : ℕ). by.tally.step (cost by.round by.tally p) j q (finish by.round l.finish (leg by.round l.lasts j) j)) g
+            ∙ ap (λ (q : ℕ). by.tally.step (cost by.round by.tally p) j (drive by.round (trip_after by.round by.tally p).van.last j) q) f
             ∙ ap (λ (q : Trip V). q.cost) (sym z);
       }
 
   -- ---- settled
-  settles-arc : (i : ℕ) (labs : List (Option (Lab r rule tally))) (L : Layer) (Ls : Net) (a j b : ℕ) (l : Lab r rule tally) → settles r rule tally i labs (L ∷ Ls) ≡ true
+  settles-arc : (i : ℕ) (labs : List (Option (Down S V))) (L : Layer) (Ls : Net) (a j b : ℕ) (l : Down S V) → settles by i labs (L ∷ Ls) ≡ true
       → target (node L a) j ≡ suc b → get_or labs a None ≡ Some l → Clear l j
-  unfolding settles quiet
+  unfolding settles quiet_from
   settles-arc i labs L Ls a j b l s e g =
-      clear i (suc (length Ls)) j l (get_or (ups Ls) b None) (rw (← g) (not-true _ (every_arc-at (λ a j b. not (barred r rule tally i (suc (length Ls)) j (get_or labs a None) (get_or (ups Ls) b None))) 0 L a a j b (omega arith)
-      (and_parts _ _ (and_parts (agrees r rule tally labs (L ∷ Ls)) (quiet r rule tally i labs (L ∷ Ls)) s).1).0 e)))
+      clear i (suc (length Ls)) j l (get_or (ups Ls) b None) (rw (← g) (not-true _ (every_arc-at (λ a j b. not (barred by.round by.rule i (suc (length Ls)) j (get_or labs a None) (get_or (ups Ls) b None))) 0 L a a j b (omega arith)
+      (and_parts _ _ (and_parts (agrees by labs (L ∷ Ls)) (quiet by i labs (L ∷ Ls)) s).1).0 e)))
 
-  agreed-at : (labs : List (Option (Lab r rule tally))) (L : Layer) (k b : ℕ) → agreed r rule tally labs L k ≡ true → b < k → agreeing r rule tally (ins (arrive r rule tally) b labs L) ≡ true
-  unfolding agreed
+  agreed-at : (labs : List (Option (Down S V))) (L : Layer) (k b : ℕ) → agreed_below by labs L k ≡ true → b < k → agreeing by.rule (ins (arrive by) b labs L) ≡ true
+  unfolding agreed_below
   agreed-at labs L zero b e h = absurd (not-suc-le-zero h)
   agreed-at labs L (suc k) b e h = go (eqb b k) refl (λ g. agreed-at labs L k b (and_parts _ _ e).1 g)
     where
-      go : (q : Bool) → eqb b k ≡ q → (b < k → agreeing r rule tally (ins (arrive r rule tally) b labs L) ≡ true) → agreeing r rule tally (ins (arrive r rule tally) b labs L) ≡ true
+      go : (q : Bool) → eqb b k ≡ q → (b < k → agreeing by.rule (ins (arrive by) b labs L) ≡ true) → agreeing by.rule (ins (arrive by) b labs L) ≡ true
       go true f g = rw (eqb-true b k f) ((and_parts _ _ e).0)
       go false f g = g (omega (arith, eqb-false b k f))
 
-  settles-next : (i : ℕ) (labs : List (Option (Lab r rule tally))) (L M : Layer) (Ls : Net) → settles r rule tally i labs (L ∷ M ∷ Ls) ≡ true
-      → (agreed r rule tally labs L (length M) ≡ true) × (settles r rule tally (suc i) (labels_next r rule tally labs L (length M)) (M ∷ Ls) ≡ true)
-  unfolding settles agrees quiet
+  settles-next : (i : ℕ) (labs : List (Option (Down S V))) (L M : Layer) (Ls : Net) → settles by i labs (L ∷ M ∷ Ls) ≡ true
+      → (agreed_below by labs L (length M) ≡ true) × (settles by (suc i) (labels_next by labs L (length M)) (M ∷ Ls) ≡ true)
+  unfolding settles agreed_all quiet_from
   settles-next i labs L M Ls s =
-      let p = and_parts (agrees r rule tally labs (L ∷ M ∷ Ls)) (quiet r rule tally i labs (L ∷ M ∷ Ls)) s in
-      let q = and_parts (agreed r rule tally labs L (length M)) (agrees r rule tally (labels_next r rule tally labs L (length M)) (M ∷ Ls)) p.0 in
-      (q.0, rw q.1 (and_parts _ (quiet r rule tally (suc i) (labels_next r rule tally labs L (length M)) (M ∷ Ls)) p.1).1)
+      let p = and_parts (agrees by labs (L ∷ M ∷ Ls)) (quiet by i labs (L ∷ M ∷ Ls)) s in
+      let q = and_parts (agreed_below by labs L (length M)) (agrees by (labels_next by labs L (length M)) (M ∷ Ls)) p.0 in
+      (q.0, rw q.1 (and_parts _ (quiet by (suc i) (labels_next by labs L (length M)) (M ∷ Ls)) p.1).1)
 
   -- ---- every path is sound
-  pub paths-sound : (i : ℕ) (p w : List ℕ) (labs : List (Option (Lab r rule tally))) (Ls : Net) (a : ℕ) (l : Lab r rule tally) → length p + length Ls ≡ r.n → settles r rule tally i labs Ls ≡ true
-      → get_or labs a None ≡ Some l → Exact l p → Sound p → Neat r.n Ls → PathFrom Ls a w → Sound (p ++ w)
+  pub paths-sound : (i : ℕ) (p w : List ℕ) (labs : List (Option (Down S V))) (Ls : Net) (a : ℕ) (l : Down S V) → length p + length Ls ≡ by.round.n → settles by i labs Ls ≡ true
+      → get_or labs a None ≡ Some l → Exact l p → Sound p → Neat by.round.n Ls → PathFrom Ls a w → Sound (p ++ w)
   unfolding labels_next
   paths-sound i p [] labs [] a l t s g e o neat q = rw (append-nil p) o
   paths-sound i p (j ∷ w) labs [] a l t s g e o neat q = absurd q
   paths-sound i p [] labs (L ∷ Ls) a l t s g e o neat q = absurd q
   paths-sound i p (j ∷ []) labs (L ∷ []) a l t s g e o neat q =
-      (onward l p j (omega (arith, r.most)) (neat-door r L neat.0 a j q.0 q.1) o e (settles-arc i labs L [] a j q.0 l s q.1 g)).sound
+      (onward l p j (omega (arith, by.round.most)) (neat-door by.round L neat.0 a j q.0 q.1) o e (settles-arc i labs L [] a j q.0 l s q.1 g)).sound
   paths-sound i p (j ∷ k ∷ w) labs (L ∷ []) a l t s g e o neat q = absurd q.2
   paths-sound i p (j ∷ w) labs (L ∷ M ∷ Ls) a l t s g e o neat q =
       let b = q.0 in
-      let on = onward l p j (omega (arith, r.most)) (neat-door r L neat.0 a j b q.1) o e (settles-arc i labs L (M ∷ Ls) a j b l s q.1 g) in
+      let on = onward l p j (omega (arith, by.round.most)) (neat-door by.round L neat.0 a j b q.1) o e (settles-arc i labs L (M ∷ Ls) a j b l s q.1 g) in
       let h = inside (M ∷ Ls) b w q.2 in
-      let n = next-at {A = Lab r rule tally} (merge r rule tally) (λ x y. Unit {0}) (λ x. tt) (λ x y z f g. tt) (λ x y. tt) (λ x y. tt) (arrive r rule tally) labs L (length M) a j b l q.1 g h in
+      let n = next-at {A = Down S V} (merge by.rule by.tally) (λ x y. Unit {0}) (λ x. tt) (λ x y z f g. tt) (λ x y. tt) (λ x y. tt) (arrive by) labs L (length M) a j b l q.1 g h in
       let sn = settles-next i labs L M Ls s in
-      let same = same-gather (ins (arrive r rule tally) b labs L) n.0 (arrive r rule tally l j) (agreed-at labs L (length M) b sn.0 h)
-      (next-some (arrive r rule tally) (merge r rule tally) labs L (length M) b n.0 n.1) (ins-in (arrive r rule tally) (merge r rule tally) b labs L a j l q.1 g) in
-      rw (← (snoc-assoc p w j)) (paths-sound (suc i) (p ++ (j ∷ [])) w (labels_next r rule tally labs L (length M)) (M ∷ Ls) b n.0 (omega (arith, length-snoc p j)) sn.1 n.1
-      (exact_same (arrive r rule tally l j) n.0 (p ++ (j ∷ [])) same on.exact) on.sound neat.1 q.2)
+      let same = same-gather (ins (arrive by) b labs L) n.0 (arrive by l j) (agreed-at labs L (length M) b sn.0 h)
+      (next-some (arrive by) (merge by.rule by.tally) labs L (length M) b n.0 n.1) (ins-in (arrive by) (merge by.rule by.tally) b labs L a j l q.1 g) in
+      rw (← (snoc-assoc p w j)) (paths-sound (suc i) (p ++ (j ∷ [])) w (labels_next by labs L (length M)) (M ∷ Ls) b n.0 (omega (arith, length-snoc p j)) sn.1 n.1
+      (exact_same (arrive by l j) n.0 (p ++ (j ∷ [])) same on.exact) on.sound neat.1 q.2)
 
-  pub paths-allowed : (D : Net) (w : List ℕ) → length D ≡ r.n → Neat r.n D → settled r rule tally D ≡ true → PathFrom D 0 w → Allowed r Keeps w
+  pub paths-allowed : (D : Net) (w : List ℕ) → length D ≡ by.round.n → Neat by.round.n D → settled by D ≡ true → PathFrom D 0 w → Allowed by.round Keeps w
   unfolding settled
   paths-allowed D w t neat s q =
-      let o = paths-sound 0 [] w (firsts r rule tally) D 0 (first r rule tally) (omega arith) s refl exact-first sound_none neat q in
+      let o = paths-sound 0 [] w (firsts by.rule by.tally) D 0 (first by.rule by.tally) (omega arith) s refl exact-first sound_none neat q in
       record { whole = path-length D 0 w q ∙ t; part = o.told.part; keeps = o.keeps; timely = o.timely }
 
   -- ---- the bound is the cost of a path
   module _ (D : Net) where
-    record Reached (Ls : Net) (k a : ℕ) (l : Lab r rule tally) : Type 0 where
+    record Reached (Ls : Net) (k a : ℕ) (l : Down S V) : Type 0 where
       way : List ℕ
       leads : (w : List ℕ) → PathFrom Ls a w → PathFrom D 0 (way ++ w)
       sound : Sound way
       exact : Exact l way
-      worth : l.value ≡ cost r tally way
+      worth : l.value ≡ cost by.round by.tally way
       long : length way ≡ k
 
     -- over an arc
-    onto : (Ls : Net) (L : Layer) (k : ℕ) (labs : List (Option (Lab r rule tally))) (b : ℕ) (x : Lab r rule tally) (f : From (arrive r rule tally) b labs L x)
+    onto : (Ls : Net) (L : Layer) (k : ℕ) (labs : List (Option (Down S V))) (b : ℕ) (x : Down S V) (f : From (arrive by) b labs L x)
         (c : Reached (L ∷ Ls) k f.source f.label) → Onward f.label c.way f.door → Reached Ls (suc k) b x
     onto Ls L k labs b x f c on = record {
       way = c.way ++ (f.door ∷ []);
@@ -225,51 +228,51 @@ module _ {S V : Type 0} {Keeps : List ℕ → Type 0} {Stands : S → List ℕ �
       long = length-snoc c.way f.door ∙ ap suc c.long;
     }
 
-    -- to whatever gathered it: one of the arrivals has its value
-    over : (Ls : Net) (L : Layer) (i k : ℕ) (labs : List (Option (Lab r rule tally))) (b : ℕ) (m : Lab r rule tally) → k < 16 → NeatLayer r.n L → settles r rule tally i labs (L ∷ Ls) ≡ true
-        → ((a : ℕ) (l : Lab r rule tally) → get_or labs a None ≡ Some l → Reached (L ∷ Ls) k a l) → gather (merge r rule tally) (ins (arrive r rule tally) b labs L) ≡ Some m
-        → (x : Lab r rule tally) × Among x (ins (arrive r rule tally) b labs L) × (x.value ≡ m.value) × Reached Ls (suc k) b x
+    -- to whatever gathered it: bit_of of the arrivals has its value
+    over : (Ls : Net) (L : Layer) (i k : ℕ) (labs : List (Option (Down S V))) (b : ℕ) (m : Down S V) → k < 16 → NeatLayer by.round.n L → settles by i labs (L ∷ Ls) ≡ true
+        → ((a : ℕ) (l : Down S V) → get_or labs a None ≡ Some l → Reached (L ∷ Ls) k a l) → gather (merge by.rule by.tally) (ins (arrive by) b labs L) ≡ Some m
+        → (x : Down S V) × Among x (ins (arrive by) b labs L) × (x.value ≡ m.value) × Reached Ls (suc k) b x
     over Ls L i k labs b m h neat s reach g =
-        let v = value-gather (ins (arrive r rule tally) b labs L) m g in
-        let f = ins-from (arrive r rule tally) b labs L v.0 v.1 in
+        let v = value-gather (ins (arrive by) b labs L) m g in
+        let f = ins-from (arrive by) b labs L v.0 v.1 in
         let c = reach f.source f.label f.labelled in
-        let on = onward f.label c.way f.door (omega (arith, c.long)) (neat-door r L neat f.source f.door b f.arc) c.sound c.exact
+        let on = onward f.label c.way f.door (omega (arith, c.long)) (neat-door by.round L neat f.source f.door b f.arc) c.sound c.exact
         (settles-arc i labs L Ls f.source f.door b f.label s f.arc f.labelled) in
         (v.0, v.1, v.2, onto Ls L k labs b v.0 f c on)
 
-    attain : (i k : ℕ) (labs : List (Option (Lab r rule tally))) (Ls : Net) (l : Lab r rule tally) → k + length Ls ≡ r.n → settles r rule tally i labs Ls ≡ true → Neat r.n Ls
-        → ((a : ℕ) (l : Lab r rule tally) → get_or labs a None ≡ Some l → Reached Ls k a l) → final (arrive r rule tally) (merge r rule tally) labs Ls ≡ Some l
-        → (w : List ℕ) × PathFrom D 0 w × (cost r tally w ≡ l.value)
+    attain : (i k : ℕ) (labs : List (Option (Down S V))) (Ls : Net) (l : Down S V) → k + length Ls ≡ by.round.n → settles by i labs Ls ≡ true → Neat by.round.n Ls
+        → ((a : ℕ) (l : Down S V) → get_or labs a None ≡ Some l → Reached Ls k a l) → final (arrive by) (merge by.rule by.tally) labs Ls ≡ Some l
+        → (w : List ℕ) × PathFrom D 0 w × (cost by.round by.tally w ≡ l.value)
     unfolding final labels_next
     attain i k labs [] l t s neat reach g =
-        let c = reach 0 l g in (c.way ++ [], c.leads [] refl, ap (cost r tally) (append-nil c.way) ∙ sym c.worth)
+        let c = reach 0 l g in (c.way ++ [], c.leads [] refl, ap (cost by.round by.tally) (append-nil c.way) ∙ sym c.worth)
     attain i k labs (L ∷ []) l t s neat reach g =
-        let x = over [] L i k labs 0 l (omega (arith, r.most)) neat.0 s reach (next-some (arrive r rule tally) (merge r rule tally) labs L 1 0 l g) in
+        let x = over [] L i k labs 0 l (omega (arith, by.round.most)) neat.0 s reach (next-some (arrive by) (merge by.rule by.tally) labs L 1 0 l g) in
         let c = x.3 in
-        (c.way ++ [], c.leads [] refl, ap (cost r tally) (append-nil c.way) ∙ sym c.worth ∙ x.2)
+        (c.way ++ [], c.leads [] refl, ap (cost by.round by.tally) (append-nil c.way) ∙ sym c.worth ∙ x.2)
     attain i k labs (L ∷ M ∷ Ls) l t s neat reach g =
         let sn = settles-next i labs L M Ls s in
-        attain (suc i) (suc k) (labels_next r rule tally labs L (length M)) (M ∷ Ls) l (omega arith) sn.1 neat.1
+        attain (suc i) (suc k) (labels_next by labs L (length M)) (M ∷ Ls) l (omega arith) sn.1 neat.1
         (λ b m e.
-        let e' = next-some (arrive r rule tally) (merge r rule tally) labs L (length M) b m e in
-        let h = next-within (arrive r rule tally) (merge r rule tally) labs L (length M) b m e in
-        let x = over (M ∷ Ls) L i k labs b m (omega (arith, r.most)) neat.0 s reach e' in
-        let same = same-gather (ins (arrive r rule tally) b labs L) m x.0 (agreed-at labs L (length M) b sn.0 h) e' x.1 in
+        let e' = next-some (arrive by) (merge by.rule by.tally) labs L (length M) b m e in
+        let h = next-within (arrive by) (merge by.rule by.tally) labs L (length M) b m e in
+        let x = over (M ∷ Ls) L i k labs b m (omega (arith, by.round.most)) neat.0 s reach e' in
+        let same = same-gather (ins (arrive by) b labs L) m x.0 (agreed-at labs L (length M) b sn.0 h) e' x.1 in
         let c = x.3 in
         record { way = c.way; leads = c.leads; sound = c.sound; exact = exact_same x.0 m c.way same c.exact; worth = sym x.2 ∙ c.worth; long = c.long })
         g
 
-    pub bound-attained : (v : V) → length D ≡ r.n → Neat r.n D → settled r rule tally D ≡ true → bound r rule tally D ≡ Some v → (w : List ℕ) × PathFrom D 0 w × (cost r tally w ≡ v)
+    pub bound-attained : (v : V) → length D ≡ by.round.n → Neat by.round.n D → settled by D ≡ true → bound by D ≡ Some v → (w : List ℕ) × PathFrom D 0 w × (cost by.round by.tally w ≡ v)
     unfolding settled bound
-    bound-attained v t neat s e = go (final (arrive r rule tally) (merge r rule tally) (firsts r rule tally) D) refl e
+    bound-attained v t neat s e = go (final (arrive by) (merge by.rule by.tally) (firsts by.rule by.tally) D) refl e
       where
-        start : (a : ℕ) (l : Lab r rule tally) → get_or (firsts r rule tally) a None ≡ Some l → Reached D 0 a l
-        start zero l f = let x : first r rule tally ≡ l = cc in
+        start : (a : ℕ) (l : Down S V) → get_or (firsts by.rule by.tally) a None ≡ Some l → Reached D 0 a l
+        start zero l f = let x : first by.rule by.tally ≡ l = cc in
             rw (← x) (record { way = []; leads = λ w q. q; sound = sound_none; exact = exact-first; worth = refl; long = refl })
         start (suc a) l f = absurd cc
 
-        go : (x : Option (Lab r rule tally)) → final (arrive r rule tally) (merge r rule tally) (firsts r rule tally) D ≡ x → valueO r rule tally x ≡ Some v → (w : List ℕ) × PathFrom D 0 w × (cost r tally w ≡ v)
+        go : (x : Option (Down S V)) → final (arrive by) (merge by.rule by.tally) (firsts by.rule by.tally) D ≡ x → valueO by x ≡ Some v → (w : List ℕ) × PathFrom D 0 w × (cost by.round by.tally w ≡ v)
         go None f g = absurd cc
         go (Some l) f g =
             let y : l.value ≡ v = cc in
-            let c = attain 0 0 (firsts r rule tally) D l (omega arith) s neat start f in (c.0, c.1, c.2 ∙ y)
+            let c = attain 0 0 (firsts by.rule by.tally) D l (omega arith) s neat start f in (c.0, c.1, c.2 ∙ y)

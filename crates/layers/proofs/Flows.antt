@@ -3,6 +3,7 @@ use Rattle.std.proofs.Common.{◌≡◌, ℕ, zero, suc, ◌+◌, ◌<◌, Bool,
 use Rattle.std.proofs.lemmas.Bool.{eqb-true, eq-eqb}
 use Rattle.std.proofs.lemmas.List.{get_or-map}
 use Rattle.layers.specs.Flow.{table, Outs, Layer, Net, node, target, width, PathFrom, each_door, each_node, redirect, put, ins_door, ins, gather, next, read, cons_if_some, outs, up, Mark, marks_next, marks_up, flags, rank, compress, renumber, tidy, tidied}
+use Rattle.layers.specs.Labels.{arrive}
 
 -- membership, in lists of any kind
 abbrev pub Among : {A : Type 0} → A → List A → Type 0

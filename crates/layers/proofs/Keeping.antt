@@ -5,10 +5,14 @@ use Rattle.round.specs.declared.table.Round.{Round}
 use Rattle.rules.specs.Rules.{RuleSense}
 use Rattle.tallies.specs.Tallies.{TallySense}
 use Rattle.layers.specs.Flow.{Net, node, width, clash, join_at, count_arcs}
-use Rattle.layers.specs.Labels.{Lab, firsts, labels_next}
-use Rattle.layers.specs.Calls.{Call, Sweep, Part, Join, Cut, Refine, EachCut}
+use Rattle.layers.specs.Labels.{firsts, labels_next}
+use Rattle.layers.specs.declared.call.Call.{Call}
+use Rattle.layers.specs.declared.call.Call.TheVariants.{Sweep, Part, Join, Cut, Refine}
+use Rattle.layers.specs.Calls.{EachCut, thinned, trimmed}
 use Rattle.layers.proofs.Model.{part_at, one_group, sweeps, sweep, cuts, cut, bad_layer, part, join, swept, parted, refines, refine, unless, act, after}
 use Rattle.layers.specs.Flow.{Mark, marks_next, tidy, tidied}
+use Rattle.layers.specs.Settings.{Setting}
+use Rattle.layers.specs.declared.node.Down.{Down}
 
 -- a test with two outcomes keeps what both keep
 pub either : {X : Type 0} (P : X → Type 0) (q : Bool) (x y : X) → (q ≡ true → P x) → (q ≡ false → P y) → P (elim q [ true ↦ x | false ↦ y ])
@@ -16,49 +20,49 @@ either P true x y f g = f refl
 either P false x y f g = g refl
 
 -- ---- what sweep, part, join and cut keep, every list of calls keeps
-module _ {S V : Type 0} (r : Round) (rule : RuleSense S) (tally : TallySense V) (W : ℕ) (Safe : Net → Type 0) (Q : V → Type 0)
-    (safe-sweep : (Ls : Net) → Safe Ls → Safe (sweep r rule tally Ls))
-    (safe-cut : (c : V) (Ls : Net) → Q c → Safe Ls → Safe (cut r rule tally c Ls))
-    (safe-partAt : (d a : ℕ) (Ls : Net) → a < length (get_or Ls (suc d) []) → length (get_or Ls (suc d) []) < W → one_group r rule tally d a (firsts r rule tally) Ls ≡ false → Safe Ls → Safe (part_at r rule tally d a (firsts r rule tally) Ls))
+module _ {S V : Type 0} (by : Setting S V) (Safe : Net → Type 0) (Q : V → Type 0)
+    (safe-sweep : (Ls : Net) → Safe Ls → Safe (sweep by Ls))
+    (safe-cut : (c : V) (Ls : Net) → Q c → Safe Ls → Safe (cut by c Ls))
+    (safe-partAt : (d a : ℕ) (Ls : Net) → a < length (get_or Ls (suc d) []) → length (get_or Ls (suc d) []) < by.width → one_group by d a (firsts by.rule by.tally) Ls ≡ false → Safe Ls → Safe (part_at by d a (firsts by.rule by.tally) Ls))
     (safe-join_at : (d lo hi : ℕ) (Ls : Net) → lo < hi → hi < length (get_or Ls (suc d) []) → clash (node (get_or Ls (suc d) []) lo) (node (get_or Ls (suc d) []) hi) ≡ false → Safe Ls → Safe (join_at d lo hi Ls)) where
-  pub safe-part : (i a : ℕ) (Ls : Net) → Safe Ls → Safe (unless r rule tally W Ls (part r rule tally W i a Ls))
+  pub safe-part : (i a : ℕ) (Ls : Net) → Safe Ls → Safe (unless by Ls (part by i a Ls))
   unfolding part
   safe-part i a Ls s =
-      let ei : bad_layer r rule tally i ≡ false → suc (i - 1) ≡ i = λ e. grind (arith, nat_tests) in
+      let ei : bad_layer by i ≡ false → suc (i - 1) ≡ i = λ e. grind (arith, nat_tests) in
       grind (arith, nat_tests, s, ei, safe-partAt (i - 1) (a - 1) Ls)
 
-  pub safe-swept : (k : ℕ) (Ls : Net) → Safe Ls → Safe (swept r rule tally W k Ls)
+  pub safe-swept : (k : ℕ) (Ls : Net) → Safe Ls → Safe (swept by k Ls)
   unfolding swept
   safe-swept zero Ls s = s
-  safe-swept (suc k) Ls s = let q = safe-sweep Ls s in grind (arith, q, safe-swept k (sweep r rule tally Ls) q)
+  safe-swept (suc k) Ls s = let q = safe-sweep Ls s in grind (arith, q, safe-swept k (sweep by Ls) q)
 
-  pub safe-parted : (k i a : ℕ) (Ls : Net) → 1 ≤ i → Safe Ls → Safe (parted r rule tally W k i a Ls).1
+  pub safe-parted : (k i a : ℕ) (Ls : Net) → 1 ≤ i → Safe Ls → Safe (parted by k i a Ls).1
   unfolding parted
   safe-parted zero i a Ls o s = s
   safe-parted (suc k) i a Ls o s =
       let ei : suc (i - 1) ≡ i = omega arith in
       grind (arith, nat_tests, s, ei, safe-parted k i (suc a), safe-partAt (i - 1) a Ls)
 
-  pub safe-refines : (k i : ℕ) (Ls : Net) → 1 ≤ i → Safe Ls → Safe (refines r rule tally W k i Ls).1
+  pub safe-refines : (k i : ℕ) (Ls : Net) → 1 ≤ i → Safe Ls → Safe (refines by k i Ls).1
   unfolding refines
   safe-refines zero i Ls o s = s
   safe-refines (suc k) i Ls o s =
-      let sp = safe-parted W i 0 (sweep r rule tally Ls) o (safe-sweep Ls s) in
+      let sp = safe-parted by.width i 0 (sweep by Ls) o (safe-sweep Ls s) in
       grind (arith, sp, safe-refines k (suc i))
 
-  pub safe-refine : (Ls : Net) → Safe Ls → Safe (refine r rule tally W Ls).1
+  pub safe-refine : (Ls : Net) → Safe Ls → Safe (refine by Ls).1
   unfolding refine
   safe-refine Ls s =
-      let p = refines r rule tally W (r.n - 1) 1 Ls in
-      safe-swept (suc (count_arcs p.1)) p.1 (safe-refines (r.n - 1) 1 Ls (omega arith) s)
+      let p = refines by (by.round.n - 1) 1 Ls in
+      safe-swept (suc (count_arcs p.1)) p.1 (safe-refines (by.round.n - 1) 1 Ls (omega arith) s)
 
-  pub safe-join : (i a b : ℕ) (Ls : Net) → Safe Ls → Safe (unless r rule tally W Ls (join r rule tally W i a b Ls))
+  pub safe-join : (i a b : ℕ) (Ls : Net) → Safe Ls → Safe (unless by Ls (join by i a b Ls))
   unfolding join
   safe-join i a b Ls s =
-      let ei : bad_layer r rule tally i ≡ false → suc (i - 1) ≡ i = λ e. grind (arith, nat_tests) in
+      let ei : bad_layer by i ≡ false → suc (i - 1) ≡ i = λ e. grind (arith, nat_tests) in
       grind (arith, nat_tests, s, ei, safe-join_at (i - 1) (min a b - 1) (max a b - 1) Ls)
 
-  pub safe-act : (c : Call V) (cs : List (Call V)) (Ls : Net) → EachCut Q (c ∷ cs) → Safe Ls → Safe (act r rule tally W c Ls) × EachCut Q cs
+  pub safe-act : (c : Call V) (cs : List (Call V)) (Ls : Net) → EachCut Q (c ∷ cs) → Safe Ls → Safe (act by c Ls) × EachCut Q cs
   unfolding act
   safe-act Sweep cs Ls u s = (safe-sweep Ls s, u)
   safe-act (Part i a) cs Ls u s = (safe-part i a Ls s, u)
@@ -66,9 +70,9 @@ module _ {S V : Type 0} (r : Round) (rule : RuleSense S) (tally : TallySense V) 
   safe-act (Cut c) cs Ls u s = (safe-cut c Ls u.0 s, u.1)
   safe-act Refine cs Ls u s = (safe-refine Ls s, u)
 
-  pub safe-after : (cs : List (Call V)) (Ls : Net) → EachCut Q cs → Safe Ls → Safe (after r rule tally W cs Ls)
+  pub safe-after : (cs : List (Call V)) (Ls : Net) → EachCut Q cs → Safe Ls → Safe (after by cs Ls)
   safe-after [] Ls u s = s
-  safe-after (c ∷ cs) Ls u s = let x = safe-act c cs Ls u s in safe-after cs (act r rule tally W c Ls) x.1 x.0
+  safe-after (c ∷ cs) Ls u s = let x = safe-act c cs Ls u s in safe-after cs (act by c Ls) x.1 x.0
 
 -- ---- how many layers
 tidy-length : (fr : List (Option Mark)) (Ls : Net) → length (tidy fr Ls) ≡ length Ls
@@ -89,18 +93,18 @@ join-length zero lo hi (L ∷ []) = refl
 join-length zero lo hi (L ∷ M ∷ Ls) = refl
 join-length (suc d) lo hi (L ∷ Ls) = ap suc (join-length d lo hi Ls)
 
-module _ {S V : Type 0} (r : Round) (rule : RuleSense S) (tally : TallySense V) where
-  pub sweeps-length : (i : ℕ) (labs : List (Option (Lab r rule tally))) (Ls : Net) → length (sweeps r rule tally i labs Ls) ≡ length Ls
-  unfolding sweeps
+module _ {S V : Type 0} (by : Setting S V) where
+  pub sweeps-length : (i : ℕ) (labs : List (Option (Down S V))) (Ls : Net) → length (sweeps by i labs Ls) ≡ length Ls
+  unfolding thinned
   sweeps-length i labs [] = refl
-  sweeps-length i labs (L ∷ Ls) = ap suc (sweeps-length (suc i) (labels_next r rule tally labs L (width Ls)) Ls)
+  sweeps-length i labs (L ∷ Ls) = ap suc (sweeps-length (suc i) (labels_next by labs L (width Ls)) Ls)
 
-  pub cuts-length : (c : V) (labs : List (Option (Lab r rule tally))) (Ls : Net) → length (cuts r rule tally c labs Ls) ≡ length Ls
-  unfolding cuts
+  pub cuts-length : (c : V) (labs : List (Option (Down S V))) (Ls : Net) → length (cuts by c labs Ls) ≡ length Ls
+  unfolding trimmed
   cuts-length c labs [] = refl
-  cuts-length c labs (L ∷ Ls) = ap suc (cuts-length c (labels_next r rule tally labs L (width Ls)) Ls)
+  cuts-length c labs (L ∷ Ls) = ap suc (cuts-length c (labels_next by labs L (width Ls)) Ls)
 
-  module _ (W : ℕ) where
+  module _ where
     pub any-cut : (cs : List (Call V)) → EachCut (λ c. Unit {0}) cs
     any-cut [] = tt
     any-cut (Sweep ∷ cs) = any-cut cs

@@ -5,13 +5,16 @@ use Rattle.round.specs.declared.table.Round.{Round}
 use Rattle.rules.specs.Rules.{RuleLaws, RuleSense}
 use Rattle.tallies.specs.Tallies.{TallySense}
 use Rattle.layers.specs.Flow.{Layer, Net, node, target, width, redirect, ins, Mark, marks_next, marks_up, flags, rank, compress, renumber, tidy, tidied, Tied}
-use Rattle.layers.specs.Labels.{ups, Lab, first, firsts, arrive, merge, labels_next, barred, first_arrival, leaves}
+use Rattle.layers.specs.Labels.{ups, first, firsts, arrive, merge, labels_next, barred, first_arrival, leaves}
 use Rattle.layers.proofs.Flows.{Among, has-arc, ins-from, next-some, gather-all, compress-at}
 use Rattle.layers.proofs.Ways.{length-snoc}
-use Rattle.layers.proofs.Model.{sweeps, sweep, part_at, agreed, agrees}
+use Rattle.layers.proofs.Model.{sweeps, sweep, part_at, agrees}
 use Rattle.layers.proofs.Tied.{redirect-back, compress-back, renumber-back}
 use Rattle.layers.proofs.Ties.{more-back}
 use Rattle.layers.proofs.Agreeing.{Agree, agree-self, agree-back, agree-merge, agree-arrive, by-pairs}
+use Rattle.layers.specs.Calls.{agreed_below, thinned, parted_at, agreed_all}
+use Rattle.layers.specs.Settings.{Setting}
+use Rattle.layers.specs.declared.node.Down.{Down}
 
 -- ---- each arc of one diagram is an arc of another, where f and its like say which node a node was
 abbrev pub Sub : (ℕ → ℕ) → Net → Net → Type 0
@@ -71,26 +74,26 @@ tied-tail : (L : Layer) (Ls : Net) → Tied (L ∷ Ls) → Tied Ls
 tied-tail L [] t = tt
 tied-tail L (M ∷ Ls) t = t.3
 
-module _ {S V : Type 0} (r : Round) (rule : RuleSense S) (tally : TallySense V) where
+module _ {S V : Type 0} (by : Setting S V) where
   -- sweeping, before tidying
-  sub-sweeps : (i : ℕ) (labs : List (Option (Lab r rule tally))) (Ls : Net) → Sub (λ a. a) (sweeps r rule tally i labs Ls) Ls
-  unfolding sweeps
+  sub-sweeps : (i : ℕ) (labs : List (Option (Down S V))) (Ls : Net) → Sub (λ a. a) (sweeps by i labs Ls) Ls
+  unfolding thinned
   sub-sweeps i labs [] = tt
-  sub-sweeps i labs (L ∷ Ls) = (λ b. b, stays, sub-sweeps (suc i) (labels_next r rule tally labs L (width Ls)) Ls)
+  sub-sweeps i labs (L ∷ Ls) = (λ b. b, stays, sub-sweeps (suc i) (labels_next by labs L (width Ls)) Ls)
     where
       f : ℕ → ℕ → ℕ → ℕ
-      f a j b = cond (barred r rule tally i (suc (length Ls)) j (get_or labs a None) (get_or (ups Ls) b None)) 0 (suc b)
+      f a j b = cond (barred by.round by.rule i (suc (length Ls)) j (get_or labs a None) (get_or (ups Ls) b None)) 0 (suc b)
 
       same : (q : Bool) (b c : ℕ) → cond q 0 (suc b) ≡ suc c → b ≡ c
       same true b c e = absurd (omega arith)
       same false b c e = omega arith
 
       stays : (a j b : ℕ) → target (node (redirect f L) a) j ≡ suc b → target (node L a) j ≡ suc b
-      stays a j b e = let s = redirect-back f L a j b e in s.1 ∙ ap suc (same (barred r rule tally i (suc (length Ls)) j (get_or labs a None) (get_or (ups Ls) s.0 None)) s.0 b s.2)
+      stays a j b e = let s = redirect-back f L a j b e in s.1 ∙ ap suc (same (barred by.round by.rule i (suc (length Ls)) j (get_or labs a None) (get_or (ups Ls) s.0 None)) s.0 b s.2)
 
   -- parting
-  sub_part : (d a : ℕ) (labs : List (Option (Lab r rule tally))) (Ls : Net) → Tied Ls → Sub (λ a. a) (part_at r rule tally d a labs Ls) Ls
-  unfolding part_at
+  sub_part : (d a : ℕ) (labs : List (Option (Down S V))) (Ls : Net) → Tied Ls → Sub (λ a. a) (part_at by d a labs Ls) Ls
+  unfolding parted_at
   sub_part zero a labs [] t = tt
   sub_part (suc d) a labs [] t = tt
   sub_part zero a labs (L ∷ []) t = sub_self (L ∷ [])
@@ -106,16 +109,16 @@ module _ {S V : Type 0} (r : Round) (rule : RuleSense S) (tally : TallySense V) 
       g-old : (c : ℕ) → c < length M → g c ≡ c
       g-old c h = ap (λ (q : Bool). cond q a c) (ne_eqb c (length M) (λ e. omega arith))
 
-      h : Option (Lab r rule tally)
-      h = first_arrival r rule tally (ins (arrive r rule tally) a labs L)
+      h : Option (Down S V)
+      h = first_arrival (ins (arrive by) a labs L)
 
       f : ℕ → ℕ → ℕ → ℕ
-      f u j b = cond (eqb b a && leaves r rule tally h (get_or labs u None) j) (suc (length M)) (suc b)
+      f u j b = cond (eqb b a && leaves by h (get_or labs u None) j) (suc (length M)) (suc b)
 
       before : (u j c : ℕ) → target (node (redirect f L) u) j ≡ suc c → target (node L u) j ≡ suc (g c)
       before u j c e =
           let s = redirect-back f L u j c e in
-          s.1 ∙ ap suc (go (eqb s.0 a && leaves r rule tally h (get_or labs u None) j) refl s.0 (t.0 u j s.0 s.1) (λ q. eqb-true s.0 a (and_parts (eqb s.0 a) (leaves r rule tally h (get_or labs u None) j) q).0) s.2)
+          s.1 ∙ ap suc (go (eqb s.0 a && leaves by h (get_or labs u None) j) refl s.0 (t.0 u j s.0 s.1) (λ q. eqb-true s.0 a (and_parts (eqb s.0 a) (leaves by h (get_or labs u None) j) q).0) s.2)
         where
           go : (q : Bool) {p : Bool} → p ≡ q → (b : ℕ) → b < length M → (p ≡ true → b ≡ a) → cond q (suc (length M)) (suc b) ≡ suc c → b ≡ g c
           go true w b k n e = let z : length M ≡ c = omega arith in n w ∙ sym g-new ∙ ap g z
@@ -127,17 +130,17 @@ module _ {S V : Type 0} (r : Round) (rule : RuleSense S) (tally : TallySense V) 
             | inl q ↦ rw ((g-old c q.0), ← q.1) e
             | inr q ↦ rw ((ap g q.0 ∙ g-new), ← q.1) e
           ]
-  sub_part (suc d) a labs (L ∷ Ls) t = (λ b. b, λ x j b e. e, sub_part d a (labels_next r rule tally labs L (width Ls)) Ls (tied-tail L Ls t))
+  sub_part (suc d) a labs (L ∷ Ls) t = (λ b. b, λ x j b e. e, sub_part d a (labels_next by labs L (width Ls)) Ls (tied-tail L Ls t))
 
-module _ {S V : Type 0} {Keeps : List ℕ → Type 0} {Stands : S → List ℕ → Type 0} (r : Round) (rule : RuleSense S) (ruled : RuleLaws r.n rule Keeps Stands) (tally : TallySense V) where
+module _ {S V : Type 0} {Keeps : List ℕ → Type 0} {Stands : S → List ℕ → Type 0} (by : Setting S V) (ruled : RuleLaws by.round.n by.rule Keeps Stands) where
   -- ---- keys: K of the nodes of the first layer, and of i layers more; the end has none
-  abbrev pub Keyed : ℕ → (ℕ → Lab r rule tally) → Net → Type 0
+  abbrev pub Keyed : ℕ → (ℕ → Down S V) → Net → Type 0
   Keyed zero K Ls = Unit {0}
   Keyed (suc i) K [] = Unit {0}
   Keyed (suc i) K (L ∷ []) = Unit {0}
-  Keyed (suc i) K (L ∷ M ∷ Ls) = (K' : ℕ → Lab r rule tally) × ((a j b : ℕ) → target (node L a) j ≡ suc b → Agree r rule ruled tally (arrive r rule tally (K a) j) (K' b)) × Keyed i K' (M ∷ Ls)
+  Keyed (suc i) K (L ∷ M ∷ Ls) = (K' : ℕ → Down S V) × ((a j b : ℕ) → target (node L a) j ≡ suc b → Agree by ruled (arrive by (K a) j) (K' b)) × Keyed i K' (M ∷ Ls)
 
-  keyed-sub : (i : ℕ) (K : ℕ → Lab r rule tally) (f : ℕ → ℕ) (Ms Ls : Net) → Sub f Ms Ls → Keyed i K Ls → Keyed i (λ a. K (f a)) Ms
+  keyed-sub : (i : ℕ) (K : ℕ → Down S V) (f : ℕ → ℕ) (Ms Ls : Net) → Sub f Ms Ls → Keyed i K Ls → Keyed i (λ a. K (f a)) Ms
   keyed-sub zero K f Ms Ls s k = tt
   keyed-sub (suc i) K f [] Ls s k = tt
   keyed-sub (suc i) K f (M ∷ []) Ls s k = tt
@@ -148,49 +151,49 @@ module _ {S V : Type 0} {Keeps : List ℕ → Type 0} {Stands : S → List ℕ �
 
   -- from the first node on
   abbrev pub KeyedTo : ℕ → Net → Type 0
-  KeyedTo i Ls = Keyed i (λ a. first r rule tally) Ls
+  KeyedTo i Ls = Keyed i (λ a. first by.rule by.tally) Ls
 
-  pub keyed-sweep : (i : ℕ) (Ls : Net) → KeyedTo i Ls → KeyedTo i (sweep r rule tally Ls)
+  pub keyed-sweep : (i : ℕ) (Ls : Net) → KeyedTo i Ls → KeyedTo i (sweep by Ls)
   unfolding sweep
   keyed-sweep i Ls k =
-      let Ms = sweeps r rule tally 0 (firsts r rule tally) Ls in
-      keyed-sub i (λ a. first r rule tally) (λ a. a) (tidied Ms) Ms (sub-tidied Ms) (keyed-sub i (λ a. first r rule tally) (λ a. a) Ms Ls (sub-sweeps r rule tally 0 (firsts r rule tally) Ls) k)
+      let Ms = sweeps by 0 (firsts by.rule by.tally) Ls in
+      keyed-sub i (λ a. first by.rule by.tally) (λ a. a) (tidied Ms) Ms (sub-tidied Ms) (keyed-sub i (λ a. first by.rule by.tally) (λ a. a) Ms Ls (sub-sweeps by 0 (firsts by.rule by.tally) Ls) k)
 
-  pub keyed-part : (i d a : ℕ) (Ls : Net) → Tied Ls → KeyedTo i Ls → KeyedTo i (part_at r rule tally d a (firsts r rule tally) Ls)
-  keyed-part i d a Ls t k = keyed-sub i (λ a. first r rule tally) (λ a. a) (part_at r rule tally d a (firsts r rule tally) Ls) Ls (sub_part r rule tally d a (firsts r rule tally) Ls t) k
+  pub keyed-part : (i d a : ℕ) (Ls : Net) → Tied Ls → KeyedTo i Ls → KeyedTo i (part_at by d a (firsts by.rule by.tally) Ls)
+  keyed-part i d a Ls t k = keyed-sub i (λ a. first by.rule by.tally) (λ a. a) (part_at by d a (firsts by.rule by.tally) Ls) Ls (sub_part by d a (firsts by.rule by.tally) Ls t) k
 
   -- ---- the labels worked out agree with the keys
-  abbrev pub Fit : List (Option (Lab r rule tally)) → (ℕ → Lab r rule tally) → Type 0
-  Fit labs K = (a : ℕ) (l : Lab r rule tally) → get_or labs a None ≡ Some l → Agree r rule ruled tally (K a) l
+  abbrev pub Fit : List (Option (Down S V)) → (ℕ → Down S V) → Type 0
+  Fit labs K = (a : ℕ) (l : Down S V) → get_or labs a None ≡ Some l → Agree by ruled (K a) l
 
-  pub fit-first : Fit (firsts r rule tally) (λ a. first r rule tally)
-  fit-first zero l e = let z : first r rule tally ≡ l = cc in rw (← z) (agree-self r rule ruled tally (first r rule tally))
+  pub fit-first : Fit (firsts by.rule by.tally) (λ a. first by.rule by.tally)
+  fit-first zero l e = let z : first by.rule by.tally ≡ l = cc in rw (← z) (agree-self by ruled (first by.rule by.tally))
   fit-first (suc a) l e = absurd cc
 
-  module _ (labs : List (Option (Lab r rule tally))) (K K' : ℕ → Lab r rule tally) (fit : Fit labs K) (L : Layer) (on : (a j b : ℕ) → target (node L a) j ≡ suc b → Agree r rule ruled tally (arrive r rule tally (K a) j) (K' b)) where
+  module _ (labs : List (Option (Down S V))) (K K' : ℕ → Down S V) (fit : Fit labs K) (L : Layer) (on : (a j b : ℕ) → target (node L a) j ≡ suc b → Agree by ruled (arrive by (K a) j) (K' b)) where
     -- so does each arrival
-    arrival-fits : (b : ℕ) (x : Lab r rule tally) → Among x (ins (arrive r rule tally) b labs L) → Agree r rule ruled tally (K' b) x
+    arrival-fits : (b : ℕ) (x : Down S V) → Among x (ins (arrive by) b labs L) → Agree by ruled (K' b) x
     arrival-fits b x i =
-        let f = ins-from (arrive r rule tally) b labs L x i in
-        let p = agree-arrive r rule ruled tally (K f.source) f.label f.door (fit f.source f.label f.labelled) in
-        rw f.is (agree-back r rule ruled tally (arrive r rule tally (K f.source) f.door) (K' b) (arrive r rule tally f.label f.door) (on f.source f.door b f.arc) p)
+        let f = ins-from (arrive by) b labs L x i in
+        let p = agree-arrive by ruled (K f.source) f.label f.door (fit f.source f.label f.labelled) in
+        rw f.is (agree-back by ruled (arrive by (K f.source) f.door) (K' b) (arrive by f.label f.door) (on f.source f.door b f.arc) p)
 
-    pub fit_next : (count : ℕ) → Fit (labels_next r rule tally labs L count) K'
+    pub fit_next : (count : ℕ) → Fit (labels_next by labs L count) K'
     unfolding labels_next
-    fit_next count b m e = gather-all (merge r rule tally) (Agree r rule ruled tally (K' b)) (agree-merge r rule ruled tally (K' b)) (ins (arrive r rule tally) b labs L) m (arrival-fits b) (next-some (arrive r rule tally) (merge r rule tally) labs L count b m e)
+    fit_next count b m e = gather-all (merge by.rule by.tally) (Agree by ruled (K' b)) (agree-merge by ruled (K' b)) (ins (arrive by) b labs L) m (arrival-fits b) (next-some (arrive by) (merge by.rule by.tally) labs L count b m e)
 
-    agreed-keyed : (k : ℕ) → agreed r rule tally labs L k ≡ true
-    unfolding agreed
+    agreed-keyed : (k : ℕ) → agreed_below by labs L k ≡ true
+    unfolding agreed_below
     agreed-keyed zero = refl
-    agreed-keyed (suc b) = rw (by-pairs r rule ruled tally (ins (arrive r rule tally) b labs L) (λ y z i k. agree-back r rule ruled tally (K' b) y z (arrival-fits b y i) (arrival-fits b z k))) (agreed-keyed b)
+    agreed-keyed (suc b) = rw (by-pairs by ruled (ins (arrive by) b labs L) (λ y z i k. agree-back by ruled (K' b) y z (arrival-fits b y i) (arrival-fits b z k))) (agreed-keyed b)
 
-  agrees-keyed : (i : ℕ) (K : ℕ → Lab r rule tally) (labs : List (Option (Lab r rule tally))) (Ls : Net) → length Ls ≤ suc i → Fit labs K → Keyed i K Ls → agrees r rule tally labs Ls ≡ true
-  unfolding agrees
+  agrees-keyed : (i : ℕ) (K : ℕ → Down S V) (labs : List (Option (Down S V))) (Ls : Net) → length Ls ≤ suc i → Fit labs K → Keyed i K Ls → agrees by labs Ls ≡ true
+  unfolding agreed_all
   agrees-keyed i K labs [] h fit k = refl
   agrees-keyed i K labs (L ∷ []) h fit k = refl
   agrees-keyed zero K labs (L ∷ M ∷ Ls) h fit k = absurd (omega arith)
   agrees-keyed (suc i) K labs (L ∷ M ∷ Ls) h fit k =
-      rw (agreed-keyed labs K k.0 fit L k.1 (length M)) (agrees-keyed i k.0 (labels_next r rule tally labs L (length M)) (M ∷ Ls) (omega arith) (fit_next labs K k.0 fit L k.1 (length M)) k.2)
+      rw (agreed-keyed labs K k.0 fit L k.1 (length M)) (agrees-keyed i k.0 (labels_next by labs L (length M)) (M ∷ Ls) (omega arith) (fit_next labs K k.0 fit L k.1 (length M)) k.2)
 
-  pub keyed-agrees : (i : ℕ) (Ls : Net) → length Ls ≤ suc i → KeyedTo i Ls → agrees r rule tally (firsts r rule tally) Ls ≡ true
-  keyed-agrees i Ls h k = agrees-keyed i (λ a. first r rule tally) (firsts r rule tally) Ls h fit-first k
+  pub keyed-agrees : (i : ℕ) (Ls : Net) → length Ls ≤ suc i → KeyedTo i Ls → agrees by (firsts by.rule by.tally) Ls ≡ true
+  keyed-agrees i Ls h k = agrees-keyed i (λ a. first by.rule by.tally) (firsts by.rule by.tally) Ls h fit-first k

@@ -5,11 +5,14 @@ use Rattle.rules.specs.Rules.{RuleSense}
 use Rattle.tallies.specs.Tallies.{TallySense}
 use Rattle.layers.specs.declared.node.Up.{Up}
 use Rattle.layers.specs.Flow.{table, Layer, Net, node, width, PathFrom, redirect, up, Mark, marks_next, marks_up, flags, compress, renumber, tidy, tidied, moved, both_out, join_at, Led, Tied, Roomy}
-use Rattle.layers.specs.Labels.{Lab, arrive, merge, labels_next, climb, merge_up, no_up, ups, all_doors}
+use Rattle.layers.specs.Labels.{arrive, merge, labels_next, climb, merge_up, no_up, ups, all_doors}
 use Rattle.layers.proofs.Flows.{next-at, up_at, has-arc}
 use Rattle.layers.proofs.Model.{sweeps, cuts}
 use Rattle.layers.proofs.Tied.{redirect-length}
 use Rattle.layers.proofs.Ties.{drop-length}
+use Rattle.layers.specs.Settings.{Setting}
+use Rattle.layers.specs.declared.node.Down.{Down}
+use Rattle.layers.specs.Calls.{thinned, trimmed}
 
 compress-short : (fs : List Bool) (L : Layer) (m : ℕ) → length L ≤ m → length (compress fs L) ≤ m
 unfolding compress
@@ -45,29 +48,29 @@ module _ (W : ℕ) where
       (omega (arith, h.0, redirect-length (λ a j b. suc (moved lo hi b)) L), (omega (arith, h.1.0, drop-length hi (set M lo v) (omega (arith, length-set M lo v)), length-set M lo v), h.1.1))
   roomy-join (suc d) lo hi (L ∷ Ls) k h = (h.0, roomy-join d lo hi Ls k h.1)
 
-module _ {S V : Type 0} (r : Round) (rule : RuleSense S) (tally : TallySense V) (W : ℕ) (w : 1 ≤ W) where
-  pub roomy-sweeps : (i : ℕ) (labs : List (Option (Lab r rule tally))) (Ls : Net) → Roomy W Ls → Roomy W (sweeps r rule tally i labs Ls)
-  unfolding sweeps
+module _ {S V : Type 0} (by : Setting S V) (w : 1 ≤ by.width) where
+  pub roomy-sweeps : (i : ℕ) (labs : List (Option (Down S V))) (Ls : Net) → Roomy by.width Ls → Roomy by.width (sweeps by i labs Ls)
+  unfolding thinned
   roomy-sweeps i labs [] h = tt
-  roomy-sweeps i labs (L ∷ Ls) h = (simp redirect-length h.0, roomy-sweeps (suc i) (labels_next r rule tally labs L (width Ls)) Ls h.1)
+  roomy-sweeps i labs (L ∷ Ls) h = (simp redirect-length h.0, roomy-sweeps (suc i) (labels_next by labs L (width Ls)) Ls h.1)
 
-  pub roomy-cuts : (c : V) (labs : List (Option (Lab r rule tally))) (Ls : Net) → Roomy W Ls → Roomy W (cuts r rule tally c labs Ls)
-  unfolding cuts
+  pub roomy-cuts : (c : V) (labs : List (Option (Down S V))) (Ls : Net) → Roomy by.width Ls → Roomy by.width (cuts by c labs Ls)
+  unfolding trimmed
   roomy-cuts c labs [] h = tt
-  roomy-cuts c labs (L ∷ Ls) h = (simp redirect-length h.0, roomy-cuts c (labels_next r rule tally labs L (width Ls)) Ls h.1)
+  roomy-cuts c labs (L ∷ Ls) h = (simp redirect-length h.0, roomy-cuts c (labels_next by labs L (width Ls)) Ls h.1)
 
-  pub roomy-open : (k : ℕ) → Roomy W (table k (λ i. all_doors r rule tally ∷ []))
+  pub roomy-open : (k : ℕ) → Roomy by.width (table k (λ i. all_doors by.round.n ∷ []))
   roomy-open zero = tt
   roomy-open (suc k) = (w, roomy-open k)
 
   -- so every node has a label, from below and from above
-  pub labels_full : (labs : List (Option (Lab r rule tally))) (L M : Layer) (Ls : Net) → Tied (L ∷ M ∷ Ls) → ((a : ℕ) → a < length L → (l : Lab r rule tally) × (get_or labs a None ≡ Some l))
-      → (b : ℕ) → b < length M → (m : Lab r rule tally) × (get_or (labels_next r rule tally labs L (length M)) b None ≡ Some m)
+  pub labels_full : (labs : List (Option (Down S V))) (L M : Layer) (Ls : Net) → Tied (L ∷ M ∷ Ls) → ((a : ℕ) → a < length L → (l : Down S V) × (get_or labs a None ≡ Some l))
+      → (b : ℕ) → b < length M → (m : Down S V) × (get_or (labels_next by labs L (length M)) b None ≡ Some m)
   unfolding labels_next
   labels_full labs L M Ls t f b h =
       let s = t.1 b h in
       let l = f s.0 (has-arc L s.0 s.1 b s.2) in
-      let n = next-at {A = Lab r rule tally} (merge r rule tally) (λ x y. Unit {0}) (λ x. tt) (λ x y z f g. tt) (λ x y. tt) (λ x y. tt) (arrive r rule tally) labs L (length M) s.0 s.1 b l.0 s.2 l.1 h in
+      let n = next-at {A = Down S V} (merge by.rule by.tally) (λ x y. Unit {0}) (λ x. tt) (λ x y z f g. tt) (λ x y. tt) (λ x y. tt) (arrive by) labs L (length M) s.0 s.1 b l.0 s.2 l.1 h in
       (n.0, n.1)
 
 pub ups-full : (M : Layer) (Ls : Net) → Led M → Tied (M ∷ Ls) → (a : ℕ) → a < length M → (u : Up) × (get_or (ups (M ∷ Ls)) a None ≡ Some u)

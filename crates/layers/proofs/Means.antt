@@ -10,15 +10,17 @@ use Rattle.rules.specs.Rules.{RuleLaws, RuleSense}
 use Rattle.tallies.specs.Tallies.{TallyLaws, TallySense}
 use Rattle.layers.specs.declared.node.Up.{Up}
 use Rattle.layers.specs.Flow.{Layer, Net, node, target, width, PathFrom, ins, gather, outs, up, Ranged, Tied}
-use Rattle.layers.specs.Labels.{one, climb, merge_up, no_up, ups, Lab, first, arrive, merge, firsts, labels_next}
-use Rattle.layers.specs.Records.{or_no_up}
+use Rattle.layers.specs.Labels.{bit_of, climb, merge_up, no_up, ups, first, arrive, merge, firsts, labels_next}
 use Rattle.layers.specs.LabelLaws.{PathTo, LeadsTo, OnEvery, OnOne, Exactly}
 use Rattle.doors.proofs.Orders.{in_left}
 use Rattle.layers.proofs.Flows.{Climbs, outs-from, map-some, From, ins-from, next-some, next-at, gather-all}
 use Rattle.layers.proofs.Sets.{or_left, or_right, or_split, and_left, and_right, one-self, one_only, none_has}
 use Rattle.layers.proofs.Ways.{in_split, in-snd, length-snoc}
 use Rattle.layers.proofs.Walk.{NeatLayer, Neat, path-up, Good, good-first, good-next}
-use Rattle.layers.proofs.Bridge.{Labs, labsAt}
+use Rattle.layers.proofs.Bridge.{Labs}
+use Rattle.layers.proofs.Model.{or_no_up, labels_at}
+use Rattle.layers.specs.Settings.{Setting}
+use Rattle.layers.specs.declared.node.Down.{Down}
 
 and_both : (a b j : ℕ) → has a j ≡ true → has b j ≡ true → has (bit_and a b) j ≡ true
 and_both a b j x y = true-has (bit_and a b) j (omega (arith, digit_and a b j, has-true a j x, has-true b j y))
@@ -48,7 +50,7 @@ owed-merge a s a' s' P x y = record {
   some-from = λ j h. elim (or_split s s' j h) [ inl p ↦ x.some-from j p | inr p ↦ y.some-from j p ];
 }
 
--- one door k more, at either end of the path
+-- bit_of door k more, at either end of the path
 pub record Longer (k : ℕ) (more : List ℕ → List ℕ) : Type 0 where
   pub here : (w : List ℕ) → In k (more w)
   pub stays : (j : ℕ) (w : List ℕ) → In j w → In j (more w)
@@ -64,23 +66,23 @@ at_back k = record {
   only = λ j w i. elim (in_split j w (k ∷ []) i) [ inl x ↦ inr x | inr x ↦ elim x [ inl e ↦ inl e | inr y ↦ absurd y ] ];
 }
 
-owed-step : (a s k : ℕ) (P Q : List ℕ → Type 0) (more : List ℕ → List ℕ) → Longer k more → ((w : List ℕ) → P w → Q (more w)) → Owed a s P → Owed (bit_or a (one k)) (bit_or s (one k)) Q
+owed-step : (a s k : ℕ) (P Q : List ℕ → Type 0) (more : List ℕ → List ℕ) → Longer k more → ((w : List ℕ) → P w → Q (more w)) → Owed a s P → Owed (bit_or a (bit_of k)) (bit_or s (bit_of k)) Q
 owed-step a s k P Q more l to o = record {
   way = (more o.way.0, to o.way.0 o.way.1);
   all-if = λ j f. elim (cases_eq j k) [
-    | inl e ↦ or_right a (one k) j (rw e (one-self k))
-    | inr n ↦ or_left a (one k) j (o.all-if j (λ w p. elim (l.only j w (f (more w) (to w p))) [ inl e ↦ absurd (n e) | inr h ↦ h ]))
+    | inl e ↦ or_right a (bit_of k) j (rw e (one-self k))
+    | inr n ↦ or_left a (bit_of k) j (o.all-if j (λ w p. elim (l.only j w (f (more w) (to w p))) [ inl e ↦ absurd (n e) | inr h ↦ h ]))
   ];
-  some-from = λ j h. elim (or_split s (one k) j h) [
+  some-from = λ j h. elim (or_split s (bit_of k) j h) [
     | inl x ↦ let q = o.some-from j x in (more q.0, to q.0 q.1, l.stays j q.0 q.2)
     | inr x ↦ (more o.way.0, to o.way.0 o.way.1, rw (one_only k j x) (l.here o.way.0))
   ];
 }
 
-tells-step : (a s k : ℕ) (more : List ℕ → List ℕ) (w : List ℕ) → Longer k more → Tells a s w → Tells (bit_or a (one k)) (bit_or s (one k)) (more w)
+tells-step : (a s k : ℕ) (more : List ℕ → List ℕ) (w : List ℕ) → Longer k more → Tells a s w → Tells (bit_or a (bit_of k)) (bit_or s (bit_of k)) (more w)
 tells-step a s k more w l t = record {
-  all_in = λ j h. elim (or_split a (one k) j h) [ inl x ↦ l.stays j w (t.all_in j x) | inr x ↦ rw (one_only k j x) (l.here w) ];
-  in_some = λ j i. elim (l.only j w i) [ inl e ↦ or_right s (one k) j (rw e (one-self k)) | inr x ↦ or_left s (one k) j (t.in_some j x) ];
+  all_in = λ j h. elim (or_split a (bit_of k) j h) [ inl x ↦ l.stays j w (t.all_in j x) | inr x ↦ rw (one_only k j x) (l.here w) ];
+  in_some = λ j i. elim (l.only j w i) [ inl e ↦ or_right s (bit_of k) j (rw e (one-self k)) | inr x ↦ or_left s (bit_of k) j (t.in_some j x) ];
 }
 
 -- ---- paths to a node
@@ -123,64 +125,64 @@ neat-at n (L ∷ Ls) zero s h = s.0
 neat-at n (L ∷ Ls) (suc d) s h = neat-at n Ls d s.1 (le_of_suc-le-suc h)
 
 -- ---- downward
-module _ {S V : Type 0} {Keeps : List ℕ → Type 0} {Stands : S → List ℕ → Type 0} (r : Round) (rule : RuleSense S) (ruled : RuleLaws r.n rule Keeps Stands) (tally : TallySense V) (W : ℕ) (w1 : 1 ≤ W) where
-  abbrev At : ℕ → Net → Labs r rule tally W w1
-  At d D = labsAt r rule tally W w1 d (firsts r rule tally) D
+module _ {S V : Type 0} {Keeps : List ℕ → Type 0} {Stands : S → List ℕ → Type 0} (by : Setting S V) (ruled : RuleLaws by.round.n by.rule Keeps Stands) (w1 : 1 ≤ by.width) where
+  abbrev At : ℕ → Net → Labs by w1
+  At d D = labels_at by d (firsts by.rule by.tally) D
 
-  labs-step : (d : ℕ) (labs : Labs r rule tally W w1) (Ls : Net) → d < length Ls
-      → labsAt r rule tally W w1 (suc d) labs Ls ≡ labels_next r rule tally (labsAt r rule tally W w1 d labs Ls) (get_or Ls d []) (width (drop (suc d) Ls))
+  labs-step : (d : ℕ) (labs : Labs by w1) (Ls : Net) → d < length Ls
+      → labels_at by (suc d) labs Ls ≡ labels_next by (labels_at by d labs Ls) (get_or Ls d []) (width (drop (suc d) Ls))
   labs-step d labs [] h = absurd (not-suc-le-zero h)
   labs-step zero labs (L ∷ Ls) h = refl
-  labs-step (suc d) labs (L ∷ Ls) h = labs-step d (labels_next r rule tally labs L (width Ls)) Ls (le_of_suc-le-suc h)
+  labs-step (suc d) labs (L ∷ Ls) h = labs-step d (labels_next by labs L (width Ls)) Ls (le_of_suc-le-suc h)
 
   module _ (D : Net) where
     -- a label is owed to the paths to its node
-    pub owed-at : (d : ℕ) → d ≤ length D → (a : ℕ) (l : Lab r rule tally) → get_or (At d D) a None ≡ Some l → Owed l.all l.some (LeadsTo D d a)
+    pub owed-at : (d : ℕ) → d ≤ length D → (a : ℕ) (l : Down S V) → get_or (At d D) a None ≡ Some l → Owed l.all l.some (LeadsTo D d a)
     unfolding labels_next arrive merge
     owed-at zero h zero l e =
-        let x : first r rule tally ≡ l = cc in
+        let x : first by.rule by.tally ≡ l = cc in
         rw (← x) (record { way = ([], (refl, refl)); all-if = λ j f. absurd (f [] (refl, refl)); some-from = λ j g. absurd (none_has j g) })
     owed-at zero h (suc a) l e = absurd cc
     owed-at (suc d) h b m e =
         let L = get_or D d [] in
         let n = width (drop (suc d) D) in
-        let e' : get_or (labels_next r rule tally (At d D) L n) b None ≡ Some m = ap (λ (z : Labs r rule tally W w1). get_or z b None) (sym (labs-step d (firsts r rule tally) D h)) ∙ e in
-        gather-all (merge r rule tally) (λ x. Owed x.all x.some (LeadsTo D (suc d) b))
+        let e' : get_or (labels_next by (At d D) L n) b None ≡ Some m = ap (λ (z : Labs by w1). get_or z b None) (sym (labs-step d (firsts by.rule by.tally) D h)) ∙ e in
+        gather-all (merge by.rule by.tally) (λ x. Owed x.all x.some (LeadsTo D (suc d) b))
         (λ x y p q. owed-merge x.all x.some y.all y.some (LeadsTo D (suc d) b) p q)
-        (ins (arrive r rule tally) b (At d D) L) m
-        (λ x i. let f = ins-from (arrive r rule tally) b (At d D) L x i in each x f (owed-at d (omega arith) f.source f.label f.labelled))
-        (next-some (arrive r rule tally) (merge r rule tally) (At d D) L n b m e')
+        (ins (arrive by) b (At d D) L) m
+        (λ x i. let f = ins-from (arrive by) b (At d D) L x i in each x f (owed-at d (omega arith) f.source f.label f.labelled))
+        (next-some (arrive by) (merge by.rule by.tally) (At d D) L n b m e')
       where
-        each : (x : Lab r rule tally) (f : From (arrive r rule tally) b (At d D) (get_or D d []) x) → Owed f.label.all f.label.some (LeadsTo D d f.source) → Owed x.all x.some (LeadsTo D (suc d) b)
+        each : (x : Down S V) (f : From (arrive by) b (At d D) (get_or D d []) x) → Owed f.label.all f.label.some (LeadsTo D d f.source) → Owed x.all x.some (LeadsTo D (suc d) b)
         each x f o =
             rw f.is (owed-step f.label.all f.label.some f.door (LeadsTo D d f.source) (LeadsTo D (suc d) b) (λ w. w ++ (f.door ∷ [])) (at_back f.door)
             (λ w q. (path-push D 0 f.source f.door b w q.0 (rw q.1 f.arc), length-snoc w f.door ∙ ap suc q.1))
             o)
 
     -- a path to a node is told by its label
-    pub tells_at : Tied D → (d : ℕ) → d ≤ length D → (a : ℕ) (w : List ℕ) → LeadsTo D d a w → (l : Lab r rule tally) × (get_or (At d D) a None ≡ Some l) × Tells l.all l.some w
+    pub tells_at : Tied D → (d : ℕ) → d ≤ length D → (a : ℕ) (w : List ℕ) → LeadsTo D d a w → (l : Down S V) × (get_or (At d D) a None ≡ Some l) × Tells l.all l.some w
     unfolding labels_next arrive merge
-    tells_at t zero h a [] q = (first r rule tally, ap (λ (z : ℕ). get_or (firsts r rule tally) z None) (sym q.0), record { all_in = λ j g. absurd (none_has j g); in_some = λ j i. absurd i })
+    tells_at t zero h a [] q = (first by.rule by.tally, ap (λ (z : ℕ). get_or (firsts by.rule by.tally) z None) (sym q.0), record { all_in = λ j g. absurd (none_has j g); in_some = λ j i. absurd i })
     tells_at t zero h a (j ∷ w) q = absurd (omega (arith, q.1))
     tells_at t (suc d) h b w q =
         let L = get_or D d [] in
         let n = width (drop (suc d) D) in
         let s = path-last D 0 d b w q.0 q.1 in
         let x = tells_at t d (omega arith) s.source s.before (s.path, s.long) in
-        let y = next-at {A = Lab r rule tally} (merge r rule tally) (λ x y. (w : List ℕ) → Tells x.all x.some w → Tells y.all y.some w) (λ x w f. f) (λ x y z f g w h. g w (f w h))
+        let y = next-at {A = Down S V} (merge by.rule by.tally) (λ x y. (w : List ℕ) → Tells x.all x.some w → Tells y.all y.some w) (λ x w f. f) (λ x y z f g w h. g w (f w h))
         (λ x y w f. record { all_in = λ j h. f.all_in j (and_left x.all y.all j h); in_some = λ j i. or_left x.some y.some j (f.in_some j i) })
         (λ x y w f. record { all_in = λ j h. f.all_in j (and_right x.all y.all j h); in_some = λ j i. or_right x.some y.some j (f.in_some j i) })
-        (arrive r rule tally) (At d D) L n s.source s.door b x.0 s.arc x.1 (ranged-at D d t h s.source s.door b s.arc) in (
+        (arrive by) (At d D) L n s.source s.door b x.0 s.arc x.1 (ranged-at D d t h s.source s.door b s.arc) in (
           y.0,
-          rw (labs-step d (firsts r rule tally) D h) y.1,
-          y.2 w (subst (Tells (bit_or x.0.all (one s.door)) (bit_or x.0.some (one s.door))) (sym s.is) (tells-step x.0.all x.0.some s.door (λ w. w ++ (s.door ∷ [])) s.before (at_back s.door) x.2)),
+          rw (labs-step d (firsts by.rule by.tally) D h) y.1,
+          y.2 w (subst (Tells (bit_or x.0.all (bit_of s.door)) (bit_or x.0.some (bit_of s.door))) (sym s.is) (tells-step x.0.all x.0.some s.door (λ w. w ++ (s.door ∷ [])) s.before (at_back s.door) x.2)),
         )
 
     -- values and finishes
-    pub good-at : {Allows : ℕ → V → Type 0} (tallied : TallyLaws r.n tally Allows) → length D ≤ 16 → Neat r.n D → (d : ℕ) → d ≤ length D → Good r rule ruled tally tallied d (At d D)
-    good-at tallied k s zero h = good-first r rule ruled tally tallied
+    pub good-at : {Allows : ℕ → V → Type 0} (tallied : TallyLaws by.round.n by.tally Allows) → length D ≤ 16 → Neat by.round.n D → (d : ℕ) → d ≤ length D → Good by ruled tallied d (At d D)
+    good-at tallied k s zero h = good-first by ruled tallied
     good-at tallied k s (suc d) h =
-        rw (labs-step d (firsts r rule tally) D h) (good-next r rule ruled tally tallied d (At d D) (get_or D d []) (width (drop (suc d) D)) (omega arith) (good-at tallied k s d (omega arith)) (neat-at r.n D d s h))
+        rw (labs-step d (firsts by.rule by.tally) D h) (good-next by ruled tallied d (At d D) (get_or D d []) (width (drop (suc d) D)) (omega arith) (good-at tallied k s d (omega arith)) (neat-at by.round.n D d s h))
 
 -- ---- upward
 ups-node : (L : Layer) (Ls : Net) (a : ℕ) (u : Up) → get_or (ups (L ∷ Ls)) a None ≡ Some u → gather merge_up (outs climb (ups Ls) 1 (node L a)) ≡ Some u
@@ -211,7 +213,7 @@ tells-up Ls a u e w p =
     let x : q.0 ≡ u = cc q.1 in
     rw (← x) (record { all_in = q.2.all; in_some = q.2.some })
 
--- the sets of a node, also of one from which no path leads to the end
+-- the sets of a node, also of bit_of from which no path leads to the end
 pub up-exact : (Ls : Net) (a : ℕ) → let u = or_no_up (get_or (ups Ls) a None) in Exactly u.allup (OnEvery (PathFrom Ls a)) × Exactly u.someup (OnOne (PathFrom Ls a))
 up-exact Ls a = go (get_or (ups Ls) a None) refl
   where

@@ -4,18 +4,21 @@ use Rattle.round.specs.declared.table.Round.{Round}
 use Rattle.rules.specs.Rules.{RuleSense}
 use Rattle.tallies.specs.Tallies.{TallySense}
 use Rattle.layers.specs.Flow.{table, Outs, Layer, Net, node, width, each_node, redirect, ins, Mark, marks_next, marks_up, flags, compress, renumber, tidy, tidied, without_at, moved, both_out, clash, join_at, Tied, Roomy, Lawful}
-use Rattle.layers.specs.Labels.{Lab, firsts, arrive, labels_next, agreeing, opened, all_doors}
-use Rattle.layers.specs.Calls.{Call, parted_at}
+use Rattle.layers.specs.Labels.{firsts, arrive, labels_next, agreeing, opened, all_doors}
+use Rattle.layers.specs.declared.call.Call.{Call}
+use Rattle.layers.specs.Calls.{parted_at, thinned, trimmed}
 use Rattle.layers.proofs.Ways.{length-snoc}
 use Rattle.layers.proofs.Flows.{Among, among-split}
-use Rattle.layers.proofs.Model.{one_group, parted, refines, sweeps, sweep, cuts, cut, part_at, after}
+use Rattle.layers.proofs.Model.{one_group, parted, refines, sweeps, sweep, cuts, cut, part_at, after, labels_at}
 use Rattle.layers.proofs.Walk.{node-among, Neat}
 use Rattle.layers.proofs.Shapes.{each_door-length}
 use Rattle.layers.proofs.Keeping.{safe-after, safe-parted, safe-refines, any-cut, tidied-length, join-length, sweeps-length, cuts-length}
 use Rattle.layers.proofs.Tied.{redirect-length, tidied-tied}
 use Rattle.layers.proofs.Ties.{opened-tied, parted-tied, join_tied}
 use Rattle.layers.proofs.Lively.{roomy-tidied, roomy-join, roomy-sweeps, roomy-cuts, roomy-open}
-use Rattle.layers.proofs.Bridge.{Even, table-long, labsAt, group_at, part-at}
+use Rattle.layers.proofs.Bridge.{Even, table-long, group_at}
+use Rattle.layers.specs.Settings.{Setting}
+use Rattle.layers.specs.declared.node.Down.{Down}
 
 abbrev pub EvenLayer : ℕ → Layer → Type 0
 EvenLayer n L = (nd : Outs) → Among nd L → length nd ≡ n
@@ -124,67 +127,67 @@ pub record Proper (n W : ℕ) (Ls : Net) : Type 0 where
 pub lawful : (n W : ℕ) (Ls : Net) → Proper n W Ls → Lawful n W Ls
 lawful n W Ls p = record { deep = p.deep; one_first = p.one_first; even = even-of n Ls p.even; roomy = p.roomy; tied = p.tied }
 
-module _ {S V : Type 0} (r : Round) (rule : RuleSense S) (tally : TallySense V) (W : ℕ) (w : 1 ≤ W) where
-  even-sweeps : (i : ℕ) (labs : List (Option (Lab r rule tally))) (Ls : Net) → EvenIn r.n Ls → EvenIn r.n (sweeps r rule tally i labs Ls) × (width (sweeps r rule tally i labs Ls) ≡ width Ls)
-  unfolding sweeps
+module _ {S V : Type 0} (by : Setting S V) (w : 1 ≤ by.width) where
+  even-sweeps : (i : ℕ) (labs : List (Option (Down S V))) (Ls : Net) → EvenIn by.round.n Ls → EvenIn by.round.n (sweeps by i labs Ls) × (width (sweeps by i labs Ls) ≡ width Ls)
+  unfolding thinned
   even-sweeps i labs [] h = (tt, refl)
-  even-sweeps i labs (L ∷ Ls) h = ((even-redirect r.n _ L h.0, (even-sweeps (suc i) (labels_next r rule tally labs L (width Ls)) Ls h.1).0), simp redirect-length)
+  even-sweeps i labs (L ∷ Ls) h = ((even-redirect by.round.n _ L h.0, (even-sweeps (suc i) (labels_next by labs L (width Ls)) Ls h.1).0), simp redirect-length)
 
-  even-cuts : (c : V) (labs : List (Option (Lab r rule tally))) (Ls : Net) → EvenIn r.n Ls → EvenIn r.n (cuts r rule tally c labs Ls) × (width (cuts r rule tally c labs Ls) ≡ width Ls)
-  unfolding cuts
+  even-cuts : (c : V) (labs : List (Option (Down S V))) (Ls : Net) → EvenIn by.round.n Ls → EvenIn by.round.n (cuts by c labs Ls) × (width (cuts by c labs Ls) ≡ width Ls)
+  unfolding trimmed
   even-cuts c labs [] h = (tt, refl)
-  even-cuts c labs (L ∷ Ls) h = ((even-redirect r.n _ L h.0, (even-cuts c (labels_next r rule tally labs L (width Ls)) Ls h.1).0), simp redirect-length)
+  even-cuts c labs (L ∷ Ls) h = ((even-redirect by.round.n _ L h.0, (even-cuts c (labels_next by labs L (width Ls)) Ls h.1).0), simp redirect-length)
 
-  pub proper-opened : Proper r.n W (opened r rule tally)
+  pub proper-opened : Proper by.round.n by.width (opened by.round.n)
   proper-opened = record {
-    deep = unfold opened in table-long r.n (λ i. all_doors r rule tally ∷ []);
-    one_first = unfold opened in wide r.n;
-    even = unfold opened in evens r.n;
-    roomy = unfold opened in roomy-open r rule tally W w r.n;
-    tied = opened-tied r rule tally;
+    deep = unfold opened in table-long by.round.n (λ i. all_doors by.round.n ∷ []);
+    one_first = unfold opened in wide by.round.n;
+    even = unfold opened in evens by.round.n;
+    roomy = unfold opened in roomy-open by w by.round.n;
+    tied = opened-tied by;
   }
     where
-      wide : (k : ℕ) → width (table k (λ i. all_doors r rule tally ∷ [])) ≡ 1
+      wide : (k : ℕ) → width (table k (λ i. all_doors by.round.n ∷ [])) ≡ 1
       wide zero = refl
       wide (suc k) = refl
 
-      evens : (k : ℕ) → EvenIn r.n (table k (λ i. all_doors r rule tally ∷ []))
+      evens : (k : ℕ) → EvenIn by.round.n (table k (λ i. all_doors by.round.n ∷ []))
       evens zero = tt
-      evens (suc k) = (λ nd i. elim i [ inl e ↦ rw e (table-long r.n (λ m. 1)) | inr x ↦ absurd x ], evens k)
+      evens (suc k) = (λ nd i. elim i [ inl e ↦ rw e (table-long by.round.n (λ m. 1)) | inr x ↦ absurd x ], evens k)
 
-  pub proper-tidied : (Ls : Net) → length Ls ≡ r.n → width Ls ≡ 1 → EvenIn r.n Ls → Roomy W Ls → Proper r.n W (tidied Ls)
-  proper-tidied Ls a b c d = record { deep = tidied-length Ls ∙ a; one_first = first-tidied Ls ∙ b; even = even-tidied r.n Ls c; roomy = roomy-tidied W Ls d; tied = tidied-tied Ls }
+  pub proper-tidied : (Ls : Net) → length Ls ≡ by.round.n → width Ls ≡ 1 → EvenIn by.round.n Ls → Roomy by.width Ls → Proper by.round.n by.width (tidied Ls)
+  proper-tidied Ls a b c d = record { deep = tidied-length Ls ∙ a; one_first = first-tidied Ls ∙ b; even = even-tidied by.round.n Ls c; roomy = roomy-tidied by.width Ls d; tied = tidied-tied Ls }
 
-  pub proper-sweep : (Ls : Net) → Proper r.n W Ls → Proper r.n W (sweep r rule tally Ls)
+  pub proper-sweep : (Ls : Net) → Proper by.round.n by.width Ls → Proper by.round.n by.width (sweep by Ls)
   unfolding sweep
-  proper-sweep Ls p = let e = even-sweeps 0 (firsts r rule tally) Ls p.even in
-      proper-tidied (sweeps r rule tally 0 (firsts r rule tally) Ls) (sweeps-length r rule tally 0 (firsts r rule tally) Ls ∙ p.deep) (e.1 ∙ p.one_first) e.0 (roomy-sweeps r rule tally W w 0 (firsts r rule tally) Ls p.roomy)
+  proper-sweep Ls p = let e = even-sweeps 0 (firsts by.rule by.tally) Ls p.even in
+      proper-tidied (sweeps by 0 (firsts by.rule by.tally) Ls) (sweeps-length by 0 (firsts by.rule by.tally) Ls ∙ p.deep) (e.1 ∙ p.one_first) e.0 (roomy-sweeps by w 0 (firsts by.rule by.tally) Ls p.roomy)
 
-  pub proper-cut : (c : V) (Ls : Net) → Unit {0} → Proper r.n W Ls → Proper r.n W (cut r rule tally c Ls)
+  pub proper-cut : (c : V) (Ls : Net) → Unit {0} → Proper by.round.n by.width Ls → Proper by.round.n by.width (cut by c Ls)
   unfolding cut
-  proper-cut c Ls u p = let e = even-cuts c (firsts r rule tally) Ls p.even in
-      proper-tidied (cuts r rule tally c (firsts r rule tally) Ls) (cuts-length r rule tally c (firsts r rule tally) Ls ∙ p.deep) (e.1 ∙ p.one_first) e.0 (roomy-cuts r rule tally W w c (firsts r rule tally) Ls p.roomy)
+  proper-cut c Ls u p = let e = even-cuts c (firsts by.rule by.tally) Ls p.even in
+      proper-tidied (cuts by c (firsts by.rule by.tally) Ls) (cuts-length by c (firsts by.rule by.tally) Ls ∙ p.deep) (e.1 ∙ p.one_first) e.0 (roomy-cuts by w c (firsts by.rule by.tally) Ls p.roomy)
 
-  pub proper-join : (d lo hi : ℕ) (Ls : Net) → lo < hi → hi < length (get_or Ls (suc d) []) → clash (node (get_or Ls (suc d) []) lo) (node (get_or Ls (suc d) []) hi) ≡ false → Proper r.n W Ls → Proper r.n W (join_at d lo hi Ls)
+  pub proper-join : (d lo hi : ℕ) (Ls : Net) → lo < hi → hi < length (get_or Ls (suc d) []) → clash (node (get_or Ls (suc d) []) lo) (node (get_or Ls (suc d) []) hi) ≡ false → Proper by.round.n by.width Ls → Proper by.round.n by.width (join_at d lo hi Ls)
   proper-join d lo hi Ls x y z p =
-      record { deep = join-length d lo hi Ls ∙ p.deep; one_first = first-join d lo hi Ls ∙ p.one_first; even = even-join r.n d lo hi Ls x y p.even; roomy = roomy-join W d lo hi Ls y p.roomy; tied = join_tied d lo hi Ls x y z p.tied }
+      record { deep = join-length d lo hi Ls ∙ p.deep; one_first = first-join d lo hi Ls ∙ p.one_first; even = even-join by.round.n d lo hi Ls x y p.even; roomy = roomy-join by.width d lo hi Ls y p.roomy; tied = join_tied d lo hi Ls x y z p.tied }
 
   -- parting with any labels of the layer before
-  parted-even : (d a : ℕ) (labs : List (Option (Lab r rule tally))) (Ls : Net) → a < length (get_or Ls (suc d) []) → EvenIn r.n Ls → EvenIn r.n (parted_at r rule tally d a labs Ls) × (width (parted_at r rule tally d a labs Ls) ≡ width Ls)
+  parted-even : (d a : ℕ) (labs : List (Option (Down S V))) (Ls : Net) → a < length (get_or Ls (suc d) []) → EvenIn by.round.n Ls → EvenIn by.round.n (parted_at by d a labs Ls) × (width (parted_at by d a labs Ls) ≡ width Ls)
   unfolding parted_at
   parted-even zero a labs [] k h = (h, refl)
   parted-even (suc d) a labs [] k h = (h, refl)
   parted-even zero a labs (L ∷ []) k h = (h, refl)
   parted-even zero a labs (L ∷ M ∷ Ls) k h = (
     (
-      even-redirect r.n _ L h.0,
+      even-redirect by.round.n _ L h.0,
       ((λ nd i. elim (among-split nd M (node M a ∷ []) i) [ inl x ↦ h.1.0 nd x | inr x ↦ elim x [ inl e ↦ rw e (h.1.0 (node M a) (node-among M a k)) | inr y ↦ absurd y ] ]), h.1.1),
     ),
     simp redirect-length,
   )
   parted-even (suc d) a labs (L ∷ Ls) k h = ((h.0, (parted-even d a labs Ls k h.1).0), refl)
 
-  parted-roomy : (d a : ℕ) (labs : List (Option (Lab r rule tally))) (Ls : Net) → length (get_or Ls (suc d) []) < W → Roomy W Ls → Roomy W (parted_at r rule tally d a labs Ls)
+  parted-roomy : (d a : ℕ) (labs : List (Option (Down S V))) (Ls : Net) → length (get_or Ls (suc d) []) < by.width → Roomy by.width Ls → Roomy by.width (parted_at by d a labs Ls)
   unfolding parted_at
   parted-roomy zero a labs [] k h = h
   parted-roomy (suc d) a labs [] k h = h
@@ -192,7 +195,7 @@ module _ {S V : Type 0} (r : Round) (rule : RuleSense S) (tally : TallySense V) 
   parted-roomy zero a labs (L ∷ M ∷ Ls) k h = (simp redirect-length h.0, (omega (arith, length-snoc M (node M a)), h.1.1))
   parted-roomy (suc d) a labs (L ∷ Ls) k h = (h.0, parted-roomy d a labs Ls k h.1)
 
-  parted-length : (d a : ℕ) (labs : List (Option (Lab r rule tally))) (Ls : Net) → length (parted_at r rule tally d a labs Ls) ≡ length Ls
+  parted-length : (d a : ℕ) (labs : List (Option (Down S V))) (Ls : Net) → length (parted_at by d a labs Ls) ≡ length Ls
   unfolding parted_at
   parted-length zero a labs [] = refl
   parted-length (suc d) a labs [] = refl
@@ -200,31 +203,30 @@ module _ {S V : Type 0} (r : Round) (rule : RuleSense S) (tally : TallySense V) 
   parted-length zero a labs (L ∷ M ∷ Ls) = refl
   parted-length (suc d) a labs (L ∷ Ls) = ap suc (parted-length d a labs Ls)
 
-  pub proper-parted-at : ((s : S) → rule.same s s ≡ true) → (d a : ℕ) (labs : List (Option (Lab r rule tally))) (Ls : Net) → a < length (get_or Ls (suc d) []) → length (get_or Ls (suc d) []) < W
-      → agreeing r rule tally (ins (arrive r rule tally) a labs (get_or Ls d [])) ≡ false → Proper r.n W Ls → Proper r.n W (parted_at r rule tally d a labs Ls)
+  pub proper-parted-at : ((s : S) → by.rule.same s s ≡ true) → (d a : ℕ) (labs : List (Option (Down S V))) (Ls : Net) → a < length (get_or Ls (suc d) []) → length (get_or Ls (suc d) []) < by.width
+      → agreeing by.rule (ins (arrive by) a labs (get_or Ls d [])) ≡ false → Proper by.round.n by.width Ls → Proper by.round.n by.width (parted_at by d a labs Ls)
   proper-parted-at self d a labs Ls x y z p =
       let e = parted-even d a labs Ls x p.even in
-      record { deep = parted-length d a labs Ls ∙ p.deep; one_first = e.1 ∙ p.one_first; even = e.0; roomy = parted-roomy d a labs Ls y p.roomy; tied = parted-tied r rule self tally d a labs Ls x z p.tied }
+      record { deep = parted-length d a labs Ls ∙ p.deep; one_first = e.1 ∙ p.one_first; even = e.0; roomy = parted-roomy d a labs Ls y p.roomy; tied = parted-tied by self d a labs Ls x z p.tied }
 
 -- parting, and so a list of calls, by the laws of the rule: an arrival agrees with itself
-module _ {S V : Type 0} (r : Round) (rule : RuleSense S) (self : (s : S) → rule.same s s ≡ true) (tally : TallySense V) (W : ℕ) (w : 1 ≤ W) where
-  pub proper-part : (d a : ℕ) (Ls : Net) → a < length (get_or Ls (suc d) []) → length (get_or Ls (suc d) []) < W → one_group r rule tally d a (firsts r rule tally) Ls ≡ false → Proper r.n W Ls → Proper r.n W (part_at r rule tally d a (firsts r rule tally) Ls)
+module _ {S V : Type 0} (by : Setting S V) (self : (s : S) → by.rule.same s s ≡ true) (w : 1 ≤ by.width) where
+  pub proper-part : (d a : ℕ) (Ls : Net) → a < length (get_or Ls (suc d) []) → length (get_or Ls (suc d) []) < by.width → one_group by d a (firsts by.rule by.tally) Ls ≡ false → Proper by.round.n by.width Ls → Proper by.round.n by.width (part_at by d a (firsts by.rule by.tally) Ls)
   proper-part d a Ls x y z p =
-      let e = part-at r rule tally W w d a (firsts r rule tally) Ls in
       let in' = there (suc d) Ls a x in
-      let g = group_at r rule tally W w d a (firsts r rule tally) Ls (omega arith) in
-      rw (← e) (proper-parted-at r rule tally W w self d a (labsAt r rule tally W w d (firsts r rule tally) Ls) Ls x y (sym g ∙ z) p)
+      let g = group_at by w d a (firsts by.rule by.tally) Ls (omega arith) in
+      proper-parted-at by w self d a (labels_at by d (firsts by.rule by.tally) Ls) Ls x y (sym g ∙ z) p
     where
       there : (d : ℕ) (Ls : Net) (a : ℕ) → a < length (get_or Ls d []) → d < length Ls
       there d [] a h = absurd (omega arith)
       there zero (L ∷ Ls) a h = omega arith
       there (suc d) (L ∷ Ls) a h = let k = there d Ls a h in omega arith
 
-  pub proper-after : (cs : List (Call V)) (Ls : Net) → Proper r.n W Ls → Proper r.n W (after r rule tally W cs Ls)
-  proper-after cs Ls p = safe-after r rule tally W (Proper r.n W) (λ c. Unit {0}) (proper-sweep r rule tally W w) (proper-cut r rule tally W w) proper-part (proper-join r rule tally W w) cs Ls (any-cut r rule tally W cs) p
+  pub proper-after : (cs : List (Call V)) (Ls : Net) → Proper by.round.n by.width Ls → Proper by.round.n by.width (after by cs Ls)
+  proper-after cs Ls p = safe-after by (Proper by.round.n by.width) (λ c. Unit {0}) (proper-sweep by w) (proper-cut by w) proper-part (proper-join by w) cs Ls (any-cut by cs) p
 
-  pub proper-parted : (k i a : ℕ) (Ls : Net) → 1 ≤ i → Proper r.n W Ls → Proper r.n W (parted r rule tally W k i a Ls).1
-  proper-parted = safe-parted r rule tally W (Proper r.n W) (λ c. Unit {0}) (proper-sweep r rule tally W w) (proper-cut r rule tally W w) proper-part (proper-join r rule tally W w)
+  pub proper-parted : (k i a : ℕ) (Ls : Net) → 1 ≤ i → Proper by.round.n by.width Ls → Proper by.round.n by.width (parted by k i a Ls).1
+  proper-parted = safe-parted by (Proper by.round.n by.width) (λ c. Unit {0}) (proper-sweep by w) (proper-cut by w) proper-part (proper-join by w)
 
-  pub proper-refines : (k i : ℕ) (Ls : Net) → 1 ≤ i → Proper r.n W Ls → Proper r.n W (refines r rule tally W k i Ls).1
-  proper-refines = safe-refines r rule tally W (Proper r.n W) (λ c. Unit {0}) (proper-sweep r rule tally W w) (proper-cut r rule tally W w) proper-part (proper-join r rule tally W w)
+  pub proper-refines : (k i : ℕ) (Ls : Net) → 1 ≤ i → Proper by.round.n by.width Ls → Proper by.round.n by.width (refines by k i Ls).1
+  proper-refines = safe-refines by (Proper by.round.n by.width) (λ c. Unit {0}) (proper-sweep by w) (proper-cut by w) proper-part (proper-join by w)

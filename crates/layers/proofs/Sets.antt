@@ -6,7 +6,7 @@ use Rattle.std.proofs.lemmas.Bool.{cases_eq}
 use Rattle.doors.proofs.Sets.{digit_and, digit-one, digit-other, has-none, has_left, has_right, has_either, has-true, true-has, length-within}
 use Rattle.doors.specs.Orders.{In, PartOrder}
 use Rattle.doors.specs.Sets.{has}
-use Rattle.layers.specs.Labels.{one}
+use Rattle.layers.specs.Labels.{bit_of}
 
 pub or_left : (a b j : ℕ) → has a j ≡ true → has (bit_or a b) j ≡ true
 or_left a b j e = true-has (bit_or a b) j (has_left a b j (has-true a j e))
@@ -26,11 +26,11 @@ and_right a b j e = true-has b j (omega (arith, digit_and a b j, has-true (bit_a
 pub none_has : (j : ℕ) → has 0 j ≡ true → ⊥
 none_has j e = has-none j (has-true 0 j e)
 
-pub one-self : (j : ℕ) → has (one j) j ≡ true
-one-self j = true-has (one j) j (digit-one j)
+pub one-self : (j : ℕ) → has (bit_of j) j ≡ true
+one-self j = true-has (bit_of j) j (digit-one j)
 
-pub one_only : (k j : ℕ) → has (one k) j ≡ true → j ≡ k
-one_only k j e = ⊎_elim (λ h. h) (λ n. absurd (omega (arith, digit-other k j n, has-true (one k) j e))) (cases_eq j k)
+pub one_only : (k j : ℕ) → has (bit_of k) j ≡ true → j ≡ k
+one_only k j e = ⊎_elim (λ h. h) (λ n. absurd (omega (arith, digit-other k j n, has-true (bit_of k) j e))) (cases_eq j k)
 
 pub ones_in : (n m : ℕ) (w : List ℕ) → PartOrder n w → ((j : ℕ) → In j w → has m j ≡ true) → length w ≤ ones m
 ones_in n m w p h = length-within n m w p (λ j i. has-true m j (h j i))

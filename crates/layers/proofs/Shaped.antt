@@ -9,9 +9,9 @@ use Rattle.tallies.specs.Tallies.{TallySense}
 use Rattle.layers.specs.declared.node.Node.{Node}
 use Rattle.layers.specs.Flow.{table, Outs, Layer, Net, node, target, width, redirect, count_doors, count_layer, tidied, Ranged, Tied, Roomy}
 use Rattle.layers.specs.declared.node.Up.{Up}
-use Rattle.layers.specs.Labels.{Lab, firsts, labels_next, no_up, barred, dear}
+use Rattle.layers.specs.Labels.{firsts, labels_next, no_up, barred, dear}
 use Rattle.layers.specs.Records.{used, standing, layers, arcs_in, downs_in, ups_in, drawn, arcs_at, laid_arcs, arcs_read, place}
-use Rattle.layers.specs.Calls.{arcs, layer, thinned, trimmed, relaid}
+use Rattle.layers.specs.Calls.{arcs, layer, thinned, trimmed, relaid, LayerLabels}
 use Rattle.layers.specs.Shape.{targets_of, Ended, Shaped}
 use Rattle.layers.proofs.Flows.{Among}
 use Rattle.layers.proofs.Bridge.{ups-end, Full, top, stood, table-long}
@@ -20,6 +20,8 @@ use Rattle.layers.proofs.Tied.{tidied-tied, redirect-back, redirect-length}
 use Rattle.layers.proofs.Places.{end-at}
 use Rattle.layers.proofs.Laid.{full, nodes-laid, arcs-laid, written}
 use Rattle.layers.proofs.Proper.{EvenLayer, EvenIn, Proper, even-redirect, proper-tidied}
+use Rattle.layers.specs.Settings.{Setting}
+use Rattle.layers.specs.declared.node.Down.{Down}
 
 -- ---- the nodes that stand are the first of their places
 pub standing-at : {S V : Type 0} (us : List (Node S V)) (a : ℕ) (d : Node S V) → a < length (standing us) → get_or (standing us) a d ≡ get_or us a d
@@ -157,23 +159,23 @@ some-there : {A : Type 0} (xs : List A) (o : A → Option Up) (b : ℕ) (u : Up)
 some-there [] o b u e = absurd cc
 some-there (x ∷ xs) o b u e = omega arith
 
-module _ {S V : Type 0} (r : Round) (rule : RuleSense S) (tally : TallySense V) (W : ℕ) (w : 1 ≤ W) where
-  end-stands : (labs : List (Option (Lab r rule tally))) (L : Layer) (Ms : Net) → Tied (L ∷ Ms) → Full r rule tally W w labs (L ∷ Ms) → (a j b : ℕ) → target (node (get_or (L ∷ Ms) (length Ms) []) a) j ≡ suc b
-      → length (get_or (stood r rule tally W w labs (L ∷ Ms)) (suc (length Ms)) []) ≡ 1
+module _ {S V : Type 0} (by : Setting S V) (w : 1 ≤ by.width) where
+  end-stands : (labs : List (Option (Down S V))) (L : Layer) (Ms : Net) → Tied (L ∷ Ms) → Full by w labs (L ∷ Ms) → (a j b : ℕ) → target (node (get_or (L ∷ Ms) (length Ms) []) a) j ≡ suc b
+      → length (get_or (stood by w labs (L ∷ Ms)) (suc (length Ms)) []) ≡ 1
   end-stands labs L [] t f a j b e =
-      let E = top r rule tally W w (labels_next r rule tally labs L 1) [] in
+      let E = top by w (labels_next by labs L 1) [] in
       let z : b ≡ 0 = omega (arith, t a j b e) in
       let lo = some-there E (λ x. Some x.label.up) b no_up (f.0.tops a j b e ∙ ups-end b z) in
-      let hi = standing-short (place r rule tally [] (labels_next r rule tally labs L 1) [] 0 ∷ []) in
+      let hi = standing-short (place by [] (labels_next by labs L 1) [] 0 ∷ []) in
       omega arith
-  end-stands labs L (M ∷ Ms) t f a j b e = end-stands (labels_next r rule tally labs L (length M)) M Ms t.3 f.1 a j b e
+  end-stands labs L (M ∷ Ms) t f a j b e = end-stands (labels_next by labs L (length M)) M Ms t.3 f.1 a j b e
 
-  end_of : (Ls : Net) (n : ℕ) → length Ls ≡ n → 1 ≤ n → Tied Ls → Full r rule tally W w (firsts r rule tally) Ls → (a j b : ℕ) → target (node (get_or Ls (n - 1) []) a) j ≡ suc b → length (get_or (stood r rule tally W w (firsts r rule tally) Ls) n []) ≡ 1
+  end_of : (Ls : Net) (n : ℕ) → length Ls ≡ n → 1 ≤ n → Tied Ls → Full by w (firsts by.rule by.tally) Ls → (a j b : ℕ) → target (node (get_or Ls (n - 1) []) a) j ≡ suc b → length (get_or (stood by w (firsts by.rule by.tally) Ls) n []) ≡ 1
   end_of [] n d h t f a j b e = absurd (omega arith)
   end_of (L ∷ Ms) n d h t f a j b e =
       let z : n - 1 ≡ length Ms = omega arith in
       let y : n ≡ suc (length Ms) = sym d in
-      rw y (end-stands (firsts r rule tally) L Ms t f a j b (rw (← z) e))
+      rw y (end-stands (firsts by.rule by.tally) L Ms t f a j b (rw (← z) e))
 
 -- ---- the end's place is in use if an arc leads to it
 pub ended-one : {S V : Type 0} (n W : ℕ) (xs : List (Node S V)) → Ended n W xs → (a j b : ℕ) → target (node (get_or (arcs n W xs) (n - 1) []) a) j ≡ suc b → length (layer n W n xs) ≡ 1
@@ -184,28 +186,28 @@ ended-one n W xs h a j b e =
     omega (arith, h, some, at, short, length-take 1 (drop (n * W) xs))
 
 -- ---- arcs laid out anew
-module _ {S V : Type 0} (r : Round) (rule : RuleSense S) (tally : TallySense V) (W : ℕ) (w : 1 ≤ W) (xs : List (Node S V)) (Ls : Net) (p : Proper r.n W Ls) where
-  pub arcs-relaid : arcs r.n W (relaid r rule tally W xs Ls) ≡ Ls
+module _ {S V : Type 0} (by : Setting S V) (w : 1 ≤ by.width) (xs : List (Node S V)) (Ls : Net) (p : Proper by.round.n by.width Ls) where
+  pub arcs-relaid : arcs by.round.n by.width (relaid by xs Ls) ≡ Ls
   unfolding relaid
-  arcs-relaid = arcs-laid r rule tally W w (drop (r.n * W + 1) xs) Ls p
+  arcs-relaid = arcs-laid by w (drop (by.round.n * by.width + 1) xs) Ls p
 
-  stands-at-end : (a j b : ℕ) → target (node (get_or (arcs r.n W (relaid r rule tally W xs Ls)) (r.n - 1) []) a) j ≡ suc b → length (layer r.n W r.n (relaid r rule tally W xs Ls)) ≡ 1
+  stands-at-end : (a j b : ℕ) → target (node (get_or (arcs by.round.n by.width (relaid by xs Ls)) (by.round.n - 1) []) a) j ≡ suc b → length (layer by.round.n by.width by.round.n (relaid by xs Ls)) ≡ 1
   unfolding relaid
   stands-at-end a j b e =
-      rw (nodes-laid r rule tally W w (drop (r.n * W + 1) xs) Ls p) (end_of r rule tally W w Ls r.n p.deep r.one p.tied (full r rule tally W w (drop (r.n * W + 1) xs) Ls p) a j b (rw (← arcs-relaid) e))
+      rw (nodes-laid by w (drop (by.round.n * by.width + 1) xs) Ls p) (end_of by w Ls by.round.n p.deep by.round.one p.tied (full by w (drop (by.round.n * by.width + 1) xs) Ls p) a j b (rw (← arcs-relaid) e))
 
-  ended' : Ended r.n W (relaid r rule tally W xs Ls)
+  ended' : Ended by.round.n by.width (relaid by xs Ls)
   ended' =
-      let L = get_or (arcs r.n W (relaid r rule tally W xs Ls)) (r.n - 1) [] in
+      let L = get_or (arcs by.round.n by.width (relaid by xs Ls)) (by.round.n - 1) [] in
       ⊎_elim
       (λ (none : count_layer L < 1). omega arith)
       (λ (some : 1 ≤ count_layer L). let q = counted-arc L some in let z = stands-at-end q.0 q.1 q.2 q.3 in omega arith)
       (cases_lt (count_layer L) 1)
 
-  pub relaid-shaped : Shaped r.n W (relaid r rule tally W xs Ls)
+  pub relaid-shaped : Shaped by.round.n by.width (relaid by xs Ls)
   unfolding relaid
   relaid-shaped = record {
-    written = ap targets_of (written r rule tally W w (drop (r.n * W + 1) xs) Ls p);
+    written = ap targets_of (written by w (drop (by.round.n * by.width + 1) xs) Ls p);
     tidy = ap tidied arcs-relaid ∙ tidied-same Ls p.one_first p.tied ∙ sym arcs-relaid;
     first = ap width arcs-relaid ∙ p.one_first;
     ended = ended';
@@ -250,24 +252,24 @@ less-layer n W t L Ls Ms l = record {
   ranged = λ h. (rw l.wide (less-ranged t L (width Ls) h.0), l.ranged h.1);
 }
 
-less_none : (n W : ℕ) → Less n W [] []
-less_none n W = record { deep = refl; wide = refl; even = λ h. h; roomy = λ h. h; ranged = λ h. h }
+less_refl : (n W : ℕ) (Ls : Net) → Less n W Ls Ls
+less_refl n W Ls = record { deep = refl; wide = refl; even = λ h. h; roomy = λ h. h; ranged = λ h. h }
 
-module _ {S V : Type 0} (r : Round) (rule : RuleSense S) (tally : TallySense V) (W : ℕ) where
-  pub thinned-less : (i : ℕ) (Ns : List (List (Node S V))) → Less r.n W (drawn r.n Ns) (thinned r rule tally i Ns)
+module _ {S V : Type 0} (by : Setting S V) where
+  pub thinned-less : (i : ℕ) (Ls : Net) (labs : List (LayerLabels S V)) → Less by.round.n by.width Ls (thinned by.round by.rule i Ls labs)
   unfolding thinned
-  thinned-less i [] = less_none r.n W
-  thinned-less i (N ∷ []) = less_none r.n W
-  thinned-less i (N ∷ M ∷ Ns) =
-      less-layer r.n W (λ a j b. barred r rule tally i (r.n - i) j (get_or (downs_in N) a None) (get_or (ups_in M) b None)) (arcs_in r.n N) (drawn r.n (M ∷ Ns)) (thinned r rule tally (suc i) (M ∷ Ns)) (thinned-less (suc i) (M ∷ Ns))
+  thinned-less i [] labs = less_refl by.round.n by.width []
+  thinned-less i (L ∷ Ls) [] = less_refl by.round.n by.width (L ∷ Ls)
+  thinned-less i (L ∷ Ls) (x ∷ labs) =
+      less-layer by.round.n by.width (λ a j b. barred by.round by.rule i (suc (length Ls)) j (get_or x.downs a None) (get_or x.ups b None)) L Ls (thinned by.round by.rule (suc i) Ls labs) (thinned-less (suc i) Ls labs)
 
-  pub trimmed-less : (c : V) (Ns : List (List (Node S V))) → Less r.n W (drawn r.n Ns) (trimmed r rule tally c Ns)
+  pub trimmed-less : (c : V) (Ls : Net) (labs : List (LayerLabels S V)) → Less by.round.n by.width Ls (trimmed by.round by.tally c Ls labs)
   unfolding trimmed
-  trimmed-less c [] = less_none r.n W
-  trimmed-less c (N ∷ []) = less_none r.n W
-  trimmed-less c (N ∷ M ∷ Ns) =
-      less-layer r.n W (λ a j b. dear r rule tally c j (get_or (downs_in N) a None)) (arcs_in r.n N) (drawn r.n (M ∷ Ns)) (trimmed r rule tally c (M ∷ Ns)) (trimmed-less c (M ∷ Ns))
+  trimmed-less c [] labs = less_refl by.round.n by.width []
+  trimmed-less c (L ∷ Ls) [] = less_refl by.round.n by.width (L ∷ Ls)
+  trimmed-less c (L ∷ Ls) (x ∷ labs) =
+      less-layer by.round.n by.width (λ a j b. dear by.round by.tally c j (get_or x.downs a None)) L Ls (trimmed by.round by.tally c Ls labs) (trimmed-less c Ls labs)
 
   -- what is left of a proper net, tidied, is proper
-  pub proper-less : 1 ≤ W → (Ls Ms : Net) → Less r.n W Ls Ms → Proper r.n W Ls → Proper r.n W (tidied Ms)
-  proper-less w Ls Ms l p = proper-tidied r rule tally W w Ms (l.deep ∙ p.deep) (l.wide ∙ p.one_first) (l.even p.even) (l.roomy p.roomy)
+  pub proper-less : 1 ≤ by.width → (Ls Ms : Net) → Less by.round.n by.width Ls Ms → Proper by.round.n by.width Ls → Proper by.round.n by.width (tidied Ms)
+  proper-less w Ls Ms l p = proper-tidied by w Ms (l.deep ∙ p.deep) (l.wide ∙ p.one_first) (l.even p.even) (l.roomy p.roomy)

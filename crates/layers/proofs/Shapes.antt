@@ -6,36 +6,39 @@ use Rattle.round.specs.declared.table.Round.{Round}
 use Rattle.rules.specs.Rules.{RuleSense}
 use Rattle.tallies.specs.Tallies.{TallySense}
 use Rattle.layers.specs.Flow.{Outs, Layer, Net, node, target, width, PathFrom, each_door, redirect, either_target, both_out, apart_t, clash, without_at, moved, join_at, ins}
-use Rattle.layers.specs.Labels.{Lab, arrive, labels_next, leaves, first_arrival}
+use Rattle.layers.specs.Labels.{arrive, labels_next, leaves, first_arrival}
 use Rattle.layers.proofs.Flows.{redirect-arc, has-arc}
 use Rattle.layers.proofs.Model.{part_at}
+use Rattle.layers.specs.Settings.{Setting}
+use Rattle.layers.specs.declared.node.Down.{Down}
+use Rattle.layers.specs.Calls.{parted_at}
 
 -- ---- part
-module _ {S V : Type 0} (r : Round) (rule : RuleSense S) (tally : TallySense V) where
-  pub part-keeps : (d a : ℕ) (labs : List (Option (Lab r rule tally))) (Ls : Net) (x : ℕ) (w : List ℕ) → PathFrom Ls x w → PathFrom (part_at r rule tally d a labs Ls) x w
-  unfolding part_at
+module _ {S V : Type 0} (by : Setting S V) where
+  pub part-keeps : (d a : ℕ) (labs : List (Option (Down S V))) (Ls : Net) (x : ℕ) (w : List ℕ) → PathFrom Ls x w → PathFrom (part_at by d a labs Ls) x w
+  unfolding parted_at
   part-keeps zero a labs [] x w p = p
   part-keeps (suc d) a labs [] x w p = p
   part-keeps zero a labs (L ∷ []) x w p = p
   part-keeps zero a labs (L ∷ M ∷ Ls) x [] p = absurd p
   part-keeps zero a labs (L ∷ M ∷ Ls) x (j ∷ []) p = absurd p.2
   part-keeps zero a labs (L ∷ M ∷ Ls) x (j ∷ k ∷ w) p =
-      go (eqb b a && leaves r rule tally h (get_or labs x None) j) refl
+      go (eqb b a && leaves by h (get_or labs x None) j) refl
     where
       b : ℕ
       b = p.0
 
-      h : Option (Lab r rule tally)
-      h = first_arrival r rule tally (ins (arrive r rule tally) a labs L)
+      h : Option (Down S V)
+      h = first_arrival (ins (arrive by) a labs L)
 
       f : ℕ → ℕ → ℕ → ℕ
-      f u j b = cond (eqb b a && leaves r rule tally h (get_or labs u None) j) (suc (length M)) (suc b)
+      f u j b = cond (eqb b a && leaves by h (get_or labs u None) j) (suc (length M)) (suc b)
 
-      go : (q : Bool) → (eqb b a && leaves r rule tally h (get_or labs x None) j) ≡ q → PathFrom (redirect f L ∷ (M ++ (node M a ∷ [])) ∷ Ls) x (j ∷ k ∷ w)
+      go : (q : Bool) → (eqb b a && leaves by h (get_or labs x None) j) ≡ q → PathFrom (redirect f L ∷ (M ++ (node M a ∷ [])) ∷ Ls) x (j ∷ k ∷ w)
       go true e = (
         length M,
         redirect-arc f L x j b p.1 ∙ ap (λ (z : Bool). cond z (suc (length M)) (suc b)) e,
-        (p.2.0, rw ((get_or_push M (node M a) [] (length M) refl), ← (eqb-true b a (and_parts (eqb b a) (leaves r rule tally h (get_or labs x None) j) e).0)) p.2.1, p.2.2),
+        (p.2.0, rw ((get_or_push M (node M a) [] (length M) refl), ← (eqb-true b a (and_parts (eqb b a) (leaves by h (get_or labs x None) j) e).0)) p.2.1, p.2.2),
       )
       go false e = (
         b,
@@ -43,7 +46,7 @@ module _ {S V : Type 0} (r : Round) (rule : RuleSense S) (tally : TallySense V) 
         (p.2.0, rw (get_or_append_left M (node M a ∷ []) [] b (has-arc M b k p.2.0 p.2.1)) p.2.1, p.2.2),
       )
   part-keeps (suc d) a labs (L ∷ Ls) x [] p = absurd p
-  part-keeps (suc d) a labs (L ∷ Ls) x (j ∷ w) p = (p.0, p.1, part-keeps d a (labels_next r rule tally labs L (width Ls)) Ls p.0 w p.2)
+  part-keeps (suc d) a labs (L ∷ Ls) x (j ∷ w) p = (p.0, p.1, part-keeps d a (labels_next by labs L (width Ls)) Ls p.0 w p.2)
 
 -- ---- join
 pub drop-below : (i b : ℕ) (M : Layer) → b < i → node (without_at i M) b ≡ node M b

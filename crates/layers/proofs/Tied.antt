@@ -3,8 +3,9 @@ use Rattle.std.proofs.Common.{◌≡◌, ℕ, zero, suc, ◌+◌, ◌<◌, Bool,
 use lib.ListN.{length-map}
 use Rattle.std.proofs.lemmas.Bool.{false≢true, and_parts}
 use Rattle.std.proofs.lemmas.Option.{none-some}
-use Rattle.layers.specs.Flow.{Outs, Layer, Net, node, target, width, is_some, each_door, each_node, redirect, ins, gather, outs, up, Mark, marks_next, marks_up, flags, rank, compress, renumber, tidy, tidied, Ranged, Led, Tied}
+use Rattle.layers.specs.Flow.{Outs, Layer, Net, node, target, width, each_door, each_node, redirect, ins, gather, outs, up, Mark, marks_next, marks_up, flags, rank, compress, renumber, tidy, tidied, Ranged, Led, Tied}
 use Rattle.layers.proofs.Flows.{gather-any, outs-from, map-some, redirect-arc, has-arc, ins-from, next-some, up_at, mark-next, flags-at, compress-at, renumber-at}
+use Rattle.std.specs.Prelude.{is_some}
 
 -- ---- redirecting, backwards
 each_door-back : (f : ℕ → ℕ → ℕ) (j : ℕ) (ts : Outs) (k m c : ℕ) → j + k ≡ m → get_or (each_door f j ts) k 0 ≡ suc c → (b : ℕ) × (get_or ts k 0 ≡ suc b) × (f m b ≡ suc c)

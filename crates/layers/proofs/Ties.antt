@@ -6,41 +6,43 @@ use Rattle.round.specs.declared.table.Round.{Round}
 use Rattle.rules.specs.Rules.{RuleSense}
 use Rattle.tallies.specs.Tallies.{TallySense}
 use Rattle.layers.specs.Flow.{table, Outs, Layer, Net, node, target, redirect, ins, clash, either_target, both_out, without_at, moved, join_at, Ranged, Fed, Led, Tied}
-use Rattle.layers.specs.Labels.{Lab, arrive, agree, agree_all, agreeing, leaves, first_arrival, opened, all_doors}
+use Rattle.layers.specs.Labels.{arrive, agree, agree_all, agreeing, leaves, first_arrival, opened, all_doors}
 use Rattle.layers.specs.Calls.{parted_at}
 use Rattle.layers.proofs.Flows.{Among, redirect-arc, has-arc, table_at, From, ins-from}
 use Rattle.layers.proofs.Ways.{length-snoc}
 use Rattle.layers.proofs.Shapes.{drop-below, drop-above, join-node}
 use Rattle.layers.proofs.Tied.{redirect-back, redirect-length}
+use Rattle.layers.specs.Settings.{Setting}
+use Rattle.layers.specs.declared.node.Down.{Down}
 
 -- ---- open
-module _ {S V : Type 0} (r : Round) (rule : RuleSense S) (tally : TallySense V) where
+module _ {S V : Type 0} (by : Setting S V) where
   ones-at : (n k b : ℕ) → get_or (table n (λ m. 1)) k 0 ≡ suc b → b ≡ 0
   ones-at zero k b e = absurd (omega arith)
   ones-at (suc n) zero b e = omega arith
   ones-at (suc n) (suc k) b e = ones-at n k b e
 
-  open-ranged : Ranged (all_doors r rule tally ∷ []) 1
+  open-ranged : Ranged (all_doors by.round.n ∷ []) 1
   open-ranged zero zero b e = absurd (omega arith)
-  open-ranged zero (suc k) b e = let z = ones-at r.n k b e in omega arith
+  open-ranged zero (suc k) b e = let z = ones-at by.round.n k b e in omega arith
   open-ranged (suc a) zero b e = absurd (omega arith)
   open-ranged (suc a) (suc k) b e = absurd (omega arith)
 
-  first-door : target (all_doors r rule tally) 1 ≡ 1
-  first-door = table_at r.n 0 (λ m. 1) 0 r.one
+  first-door : target (all_doors by.round.n) 1 ≡ 1
+  first-door = table_at by.round.n 0 (λ m. 1) 0 by.round.one
 
-  open-fed : Fed (all_doors r rule tally ∷ []) 1
+  open-fed : Fed (all_doors by.round.n ∷ []) 1
   open-fed b h = let z : b ≡ 0 = omega arith in (0, 1, first-door ∙ ap suc (sym z))
 
-  open-led : Led (all_doors r rule tally ∷ [])
+  open-led : Led (all_doors by.round.n ∷ [])
   open-led zero h = (1, 0, first-door)
   open-led (suc a) h = absurd (not-suc-le-zero (le_of_suc-le-suc h))
 
-  pub opened-tied : Tied (opened r rule tally)
+  pub opened-tied : Tied (opened by.round.n)
   unfolding opened
-  opened-tied = go r.n
+  opened-tied = go by.round.n
     where
-      go : (k : ℕ) → Tied (table k (λ i. all_doors r rule tally ∷ []))
+      go : (k : ℕ) → Tied (table k (λ i. all_doors by.round.n ∷ []))
       go zero = tt
       go (suc zero) = open-ranged
       go (suc (suc k)) = (open-ranged, open-fed, open-led, go (suc k))
@@ -77,87 +79,87 @@ module _ (M : Layer) (a : ℕ) (inn : a < length M) where
   more-tied [] t = more-ranged 1 t
   more-tied (N ∷ Ls) t = (more-ranged (length N) t.0, more-fed (length N) t.1, t.2, t.3)
 
-module _ {S V : Type 0} (r : Round) (rule : RuleSense S) (self : (s : S) → rule.same s s ≡ true) (tally : TallySense V) where
-  agree-self : (x : Lab r rule tally) → agree r rule tally x x ≡ true
+module _ {S V : Type 0} (by : Setting S V) (self : (s : S) → by.rule.same s s ≡ true) where
+  agree-self : (x : Down S V) → agree by.rule x x ≡ true
   unfolding agree
   agree-self x = rw (eq-eqb x.all x.all refl, eq-eqb x.some x.some refl, eq-eqb x.finish x.finish refl, eq-eqb x.lasts x.lasts refl) (self x.state)
 
-  odd-one : (x : Lab r rule tally) (l : List (Lab r rule tally)) → agree_all r rule tally x l ≡ false → (y : Lab r rule tally) × Among y l × (agree r rule tally x y ≡ false)
+  odd-one : (x : Down S V) (l : List (Down S V)) → agree_all by.rule x l ≡ false → (y : Down S V) × Among y l × (agree by.rule x y ≡ false)
   unfolding agree_all
   odd-one x [] e = absurd (true≢false e)
   odd-one x (y ∷ l) e =
-      elim (and_cases (agree r rule tally x y) (agree_all r rule tally x l) e) [
+      elim (and_cases (agree by.rule x y) (agree_all by.rule x l) e) [
         | inl h ↦ (y, inl refl, h)
         | inr h ↦ (let q = odd-one x l h in (q.0, inr q.1, q.2))
       ]
 
   -- two groups: a first arrival, and one that disagrees with it
-  record Groups (l : List (Lab r rule tally)) : Type 0 where
-    one : Lab r rule tally
-    is_first : first_arrival r rule tally l ≡ Some one
+  record Groups (l : List (Down S V)) : Type 0 where
+    one : Down S V
+    is_first : first_arrival l ≡ Some one
     one_in : Among one l
-    other : Lab r rule tally
+    other : Down S V
     other_in : Among other l
-    differ : agree r rule tally one other ≡ false
+    differ : agree by.rule one other ≡ false
 
-  groups : (l : List (Lab r rule tally)) → agreeing r rule tally l ≡ false → Groups l
+  groups : (l : List (Down S V)) → agreeing by.rule l ≡ false → Groups l
   unfolding agreeing
   groups [] e = absurd (true≢false e)
   groups (x ∷ l) e = let q = odd-one x l e in record { one = x; is_first = refl; one_in = inl refl; other = q.0; other_in = inr q.1; differ = q.2 }
 
-  module _ (a : ℕ) (labs : List (Option (Lab r rule tally))) (L M : Layer) (inn : a < length M) (two : agreeing r rule tally (ins (arrive r rule tally) a labs L) ≡ false) where
-    abbrev h : Option (Lab r rule tally)
-    h = first_arrival r rule tally (ins (arrive r rule tally) a labs L)
+  module _ (a : ℕ) (labs : List (Option (Down S V))) (L M : Layer) (inn : a < length M) (two : agreeing by.rule (ins (arrive by) a labs L) ≡ false) where
+    abbrev h : Option (Down S V)
+    h = first_arrival (ins (arrive by) a labs L)
 
     abbrev f : ℕ → ℕ → ℕ → ℕ
-    f u j b = cond (eqb b a && leaves r rule tally h (get_or labs u None) j) (suc (length M)) (suc b)
+    f u j b = cond (eqb b a && leaves by h (get_or labs u None) j) (suc (length M)) (suc b)
 
     part-ranged : Ranged L (length M) → Ranged (redirect f L) (length (M ++ (node M a ∷ [])))
     part-ranged g u j c e =
         let q = redirect-back f L u j c e in
         let k = g u j q.0 q.1 in
-        go (eqb q.0 a && leaves r rule tally h (get_or labs u None) j) q.0 k q.2
+        go (eqb q.0 a && leaves by h (get_or labs u None) j) q.0 k q.2
       where
         go : (t : Bool) (b : ℕ) → b < length M → cond t (suc (length M)) (suc b) ≡ suc c → c < length (M ++ (node M a ∷ []))
         go true b k e = omega (arith, length-snoc M (node M a))
         go false b k e = omega (arith, length-snoc M (node M a))
 
-    moves-to : (u j b : ℕ) (q : Bool) → target (node L u) j ≡ suc b → (eqb b a && leaves r rule tally h (get_or labs u None) j) ≡ q → target (node (redirect f L) u) j ≡ cond q (suc (length M)) (suc b)
+    moves-to : (u j b : ℕ) (q : Bool) → target (node L u) j ≡ suc b → (eqb b a && leaves by h (get_or labs u None) j) ≡ q → target (node (redirect f L) u) j ≡ cond q (suc (length M)) (suc b)
     moves-to u j b q e t = redirect-arc f L u j b e ∙ ap (λ (z : Bool). cond z (suc (length M)) (suc b)) t
 
-    at_a : (x y : Lab r rule tally) → h ≡ Some x → (w : From (arrive r rule tally) a labs L y) → (eqb a a && leaves r rule tally h (get_or labs w.source None) w.door) ≡ not (agree r rule tally x y)
-    at_a x y e w = rw (eq-eqb a a refl, e, w.labelled) (ap (λ (z : Lab r rule tally). not (agree r rule tally x z)) (sym w.is))
+    at_a : (x y : Down S V) → h ≡ Some x → (w : From (arrive by) a labs L y) → (eqb a a && leaves by h (get_or labs w.source None) w.door) ≡ not (agree by.rule x y)
+    at_a x y e w = rw (eq-eqb a a refl, e, w.labelled) (ap (λ (z : Down S V). not (agree by.rule x z)) (sym w.is))
 
     part-fed : Fed L (length M) → Fed (redirect f L) (length (M ++ (node M a ∷ [])))
     part-fed g c k = new (ltb c (length M)) refl (eqb c a) refl
       where
-        two' : Groups (ins (arrive r rule tally) a labs L)
-        two' = groups (ins (arrive r rule tally) a labs L) two
+        two' : Groups (ins (arrive by) a labs L)
+        two' = groups (ins (arrive by) a labs L) two
 
         new : (p : Bool) → ltb c (length M) ≡ p → (q : Bool) → eqb c a ≡ q → (u : ℕ) × (j : ℕ) × (target (node (redirect f L) u) j ≡ suc c)
         new true e true d =
             let x = two'.one in
-            let w = ins-from (arrive r rule tally) a labs L x two'.one_in in
+            let w = ins-from (arrive by) a labs L x two'.one_in in
             (w.source, w.door, moves-to w.source w.door a false w.arc (at_a x x two'.is_first w ∙ ap not (agree-self x)) ∙ ap suc (sym (eqb-true c a d)))
         new true e false d =
             let s = g c (ltb-true c (length M) e) in
-            (s.0, s.1, moves-to s.0 s.1 c false s.2 (ap (λ (z : Bool). z && leaves r rule tally h (get_or labs s.0 None) s.1) d))
+            (s.0, s.1, moves-to s.0 s.1 c false s.2 (ap (λ (z : Bool). z && leaves by h (get_or labs s.0 None) s.1) d))
         new false e q d =
-            let w = ins-from (arrive r rule tally) a labs L two'.other two'.other_in in
+            let w = ins-from (arrive by) a labs L two'.other two'.other_in in
             let z : c ≡ length M = omega (arith, length-snoc M (node M a), ltb-false c (length M) e) in
             (w.source, w.door, moves-to w.source w.door a true w.arc (at_a two'.one two'.other two'.is_first w ∙ ap not two'.differ) ∙ ap suc (sym z))
 
     part-led : Led L → Led (redirect f L)
     part-led g u k =
         let s = g u (omega (arith, redirect-length f L)) in
-        go s.0 s.1 s.2 (eqb s.1 a && leaves r rule tally h (get_or labs u None) s.0) refl
+        go s.0 s.1 s.2 (eqb s.1 a && leaves by h (get_or labs u None) s.0) refl
       where
-        go : (j b : ℕ) → target (node L u) j ≡ suc b → (q : Bool) → (eqb b a && leaves r rule tally h (get_or labs u None) j) ≡ q → (j : ℕ) × (b : ℕ) × (target (node (redirect f L) u) j ≡ suc b)
+        go : (j b : ℕ) → target (node L u) j ≡ suc b → (q : Bool) → (eqb b a && leaves by h (get_or labs u None) j) ≡ q → (j : ℕ) × (b : ℕ) × (target (node (redirect f L) u) j ≡ suc b)
         go j b e true t = (j, length M, moves-to u j b true e t)
         go j b e false t = (j, b, moves-to u j b false e t)
 
   -- with any labels of the layer before, as they may stand in records
-  pub parted-tied : (d a : ℕ) (labs : List (Option (Lab r rule tally))) (Ls : Net) → a < length (get_or Ls (suc d) []) → agreeing r rule tally (ins (arrive r rule tally) a labs (get_or Ls d [])) ≡ false → Tied Ls → Tied (parted_at r rule tally d a labs Ls)
+  pub parted-tied : (d a : ℕ) (labs : List (Option (Down S V))) (Ls : Net) → a < length (get_or Ls (suc d) []) → agreeing by.rule (ins (arrive by) a labs (get_or Ls d [])) ≡ false → Tied Ls → Tied (parted_at by d a labs Ls)
   unfolding parted_at
   parted-tied zero a labs [] k e t = tt
   parted-tied (suc d) a labs [] k e t = tt

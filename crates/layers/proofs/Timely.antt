@@ -9,12 +9,15 @@ use Rattle.rules.specs.Rules.{RuleSense}
 use Rattle.tallies.specs.Tallies.{TallySense}
 use Rattle.layers.specs.declared.node.Node.{Node}
 use Rattle.layers.specs.Flow.{table, Layer, Net, width, ins}
-use Rattle.layers.specs.Labels.{leg, ups, Lab, first, arrive, merge, firsts, labels_next}
-use Rattle.layers.specs.Records.{or_blank, place, laid_from, laid}
+use Rattle.layers.specs.Labels.{leg, ups, first, arrive, merge, firsts, labels_next}
+use Rattle.layers.specs.Records.{place, laid_from, laid}
 use Rattle.layers.specs.Calls.{relaid}
 use Rattle.layers.specs.Shape.{Timely}
 use Rattle.layers.proofs.Flows.{From, ins-from, next-some, gather-all}
 use Rattle.layers.proofs.Ways.{leg-bound}
+use Rattle.layers.proofs.Model.{or_blank}
+use Rattle.layers.specs.Settings.{Setting}
+use Rattle.layers.specs.declared.node.Down.{Down}
 
 -- ---- lists
 take_past : {A : Type 0} (m k : ℕ) (f : ℕ → A) (xs : List A) → take (m + k) (table m f ++ xs) ≡ table m f ++ take k xs
@@ -30,33 +33,33 @@ most-at f m [] h k = omega arith
 most-at f m (x ∷ xs) h zero = h.0
 most-at f m (x ∷ xs) h (suc k) = most-at f m xs h.1 k
 
-module _ {S V : Type 0} (r : Round) (rule : RuleSense S) (tally : TallySense V) where
+module _ {S V : Type 0} (by : Setting S V) where
   -- ---- no finish of the labels is above what the clock allows after i steps
-  unfoldable Soon : ℕ → List (Option (Lab r rule tally)) → Type 0
-  Soon i labs = (a : ℕ) (l : Lab r rule tally) → get_or labs a None ≡ Some l → l.finish ≤ latest i
+  unfoldable Soon : ℕ → List (Option (Down S V)) → Type 0
+  Soon i labs = (a : ℕ) (l : Down S V) → get_or labs a None ≡ Some l → l.finish ≤ latest i
 
-  soon-first : Soon 0 (firsts r rule tally)
+  soon-first : Soon 0 (firsts by.rule by.tally)
   unfolding Soon
-  soon-first zero l e = let x : first r rule tally ≡ l = cc in rw (← x) (omega arith)
+  soon-first zero l e = let x : first by.rule by.tally ≡ l = cc in rw (← x) (omega arith)
   soon-first (suc a) l e = absurd cc
 
-  soon-next : (i : ℕ) (labs : List (Option (Lab r rule tally))) (L : Layer) (count : ℕ) → Soon i labs → Soon (suc i) (labels_next r rule tally labs L count)
+  soon-next : (i : ℕ) (labs : List (Option (Down S V))) (L : Layer) (count : ℕ) → Soon i labs → Soon (suc i) (labels_next by labs L count)
   unfolding Soon labels_next arrive merge
   soon-next i labs L count soon b m e =
-      gather-all (merge r rule tally) (λ x. x.finish ≤ latest (suc i)) (λ x y p q. omega arith) (ins (arrive r rule tally) b labs L) m
-      (λ x h. each x (ins-from (arrive r rule tally) b labs L x h)) (next-some (arrive r rule tally) (merge r rule tally) labs L count b m e)
+      gather-all (merge by.rule by.tally) (λ x. x.finish ≤ latest (suc i)) (λ x y p q. omega arith) (ins (arrive by) b labs L) m
+      (λ x h. each x (ins-from (arrive by) b labs L x h)) (next-some (arrive by) (merge by.rule by.tally) labs L count b m e)
     where
-      each : (x : Lab r rule tally) → From (arrive r rule tally) b labs L x → x.finish ≤ latest (suc i)
+      each : (x : Down S V) → From (arrive by) b labs L x → x.finish ≤ latest (suc i)
       each x f =
           let l = f.label in
-          rw f.is ((clock-laws r).bound i l.finish (leg r l.lasts f.door) f.door (soon f.source l f.labelled) (leg-bound r l.lasts f.door))
+          rw f.is ((clock-laws by.round).bound i l.finish (leg by.round l.lasts f.door) f.door (soon f.source l f.labelled) (leg-bound by.round l.lasts f.door))
 
   -- a place of such a layer; a blank one has finish 0
-  soon-place : (i : ℕ) (labs : List (Option (Lab r rule tally))) → i ≤ 15 → Soon i labs → (k : ℕ) → (or_blank r rule tally (get_or labs k None)).finish ≤ latest 15
+  soon-place : (i : ℕ) (labs : List (Option (Down S V))) → i ≤ 15 → Soon i labs → (k : ℕ) → (or_blank by.rule by.tally (get_or labs k None)).finish ≤ latest 15
   unfolding Soon
   soon-place i labs h soon k = go (get_or labs k None) refl
     where
-      go : (o : Option (Lab r rule tally)) → get_or labs k None ≡ o → (or_blank r rule tally o).finish ≤ latest 15
+      go : (o : Option (Down S V)) → get_or labs k None ≡ o → (or_blank by.rule by.tally o).finish ≤ latest 15
       go None e = omega arith
       go (Some l) e = omega (arith, soon k l e)
 
@@ -64,25 +67,25 @@ module _ {S V : Type 0} (r : Round) (rule : RuleSense S) (tally : TallySense V) 
   abbrev Early : Node S V → Type 0
   Early x = x.label.down.finish ≤ latest 15
 
-  laid-early : (W i : ℕ) (labs : List (Option (Lab r rule tally))) (Ls : Net) (later : List (Node S V)) → i + length Ls ≤ 16 → Soon i labs
-      → All Early (take (length Ls * W) (laid_from r rule tally W labs Ls ++ later))
+  laid-early : (i : ℕ) (labs : List (Option (Down S V))) (Ls : Net) (later : List (Node S V)) → i + length Ls ≤ 16 → Soon i labs
+      → All Early (take (length Ls * by.width) (laid_from by labs Ls ++ later))
   unfolding laid_from
-  laid-early W i labs [] later h soon = rw (zero-mul W) tt
-  laid-early W i labs (L ∷ Ls) later h soon =
-      let f = place r rule tally L labs (ups (L ∷ Ls)) in
-      let X = laid_from r rule tally W (labels_next r rule tally labs L (width Ls)) Ls in
-      let m = length Ls * W in
-      let both : suc (length Ls) * W ≡ W + m = omega (arith, suc-mul (length Ls) W) in
-      let split : take (suc (length Ls) * W) ((table W f ++ X) ++ later) ≡ table W f ++ take m (X ++ later) =
-      ap (λ (c : ℕ). take c ((table W f ++ X) ++ later)) both ∙ ap (take (W + m)) (append_assoc (table W f) X later) ∙ take_past W m f (X ++ later) in
-      rw split (All-append Early (table W f) (take m (X ++ later)) (all-table Early W f (soon-place i labs (omega arith) soon))
-      (laid-early W (suc i) (labels_next r rule tally labs L (width Ls)) Ls later (omega arith) (soon-next i labs L (width Ls) soon)))
+  laid-early i labs [] later h soon = rw (zero-mul by.width) tt
+  laid-early i labs (L ∷ Ls) later h soon =
+      let f = place by L labs (ups (L ∷ Ls)) in
+      let X = laid_from by (labels_next by labs L (width Ls)) Ls in
+      let m = length Ls * by.width in
+      let both : suc (length Ls) * by.width ≡ by.width + m = omega (arith, suc-mul (length Ls) by.width) in
+      let split : take (suc (length Ls) * by.width) ((table by.width f ++ X) ++ later) ≡ table by.width f ++ take m (X ++ later) =
+      ap (λ (c : ℕ). take c ((table by.width f ++ X) ++ later)) both ∙ ap (take (by.width + m)) (append_assoc (table by.width f) X later) ∙ take_past by.width m f (X ++ later) in
+      rw split (All-append Early (table by.width f) (take m (X ++ later)) (all-table Early by.width f (soon-place i labs (omega arith) soon))
+      (laid-early (suc i) (labels_next by labs L (width Ls)) Ls later (omega arith) (soon-next i labs L (width Ls) soon)))
 
 -- the finishes of records that are laid out anew are in time
-pub relaid-timely : {S V : Type 0} (r : Round) (rule : RuleSense S) (tally : TallySense V) (W : ℕ) (xs : List (Node S V)) (Ls : Net) → length Ls ≡ r.n → Timely r.n W (relaid r rule tally W xs Ls)
+pub relaid-timely : {S V : Type 0} (by : Setting S V) (xs : List (Node S V)) (Ls : Net) → length Ls ≡ by.round.n → Timely by.round.n by.width (relaid by xs Ls)
 unfolding relaid laid
-relaid-timely {S} {V} r rule tally W xs Ls e =
-    let ys = laid_from r rule tally W (firsts r rule tally) Ls ++ drop (r.n * W + 1) xs in
-    most-at (λ (x : Node S V). x.label.down.finish) (latest 15) (take (r.n * W) ys)
-    (subst (λ (n : ℕ). All (Early r rule tally) (take (n * W) ys)) e
-    (laid-early r rule tally W 0 (firsts r rule tally) Ls (drop (r.n * W + 1) xs) (omega (arith, r.most)) (soon-first r rule tally)))
+relaid-timely {S} {V} by xs Ls e =
+    let ys = laid_from by (firsts by.rule by.tally) Ls ++ drop (by.round.n * by.width + 1) xs in
+    most-at (λ (x : Node S V). x.label.down.finish) (latest 15) (take (by.round.n * by.width) ys)
+    (subst (λ (n : ℕ). All (Early by) (take (n * by.width) ys)) e
+    (laid-early by 0 (firsts by.rule by.tally) Ls (drop (by.round.n * by.width + 1) xs) (omega (arith, by.round.most)) (soon-first by)))

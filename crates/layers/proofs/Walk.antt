@@ -17,11 +17,14 @@ use Rattle.orders.specs.Costs.{Trip, cost, rides, trip_after}
 use Rattle.orders.specs.Times.{van_after}
 use Rattle.layers.specs.declared.node.Up.{Up}
 use Rattle.layers.specs.Flow.{Outs, Layer, Net, node, target, width, PathFrom, ins, up}
-use Rattle.layers.specs.Labels.{one, leg, climb, merge_up, no_up, ups, Lab, first, arrive, merge, firsts, labels_next, barred}
+use Rattle.layers.specs.Labels.{bit_of, leg, climb, merge_up, no_up, ups, first, arrive, merge, firsts, labels_next, barred}
 use Rattle.layers.proofs.Flows.{Among, redirect-arc, inside, has-arc, next-at, up_at, tidy-keeps, From, ins-from, next-some, gather-all}
 use Rattle.layers.proofs.Sets.{or_left, or_right, or_split, and_left, and_right, one-self, one_only, none_has, ones_in}
 use Rattle.layers.proofs.Ways.{in_split, in-snd, part-tail, trip-snoc, van-snoc, length-snoc, snoc-assoc, TimelyFrom, timely-from, leg-le, leg-bound}
 use Rattle.layers.proofs.Model.{sweeps, sweep}
+use Rattle.layers.specs.Settings.{Setting}
+use Rattle.layers.specs.declared.node.Down.{Down}
+use Rattle.layers.specs.Calls.{thinned}
 
 -- each node has no more targets than there are doors
 abbrev pub NeatLayer : ℕ → Layer → Type 0
@@ -31,7 +34,7 @@ abbrev pub Neat : ℕ → Net → Type 0
 Neat n [] = Unit {0}
 Neat n (L ∷ Ls) = NeatLayer n L × Neat n Ls
 
--- a finish of fewer than 16 doors and one more
+-- a finish of fewer than 16 doors and bit_of more
 pub within : (k f : ℕ) → k < 16 → f ≤ latest (suc k) → f ≤ latest 16
 within k f h e = omega arith
 
@@ -50,173 +53,173 @@ neat-door r L neat a zero b e = absurd (omega arith)
 neat-door r L neat a (suc k) b e =
     let h = door-at (node L a) k b e in let g = neat (node L a) (node-among L a (has-arc L a (suc k) b e)) in record { low = omega arith; high = omega arith }
 
-module _ {S V : Type 0} {Keeps : List ℕ → Type 0} {Stands : S → List ℕ → Type 0} {Allows : ℕ → V → Type 0} (r : Round) (rule : RuleSense S) (ruled : RuleLaws r.n rule Keeps Stands) (tally : TallySense V) (tallied : TallyLaws r.n tally Allows) where
+module _ {S V : Type 0} {Keeps : List ℕ → Type 0} {Stands : S → List ℕ → Type 0} {Allows : ℕ → V → Type 0} (by : Setting S V) (ruled : RuleLaws by.round.n by.rule Keeps Stands) (tallied : TallyLaws by.round.n by.tally Allows) where
   -- ---- an order under way
   pub record Going (p w : List ℕ) : Type 0 where
-    pub part : PartOrder r.n (p ++ w)
+    pub part : PartOrder by.round.n (p ++ w)
     pub keeps : Keeps (p ++ w)
-    pub timely : TimelyFrom r (van_after r p) w
-    pub total : length p + length w ≡ r.n
+    pub timely : TimelyFrom by.round (van_after by.round p) w
+    pub total : length p + length w ≡ by.round.n
 
   pub going_next : (p w : List ℕ) (j : ℕ) → Going p (j ∷ w) → Going (p ++ (j ∷ [])) w
   going_next p w j g = record {
     part = rw (snoc-assoc p w j) g.part;
     keeps = rw (snoc-assoc p w j) g.keeps;
-    timely = rw (van-snoc r p j) g.timely.1;
+    timely = rw (van-snoc by.round p j) g.timely.1;
     total = omega (arith, length-snoc p j, g.total);
   }
 
   -- what is so of the true clock and cost after p
   pub record Told (p : List ℕ) : Type 0 where
-    pub part : PartOrder r.n p
-    pub soon : (trip_after r tally p).van.finish ≤ latest (length p)
-    pub fine : Allows (length p) (cost r tally p)
-    pub here : (trip_after r tally p).van.last ≤ r.n
-    pub last : (j : ℕ) → ¬ In j p → 1 ≤ j → ¬ ((trip_after r tally p).van.last ≡ j)
+    pub part : PartOrder by.round.n p
+    pub soon : (trip_after by.round by.tally p).van.finish ≤ latest (length p)
+    pub fine : Allows (length p) (cost by.round by.tally p)
+    pub here : (trip_after by.round by.tally p).van.last ≤ by.round.n
+    pub last : (j : ℕ) → ¬ In j p → 1 ≤ j → ¬ ((trip_after by.round by.tally p).van.last ≡ j)
 
   pub told_none : Told []
   told_none = record { part = tt; soon = omega arith; fine = tallied.start_allowed; here = omega arith; last = λ j f h. omega arith }
 
   -- ---- labels that fit
-  pub record Fits (l : Lab r rule tally) (p : List ℕ) : Type 0 where
-    pub part : PartOrder r.n p
+  pub record Fits (l : Down S V) (p : List ℕ) : Type 0 where
+    pub part : PartOrder by.round.n p
     pub all : (j : ℕ) → has l.all j ≡ true → In j p
     pub some : (j : ℕ) → In j p → has l.some j ≡ true
-    pub finish : l.finish ≤ (trip_after r tally p).van.finish
-    pub lasts : has l.lasts (trip_after r tally p).van.last ≡ true
+    pub finish : l.finish ≤ (trip_after by.round by.tally p).van.finish
+    pub lasts : has l.lasts (trip_after by.round by.tally p).van.last ≡ true
     pub state : Stands l.state p
-    pub value : tally.not_above l.value (cost r tally p) ≡ true
+    pub value : by.tally.not_above l.value (cost by.round by.tally p) ≡ true
 
-  fits-first : Fits (first r rule tally) []
-  fits-first = record { part = tt; all = λ j h. absurd (none_has j h); some = λ j i. absurd i; finish = omega arith; lasts = refl; state = ruled.start_stands; value = tallied.order_self tally.start }
+  fits-first : Fits (first by.rule by.tally) []
+  fits-first = record { part = tt; all = λ j h. absurd (none_has j h); some = λ j i. absurd i; finish = omega arith; lasts = refl; state = ruled.start_stands; value = tallied.order_self by.tally.start }
 
-  lesser-left : (a b : V) → tally.not_above (tally.lesser a b) a ≡ true
-  lesser-left a b = rw (tallied.lesser_is a b) (go (tally.not_above a b) refl)
+  lesser-left : (a b : V) → by.tally.not_above (by.tally.lesser a b) a ≡ true
+  lesser-left a b = rw (tallied.lesser_is a b) (go (by.tally.not_above a b) refl)
     where
-      go : (q : Bool) → tally.not_above a b ≡ q → tally.not_above (cond q a b) a ≡ true
+      go : (q : Bool) → by.tally.not_above a b ≡ q → by.tally.not_above (cond q a b) a ≡ true
       go true e = tallied.order_self a
       go false e = tallied.order_total a b e
 
-  lesser-right : (a b : V) → tally.not_above (tally.lesser a b) b ≡ true
-  lesser-right a b = rw (tallied.lesser_is a b) (go (tally.not_above a b) refl)
+  lesser-right : (a b : V) → by.tally.not_above (by.tally.lesser a b) b ≡ true
+  lesser-right a b = rw (tallied.lesser_is a b) (go (by.tally.not_above a b) refl)
     where
-      go : (q : Bool) → tally.not_above a b ≡ q → tally.not_above (cond q a b) b ≡ true
+      go : (q : Bool) → by.tally.not_above a b ≡ q → by.tally.not_above (cond q a b) b ≡ true
       go true e = e
       go false e = tallied.order_self b
 
-  unfoldable pub Less : Lab r rule tally → Lab r rule tally → Type 0
+  unfoldable pub Less : Down S V → Down S V → Type 0
   Less x y = (p : List ℕ) → Fits x p → Fits y p
 
-  less-left : (x y : Lab r rule tally) → Less x (merge r rule tally x y)
+  less-left : (x y : Down S V) → Less x (merge by.rule by.tally x y)
   unfolding Less merge
   less-left x y p f = record {
     part = f.part;
     all = λ j h. f.all j (and_left x.all y.all j h);
     some = λ j i. or_left x.some y.some j (f.some j i);
     finish = omega (arith, f.finish);
-    lasts = or_left x.lasts y.lasts (trip_after r tally p).van.last f.lasts;
+    lasts = or_left x.lasts y.lasts (trip_after by.round by.tally p).van.last f.lasts;
     state = ruled.cover_left x.state y.state p f.part f.state;
     value = tallied.order_chain _ x.value _ (lesser-left x.value y.value) f.value;
   }
 
-  less-right : (x y : Lab r rule tally) → Less y (merge r rule tally x y)
+  less-right : (x y : Down S V) → Less y (merge by.rule by.tally x y)
   unfolding Less merge
   less-right x y p f = record {
     part = f.part;
     all = λ j h. f.all j (and_right x.all y.all j h);
     some = λ j i. or_right x.some y.some j (f.some j i);
     finish = omega (arith, f.finish);
-    lasts = or_right x.lasts y.lasts (trip_after r tally p).van.last f.lasts;
+    lasts = or_right x.lasts y.lasts (trip_after by.round by.tally p).van.last f.lasts;
     state = ruled.cover_right x.state y.state p f.part f.state;
     value = tallied.order_chain _ y.value _ (lesser-right x.value y.value) f.value;
   }
 
-  pub told-next : (p : List ℕ) (j : ℕ) → Told p → Door r.n j → length p < 16 → ¬ In j p → Told (p ++ (j ∷ []))
+  pub told-next : (p : List ℕ) (j : ℕ) → Told p → Door by.round.n j → length p < 16 → ¬ In j p → Told (p ++ (j ∷ []))
   told-next p j t d k f =
-      let e = trip-snoc r tally p j in
-      let le = r.legs (trip_after r tally p).van.last j in
-      let s = (clock-laws r).bound (length p) (trip_after r tally p).van.finish (drive r (trip_after r tally p).van.last j) j t.soon le in
+      let e = trip-snoc by.round by.tally p j in
+      let le = by.round.legs (trip_after by.round by.tally p).van.last j in
+      let s = (clock-laws by.round).bound (length p) (trip_after by.round by.tally p).van.finish (drive by.round (trip_after by.round by.tally p).van.last j) j t.soon le in
       record {
-        part = next-part r.n p j t.part d f;
+        part = next-part by.round.n p j t.part d f;
         soon = rw (e, (length-snoc p j)) s;
         fine = subst (λ (z : Trip V). Allows (length (p ++ (j ∷ []))) z.cost) (sym e)
-            (subst (λ (z : ℕ). Allows z (rides r tally (trip_after r tally p) j).cost) (sym (length-snoc p j))
-            (tallied.step_allowed (length p) (cost r tally p) j (drive r (trip_after r tally p).van.last j) (rides r tally (trip_after r tally p) j).van.finish k d le (within (length p) _ k s) t.fine));
+            (subst (λ (z : ℕ). Allows z (rides by.round by.tally (trip_after by.round by.tally p) j).cost) (sym (length-snoc p j))
+            (tallied.step_allowed (length p) (cost by.round by.tally p) j (drive by.round (trip_after by.round by.tally p).van.last j) (rides by.round by.tally (trip_after by.round by.tally p) j).van.finish k d le (within (length p) _ k s) t.fine));
         here = rw e d.high;
         last = λ i g h x. g (in-snd i p (j ∷ []) (inl (sym x ∙ ap (λ (z : Trip V). z.van.last) e)));
       }
 
-  pub arrive-fits : (l : Lab r rule tally) (p : List ℕ) (j : ℕ) → Fits l p → Told p → Allows (length p) l.value → Door r.n j → length p < 16 → ¬ In j p → Fits (arrive r rule tally l j) (p ++ (j ∷ []))
+  pub arrive-fits : (l : Down S V) (p : List ℕ) (j : ℕ) → Fits l p → Told p → Allows (length p) l.value → Door by.round.n j → length p < 16 → ¬ In j p → Fits (arrive by l j) (p ++ (j ∷ []))
   unfolding arrive
   arrive-fits l p j f t fine d k n =
-      let e = trip-snoc r tally p j in
-      let g : leg r l.lasts j ≤ drive r (trip_after r tally p).van.last j =
-      leg-le r l.lasts j (trip_after r tally p).van.last t.here f.lasts (ne_eqb (trip_after r tally p).van.last j (t.last j n d.low)) in
-      let dl = r.legs (trip_after r tally p).van.last j in
-      let early = (clock-laws r).later l.finish (trip_after r tally p).van.finish (leg r l.lasts j) (drive r (trip_after r tally p).van.last j) j f.finish g in
-      let s = (clock-laws r).bound (length p) (trip_after r tally p).van.finish (drive r (trip_after r tally p).van.last j) j t.soon dl in
+      let e = trip-snoc by.round by.tally p j in
+      let g : leg by.round l.lasts j ≤ drive by.round (trip_after by.round by.tally p).van.last j =
+      leg-le by.round l.lasts j (trip_after by.round by.tally p).van.last t.here f.lasts (ne_eqb (trip_after by.round by.tally p).van.last j (t.last j n d.low)) in
+      let dl = by.round.legs (trip_after by.round by.tally p).van.last j in
+      let early = (clock-laws by.round).later l.finish (trip_after by.round by.tally p).van.finish (leg by.round l.lasts j) (drive by.round (trip_after by.round by.tally p).van.last j) j f.finish g in
+      let s = (clock-laws by.round).bound (length p) (trip_after by.round by.tally p).van.finish (drive by.round (trip_after by.round by.tally p).van.last j) j t.soon dl in
       record {
         part = (told-next p j t d k n).part;
-        all = λ i h. elim (or_split l.all (one j) i h) [ inl x ↦ in_left p (j ∷ []) i (f.all i x) | inr x ↦ in-snd i p (j ∷ []) (inl (one_only j i x)) ];
+        all = λ i h. elim (or_split l.all (bit_of j) i h) [ inl x ↦ in_left p (j ∷ []) i (f.all i x) | inr x ↦ in-snd i p (j ∷ []) (inl (one_only j i x)) ];
         some = λ i h. elim (in_split i p (j ∷ []) h) [
-          | inl x ↦ or_left l.some (one j) i (f.some i x)
-          | inr x ↦ or_right l.some (one j) i (elim x [ inl y ↦ rw y (one-self j) | inr y ↦ absurd y ])
+          | inl x ↦ or_left l.some (bit_of j) i (f.some i x)
+          | inr x ↦ or_right l.some (bit_of j) i (elim x [ inl y ↦ rw y (one-self j) | inr y ↦ absurd y ])
         ];
         finish = rw e early;
         lasts = rw e (one-self j);
         state = ruled.step_stands l.state p j (record { part = t.part; door = d; new = n }) f.state;
-        value = subst (λ (z : Trip V). tally.not_above (tally.step l.value j (leg r l.lasts j) (finish r l.finish (leg r l.lasts j) j)) z.cost ≡ true) (sym e)
-            (tallied.step_rises (length p) l.value (cost r tally p) j (leg r l.lasts j) (drive r (trip_after r tally p).van.last j) (finish r l.finish (leg r l.lasts j) j) (rides r tally (trip_after r tally p) j).van.finish
+        value = subst (λ (z : Trip V). by.tally.not_above (by.tally.step l.value j (leg by.round l.lasts j) (finish by.round l.finish (leg by.round l.lasts j) j)) z.cost ≡ true) (sym e)
+            (tallied.step_rises (length p) l.value (cost by.round by.tally p) j (leg by.round l.lasts j) (drive by.round (trip_after by.round by.tally p).van.last j) (finish by.round l.finish (leg by.round l.lasts j) j) (rides by.round by.tally (trip_after by.round by.tally p) j).van.finish
             k d g dl early (within (length p) _ k s) fine t.fine f.value);
       }
 
-  -- ---- every label's value is one that the tally allows
-  unfoldable pub Good : ℕ → List (Option (Lab r rule tally)) → Type 0
-  Good k labs = (a : ℕ) (l : Lab r rule tally) → get_or labs a None ≡ Some l → (Allows k l.value) × (l.finish ≤ latest k)
+  -- ---- every label's value is bit_of that the by.tally allows
+  unfoldable pub Good : ℕ → List (Option (Down S V)) → Type 0
+  Good k labs = (a : ℕ) (l : Down S V) → get_or labs a None ≡ Some l → (Allows k l.value) × (l.finish ≤ latest k)
 
-  pub good-first : Good 0 (firsts r rule tally)
+  pub good-first : Good 0 (firsts by.rule by.tally)
   unfolding Good
-  good-first zero l e = let x : first r rule tally ≡ l = cc in rw (← x) (tallied.start_allowed, omega arith)
+  good-first zero l e = let x : first by.rule by.tally ≡ l = cc in rw (← x) (tallied.start_allowed, omega arith)
   good-first (suc a) l e = absurd cc
 
-  lesser-fine : (k : ℕ) (a b : V) → Allows k a → Allows k b → Allows k (tally.lesser a b)
-  lesser-fine k a b x y = rw (tallied.lesser_is a b) (go (tally.not_above a b))
+  lesser-fine : (k : ℕ) (a b : V) → Allows k a → Allows k b → Allows k (by.tally.lesser a b)
+  lesser-fine k a b x y = rw (tallied.lesser_is a b) (go (by.tally.not_above a b))
     where
       go : (q : Bool) → Allows k (cond q a b)
       go true = x
       go false = y
 
-  pub good-next : (k : ℕ) (labs : List (Option (Lab r rule tally))) (L : Layer) (count : ℕ) → k < 16 → Good k labs → NeatLayer r.n L → Good (suc k) (labels_next r rule tally labs L count)
+  pub good-next : (k : ℕ) (labs : List (Option (Down S V))) (L : Layer) (count : ℕ) → k < 16 → Good k labs → NeatLayer by.round.n L → Good (suc k) (labels_next by labs L count)
   unfolding Good labels_next arrive merge
   good-next k labs L count h good neat b m e =
-      gather-all (merge r rule tally) (λ x. (Allows (suc k) x.value) × (x.finish ≤ latest (suc k)))
+      gather-all (merge by.rule by.tally) (λ x. (Allows (suc k) x.value) × (x.finish ≤ latest (suc k)))
       (λ x y p q. (lesser-fine (suc k) x.value y.value p.0 q.0, omega arith))
-      (ins (arrive r rule tally) b labs L) m
-      (λ x i. each x (ins-from (arrive r rule tally) b labs L x i))
-      (next-some (arrive r rule tally) (merge r rule tally) labs L count b m e)
+      (ins (arrive by) b labs L) m
+      (λ x i. each x (ins-from (arrive by) b labs L x i))
+      (next-some (arrive by) (merge by.rule by.tally) labs L count b m e)
     where
-      each : (x : Lab r rule tally) → From (arrive r rule tally) b labs L x → (Allows (suc k) x.value) × (x.finish ≤ latest (suc k))
+      each : (x : Down S V) → From (arrive by) b labs L x → (Allows (suc k) x.value) × (x.finish ≤ latest (suc k))
       each x f =
-          let d = neat-door r L neat f.source f.door b f.arc in
+          let d = neat-door by.round L neat f.source f.door b f.arc in
           let g = good f.source f.label f.labelled in
-          let lb = leg-bound r f.label.lasts f.door in
-          let fin = finish r f.label.finish (leg r f.label.lasts f.door) f.door in
-          let early : fin ≤ latest (suc k) = (clock-laws r).bound k f.label.finish (leg r f.label.lasts f.door) f.door g.1 lb in
-          rw f.is (tallied.step_allowed k f.label.value f.door (leg r f.label.lasts f.door) fin h d lb (within k fin h early) g.0, early)
+          let lb = leg-bound by.round f.label.lasts f.door in
+          let fin = finish by.round f.label.finish (leg by.round f.label.lasts f.door) f.door in
+          let early : fin ≤ latest (suc k) = (clock-laws by.round).bound k f.label.finish (leg by.round f.label.lasts f.door) f.door g.1 lb in
+          rw f.is (tallied.step_allowed k f.label.value f.door (leg by.round f.label.lasts f.door) fin h d lb (within k fin h early) g.0, early)
 
   -- ---- the label at a place fits the beginning p
-  unfoldable pub At : List (Option (Lab r rule tally)) → ℕ → List ℕ → Type 0
-  At labs a p = (l : Lab r rule tally) × (get_or labs a None ≡ Some l) × Fits l p
+  unfoldable pub At : List (Option (Down S V)) → ℕ → List ℕ → Type 0
+  At labs a p = (l : Down S V) × (get_or labs a None ≡ Some l) × Fits l p
 
-  pub at_first : At (firsts r rule tally) 0 []
+  pub at_first : At (firsts by.rule by.tally) 0 []
   unfolding At
-  at_first = (first r rule tally, refl, fits-first)
+  at_first = (first by.rule by.tally, refl, fits-first)
 
-  pub at_next : (labs : List (Option (Lab r rule tally))) (L : Layer) (count a j b : ℕ) (p : List ℕ) → target (node L a) j ≡ suc b → b < count
-      → At labs a p → Told p → Good (length p) labs → Door r.n j → length p < 16 → ¬ In j p → At (labels_next r rule tally labs L count) b (p ++ (j ∷ []))
+  pub at_next : (labs : List (Option (Down S V))) (L : Layer) (count a j b : ℕ) (p : List ℕ) → target (node L a) j ≡ suc b → b < count
+      → At labs a p → Told p → Good (length p) labs → Door by.round.n j → length p < 16 → ¬ In j p → At (labels_next by labs L count) b (p ++ (j ∷ []))
   unfolding At Good labels_next Less
   at_next labs L count a j b p e h x t good d k n =
-      let q = next-at {A = Lab r rule tally} (merge r rule tally) Less (λ x p f. f) (λ x y z f g p h. g p (f p h)) less-left less-right (arrive r rule tally) labs L count a j b x.0 e x.1 h in
+      let q = next-at {A = Down S V} (merge by.rule by.tally) Less (λ x p f. f) (λ x y z f g p h. g p (f p h)) less-left less-right (arrive by) labs L count a j b x.0 e x.1 h in
       (q.0, q.1, q.2 (p ++ (j ∷ [])) (arrive-fits x.0 p j x.2 t (good a x.0 x.1).0 d k n))
 
 -- ---- upward
@@ -226,8 +229,8 @@ pub record FitsUp (u : Up) (w : List ℕ) : Type 0 where
 
 climb-fits : (u : Up) (j : ℕ) (w : List ℕ) → FitsUp u w → FitsUp (climb u j) (j ∷ w)
 climb-fits u j w f = record {
-  all = λ i h. elim (or_split u.allup (one j) i h) [ inl x ↦ inr (f.all i x) | inr x ↦ inl (one_only j i x) ];
-  some = λ i h. elim h [ inl e ↦ or_right u.someup (one j) i (rw e (one-self j)) | inr x ↦ or_left u.someup (one j) i (f.some i x) ];
+  all = λ i h. elim (or_split u.allup (bit_of j) i h) [ inl x ↦ inr (f.all i x) | inr x ↦ inl (one_only j i x) ];
+  some = λ i h. elim h [ inl e ↦ or_right u.someup (bit_of j) i (rw e (one-self j)) | inr x ↦ or_left u.someup (bit_of j) i (f.some i x) ];
 }
 
 up_left : (x y : Up) (w : List ℕ) → FitsUp x w → FitsUp (merge_up x y) w
@@ -255,35 +258,35 @@ path-length (L ∷ Ls) a (j ∷ w) p = ap suc (path-length Ls p.0 w p.2)
 or-none : (a b c d e f : Bool) → a ≡ false → b ≡ false → c ≡ false → d ≡ false → e ≡ false → f ≡ false → (a || (b || (c || (d || (e || f))))) ≡ false
 or-none a b c d e f p q s t u v = rw (p, q, s, t, u, v)
 
-module _ {S V : Type 0} {Keeps : List ℕ → Type 0} {Stands : S → List ℕ → Type 0} {Allows : ℕ → V → Type 0} (r : Round) (rule : RuleSense S) (ruled : RuleLaws r.n rule Keeps Stands) (tally : TallySense V) (tallied : TallyLaws r.n tally Allows) where
-  pub going-facts : (p w : List ℕ) (j : ℕ) → Going r rule ruled tally tallied p (j ∷ w) → Door r.n j × (¬ In j p) × (length p < 16)
+module _ {S V : Type 0} {Keeps : List ℕ → Type 0} {Stands : S → List ℕ → Type 0} {Allows : ℕ → V → Type 0} (by : Setting S V) (ruled : RuleLaws by.round.n by.rule Keeps Stands) (tallied : TallyLaws by.round.n by.tally Allows) where
+  pub going-facts : (p w : List ℕ) (j : ℕ) → Going by ruled tallied p (j ∷ w) → Door by.round.n j × (¬ In j p) × (length p < 16)
   going-facts p w j g =
-      let x = part-next r.n p j w g.part in
-      (x.door, x.new, omega (arith, g.total, r.most))
+      let x = part-next by.round.n p j w g.part in
+      (x.door, x.new, omega (arith, g.total, by.round.most))
 
-  pub not-barred : (p w : List ℕ) (j : ℕ) (l : Lab r rule tally) (u : Up) → Going r rule ruled tally tallied p (j ∷ w) → Told r rule ruled tally tallied p → Fits r rule ruled tally tallied l p → Fits r rule ruled tally tallied (arrive r rule tally l j) (p ++ (j ∷ []))
-      → FitsUp u w → barred r rule tally (length p) (suc (length w)) j (Some l) (Some u) ≡ false
+  pub not-barred : (p w : List ℕ) (j : ℕ) (l : Down S V) (u : Up) → Going by ruled tallied p (j ∷ w) → Told by ruled tallied p → Fits by ruled tallied l p → Fits by ruled tallied (arrive by l j) (p ++ (j ∷ []))
+      → FitsUp u w → barred by.round by.rule (length p) (suc (length w)) j (Some l) (Some u) ≡ false
   unfolding arrive
   not-barred p w j l u g t f a fu =
       let facts = going-facts p w j g in
-      or-none (has l.all j) (ltb (ones (bit_or l.some (one j))) (suc (length p))) (ltb (door r j).closes (finish r l.finish (leg r l.lasts j) j))
-      (rule.bars l.state j) (has u.allup j) (ltb (ones (bit_or u.someup (one j))) (suc (length w)))
+      or-none (has l.all j) (ltb (ones (bit_or l.some (bit_of j))) (suc (length p))) (ltb (door by.round j).closes (finish by.round l.finish (leg by.round l.lasts j) j))
+      (by.rule.bars l.state j) (has u.allup j) (ltb (ones (bit_or u.someup (bit_of j))) (suc (length w)))
       (false_from_ne_true (has l.all j) (λ h. facts.1 (f.all j h)))
-      (le-ltb (ones (bit_or l.some (one j))) (suc (length p))
-      (rw (← (length-snoc p j)) (ones_in r.n (bit_or l.some (one j)) (p ++ (j ∷ [])) a.part a.some)))
-      (le-ltb (door r j).closes (finish r l.finish (leg r l.lasts j) j) (le_trans a.finish closing))
-      (false_from_ne_true (rule.bars l.state j) (λ h. ruled.bars_breaks l.state p j (part-next r.n p j w g.part) f.state h
+      (le-ltb (ones (bit_or l.some (bit_of j))) (suc (length p))
+      (rw (← (length-snoc p j)) (ones_in by.round.n (bit_or l.some (bit_of j)) (p ++ (j ∷ [])) a.part a.some)))
+      (le-ltb (door by.round j).closes (finish by.round l.finish (leg by.round l.lasts j) j) (le_trans a.finish closing))
+      (false_from_ne_true (by.rule.bars l.state j) (λ h. ruled.bars_breaks l.state p j (part-next by.round.n p j w g.part) f.state h
       (ruled.keeps_front (p ++ (j ∷ [])) w (rw (snoc-assoc p w j) g.part) (rw (snoc-assoc p w j) g.keeps))))
-      (false_from_ne_true (has u.allup j) (λ h. (part-tail r.n p (j ∷ w) g.part).1 (fu.all j h)))
-      (le-ltb (ones (bit_or u.someup (one j))) (suc (length w))
-      (ones_in r.n (bit_or u.someup (one j)) (j ∷ w) (part-tail r.n p (j ∷ w) g.part) (climb-fits u j w fu).some))
+      (false_from_ne_true (has u.allup j) (λ h. (part-tail by.round.n p (j ∷ w) g.part).1 (fu.all j h)))
+      (le-ltb (ones (bit_or u.someup (bit_of j))) (suc (length w))
+      (ones_in by.round.n (bit_or u.someup (bit_of j)) (j ∷ w) (part-tail by.round.n p (j ∷ w) g.part) (climb-fits u j w fu).some))
     where
-      closing : (trip_after r tally (p ++ (j ∷ []))).van.finish ≤ (door r j).closes
-      closing = rw (← (sym (van-snoc r p j) ∙ sym (trip-van r tally (p ++ (j ∷ []))))) g.timely.0
+      closing : (trip_after by.round by.tally (p ++ (j ∷ []))).van.finish ≤ (door by.round j).closes
+      closing = rw (← (sym (van-snoc by.round p j) ∙ sym (trip-van by.round by.tally (p ++ (j ∷ []))))) g.timely.0
 
-  pub sweeps-keep : (p w : List ℕ) (labs : List (Option (Lab r rule tally))) (Ls : Net) (a : ℕ) → Going r rule ruled tally tallied p w → Told r rule ruled tally tallied p → At r rule ruled tally tallied labs a p
-      → Good r rule ruled tally tallied (length p) labs → Neat r.n Ls → PathFrom Ls a w → PathFrom (sweeps r rule tally (length p) labs Ls) a w
-  unfolding sweeps At
+  pub sweeps-keep : (p w : List ℕ) (labs : List (Option (Down S V))) (Ls : Net) (a : ℕ) → Going by ruled tallied p w → Told by ruled tallied p → At by ruled tallied labs a p
+      → Good by ruled tallied (length p) labs → Neat by.round.n Ls → PathFrom Ls a w → PathFrom (sweeps by (length p) labs Ls) a w
+  unfolding thinned At
   sweeps-keep p [] labs [] a g t at good neat q = q
   sweeps-keep p (j ∷ w) labs [] a g t at good neat q = absurd q
   sweeps-keep p [] labs (L ∷ Ls) a g t at good neat q = absurd q
@@ -291,25 +294,25 @@ module _ {S V : Type 0} {Keeps : List ℕ → Type 0} {Stands : S → List ℕ �
       let b = q.0 in
       let facts = going-facts p w j g in
       let x = path-up Ls b w q.2 in
-      let fits = arrive-fits r rule ruled tally tallied at.0 p j at.2 t (unfold Good in (good a at.0 at.1).0) facts.0 facts.2 facts.1 in
+      let fits = arrive-fits by ruled tallied at.0 p j at.2 t (unfold Good in (good a at.0 at.1).0) facts.0 facts.2 facts.1 in
       let nb = not-barred p w j at.0 x.0 g t at.2 fits x.2 in
-      let nb' : barred r rule tally (length p) (suc (length Ls)) j (get_or labs a None) (get_or (ups Ls) b None) ≡ false =
+      let nb' : barred by.round by.rule (length p) (suc (length Ls)) j (get_or labs a None) (get_or (ups Ls) b None) ≡ false =
       rw (at.1, x.1, ← path-length Ls b w q.2) nb in
-      let next' = at_next r rule ruled tally tallied labs L (width Ls) a j b p q.1 (inside Ls b w q.2) at t good facts.0 facts.2 facts.1 in
-      let good' = good-next r rule ruled tally tallied (length p) labs L (width Ls) facts.2 good neat.0 in
-      let rest = sweeps-keep (p ++ (j ∷ [])) w (labels_next r rule tally labs L (width Ls)) Ls b (going_next r rule ruled tally tallied p w j g)
-      (told-next r rule ruled tally tallied p j t facts.0 facts.2 facts.1) next'
+      let next' = at_next by ruled tallied labs L (width Ls) a j b p q.1 (inside Ls b w q.2) at t good facts.0 facts.2 facts.1 in
+      let good' = good-next by ruled tallied (length p) labs L (width Ls) facts.2 good neat.0 in
+      let rest = sweeps-keep (p ++ (j ∷ [])) w (labels_next by labs L (width Ls)) Ls b (going_next by ruled tallied p w j g)
+      (told-next by ruled tallied p j t facts.0 facts.2 facts.1) next'
       (rw (length-snoc p j) good') neat.1 q.2 in (
         b,
-        redirect-arc (λ a j b. cond (barred r rule tally (length p) (suc (length Ls)) j (get_or labs a None) (get_or (ups Ls) b None)) 0 (suc b)) L a j b q.1 ∙ ap (λ (z : Bool). cond z 0 (suc b)) nb',
+        redirect-arc (λ a j b. cond (barred by.round by.rule (length p) (suc (length Ls)) j (get_or labs a None) (get_or (ups Ls) b None)) 0 (suc b)) L a j b q.1 ∙ ap (λ (z : Bool). cond z 0 (suc b)) nb',
         rw (← (length-snoc p j)) rest,
       )
 
   -- an allowed order, not yet under way
-  pub setting-out : (w : List ℕ) → Allowed r Keeps w → Going r rule ruled tally tallied [] w
-  setting-out w o = record { part = o.part; keeps = o.keeps; timely = timely-from r [] w o.timely; total = omega (arith, o.whole) }
+  pub setting-out : (w : List ℕ) → Allowed by.round Keeps w → Going by ruled tallied [] w
+  setting-out w o = record { part = o.part; keeps = o.keeps; timely = timely-from by.round [] w o.timely; total = omega (arith, o.whole) }
 
-  pub sweep-keeps : (w : List ℕ) (Ls : Net) → Allowed r Keeps w → Neat r.n Ls → PathFrom Ls 0 w → PathFrom (sweep r rule tally Ls) 0 w
+  pub sweep-keeps : (w : List ℕ) (Ls : Net) → Allowed by.round Keeps w → Neat by.round.n Ls → PathFrom Ls 0 w → PathFrom (sweep by Ls) 0 w
   unfolding sweep
-  sweep-keeps w Ls o neat q = tidy-keeps (sweeps r rule tally 0 (firsts r rule tally) Ls) w
-      (sweeps-keep [] w (firsts r rule tally) Ls 0 (setting-out w o) (told_none r rule ruled tally tallied) (at_first r rule ruled tally tallied) (good-first r rule ruled tally tallied) neat q)
+  sweep-keeps w Ls o neat q = tidy-keeps (sweeps by 0 (firsts by.rule by.tally) Ls) w
+      (sweeps-keep [] w (firsts by.rule by.tally) Ls 0 (setting-out w o) (told_none by ruled tallied) (at_first by ruled tallied) (good-first by ruled tallied) neat q)

@@ -1,5 +1,5 @@
 -- Part orders and their beginnings, the van on its way, and legs.
-use Rattle.std.proofs.Common.{◌≡◌, ℕ, zero, suc, ◌+◌, ◌<◌, ◌≤◌, min, Bool, true, false, not, ◌&&◌, eqb, ◌⊎◌, List, [], ◌∷◌, ◌++◌, length, Some, None, fold, Option, sym, refl, ap, ◌∙◌, subst, inl, inr, append_assoc, arith, length-append}
+use Rattle.std.proofs.Common.{◌≡◌, ℕ, zero, suc, ◌+◌, ◌<◌, ◌≤◌, min, Bool, true, false, cond, not, ◌&&◌, eqb, ◌⊎◌, List, [], ◌∷◌, ◌++◌, length, Some, None, fold, Option, unwrap_or, sym, refl, ap, ◌∙◌, subst, inl, inr, append_assoc, arith, length-append}
 use Rattle.std.proofs.lemmas.List.Sums.{fold_push}
 use Rattle.std.proofs.lemmas.Bool.{eqb-true, eqb-false, and_parts}
 use Rattle.std.specs.List.{range_with_len}
@@ -12,7 +12,7 @@ use Rattle.tallies.specs.Tallies.{TallySense}
 use Rattle.orders.specs.Costs.{rides, trip_after}
 use Rattle.orders.specs.Times.{yard, goes, van_after, Timely}
 use Rattle.orders.specs.declared.van.Van.{Van}
-use Rattle.layers.specs.Labels.{one, nearest, nearest_if, leg_step, or_zero, leg}
+use Rattle.layers.specs.Labels.{bit_of, nearest, leg_step, leg}
 use Rattle.layers.proofs.Sets.{one-self, one_only}
 
 -- ---- lists of doors
@@ -39,7 +39,7 @@ length-snoc p j = omega (arith, length-append p (j ∷ []))
 pub snoc-assoc : (p w : List ℕ) (j : ℕ) → (p ++ (j ∷ [])) ++ w ≡ p ++ (j ∷ w)
 snoc-assoc p w j = append_assoc p (j ∷ []) w
 
--- ---- one door more
+-- ---- bit_of door more
 pub trip-snoc : {V : Type 0} (r : Round) (tally : TallySense V) (p : List ℕ) (j : ℕ) → trip_after r tally (p ++ (j ∷ [])) ≡ rides r tally (trip_after r tally p) j
 trip-snoc r tally p j = fold_push (rides r tally) (record { van = yard; cost = tally.start }) p j
 
@@ -62,6 +62,12 @@ timely-from r p (j ∷ w) h = (
 )
 
 -- ---- legs
+abbrev nearest_if : Bool → Option ℕ → ℕ → Option ℕ
+nearest_if q o d = cond q (nearest o d) o
+
+abbrev or_zero : Option ℕ → ℕ
+or_zero o = unwrap_or o 0
+
 -- the places i, i + 1, .. , k of them, after what is known from those below
 abbrev legs : Round → ℕ → ℕ → ℕ → ℕ → Option ℕ → Option ℕ
 legs r m j k i o = fold (leg_step r m j) o (range_with_len i k)
@@ -123,31 +129,31 @@ module _ (r : Round) (t j : ℕ) where
   near-stay true i f = let e = f refl in ap (λ (x : ℕ). Some x) (let y : drive r i j ≡ drive r t j = ap (λ (z : ℕ). drive r z j) e in omega arith)
   near-stay false i f = refl
 
-  legs-stay : (k i : ℕ) → legs r (one t) j k i (Some (drive r t j)) ≡ Some (drive r t j)
+  legs-stay : (k i : ℕ) → legs r (bit_of t) j k i (Some (drive r t j)) ≡ Some (drive r t j)
   unfolding leg_step
   legs-stay zero i = refl
   legs-stay (suc k) i =
-      ap (legs r (one t) j k (i + 1)) (near-stay (has (one t) i && not (eqb i j)) i (λ e. one_only t i (and_parts (has (one t) i) (not (eqb i j)) e).0)) ∙ legs-stay k (i + 1)
+      ap (legs r (bit_of t) j k (i + 1)) (near-stay (has (bit_of t) i && not (eqb i j)) i (λ e. one_only t i (and_parts (has (bit_of t) i) (not (eqb i j)) e).0)) ∙ legs-stay k (i + 1)
 
-  legs_one : (k i : ℕ) → i ≤ t → t < i + k → eqb t j ≡ false → legs r (one t) j k i None ≡ Some (drive r t j)
+  legs_one : (k i : ℕ) → i ≤ t → t < i + k → eqb t j ≡ false → legs r (bit_of t) j k i None ≡ Some (drive r t j)
   unfolding leg_step
   legs_one zero i a b g = absurd (omega arith)
   legs_one (suc k) i a b g = go (eqb i t) refl (λ c. legs_one k (i + 1) c (omega arith) g)
     where
-      go : (q : Bool) → eqb i t ≡ q → (i + 1 ≤ t → legs r (one t) j k (i + 1) None ≡ Some (drive r t j))
-          → legs r (one t) j k (i + 1) (nearest_if (has (one t) i && not (eqb i j)) None (drive r i j)) ≡ Some (drive r t j)
+      go : (q : Bool) → eqb i t ≡ q → (i + 1 ≤ t → legs r (bit_of t) j k (i + 1) None ≡ Some (drive r t j))
+          → legs r (bit_of t) j k (i + 1) (nearest_if (has (bit_of t) i && not (eqb i j)) None (drive r i j)) ≡ Some (drive r t j)
       go true e f =
           let s : i ≡ t = eqb-true i t e in
-          let x : (has (one t) i && not (eqb i j)) ≡ true = rw (s, one-self t, g) refl in
-          ap (λ (b : Bool). legs r (one t) j k (i + 1) (nearest_if b None (drive r i j))) x ∙ ap (λ (y : ℕ). legs r (one t) j k (i + 1) (Some (drive r y j))) s ∙ legs-stay k (i + 1)
+          let x : (has (bit_of t) i && not (eqb i j)) ≡ true = rw (s, one-self t, g) refl in
+          ap (λ (b : Bool). legs r (bit_of t) j k (i + 1) (nearest_if b None (drive r i j))) x ∙ ap (λ (y : ℕ). legs r (bit_of t) j k (i + 1) (Some (drive r y j))) s ∙ legs-stay k (i + 1)
       go false e f =
-          let x : (has (one t) i && not (eqb i j)) ≡ false = off (has (one t) i) refl in
+          let x : (has (bit_of t) i && not (eqb i j)) ≡ false = off (has (bit_of t) i) refl in
           rw x (f (omega (arith, eqb-false i t e)))
         where
-          off : (q : Bool) → has (one t) i ≡ q → (q && not (eqb i j)) ≡ false
+          off : (q : Bool) → has (bit_of t) i ≡ q → (q && not (eqb i j)) ≡ false
           off true h = absurd (eqb-false i t e (one_only t i h))
           off false h = refl
 
-  pub leg-one : t ≤ r.n → eqb t j ≡ false → leg r (one t) j ≡ drive r t j
+  pub leg-one : t ≤ r.n → eqb t j ≡ false → leg r (bit_of t) j ≡ drive r t j
   unfolding leg
   leg-one h g = ap or_zero (legs_one (r.n + 1) 0 (omega arith) (omega arith) g)

@@ -9,7 +9,9 @@ use Rattle.orders.specs.Costs.{cost}
 use Rattle.layers.specs.declared.node.Node.{Node}
 use Rattle.layers.specs.declared.refined.Refined.TheVariants.{Whole}
 use Rattle.layers.specs.Flow.{PathFrom}
-use Rattle.layers.specs.Calls.{Call, EachCut, nodes, arcs, relaid, agreed_all, sweep_answer, opened_on, refined, run, bound, must, settled}
+use Rattle.layers.specs.declared.call.Call.{Call}
+use Rattle.layers.specs.Settings.{Setting, setting}
+use Rattle.layers.specs.Calls.{EachCut, arcs, labels, relaid, agreed_all, sweep_answer, opened_on, refined, run, bound, must, settled}
 
 -- i stands ahead of j in w
 abbrev pub Ahead : ℕ → ℕ → List ℕ → Type 0
@@ -26,63 +28,64 @@ pub record MustMeans {S V : Type 0} (n W i j : ℕ) (xs : List (Node S V)) (b : 
   pub no' : b ≡ false → (w : List ℕ) × IsPath n W xs w × Ahead j i w
 
 -- of the records xs, which the calls cs left
-module _ {S V : Type 0} (r : Round) (rule : RuleSense S) (Keeps : List ℕ → Type 0) (tally : TallySense V) (W : ℕ) (cs : List (Call V)) where
+module _ {S V : Type 0} (by : Setting S V) (Keeps : List ℕ → Type 0) (cs : List (Call V)) where
   -- an allowed order whose cost is above none of the ceilings
   abbrev pub Wanted : List ℕ → Type 0
-  Wanted w = Allowed r Keeps w × EachCut (λ c. tally.not_above (cost r tally w) c ≡ true) cs
+  Wanted w = Allowed by.round Keeps w × EachCut (λ c. by.tally.not_above (cost by.round by.tally w) c ≡ true) cs
 
   -- what holds at any time
   pub record NothingLost (xs : List (Node S V)) : Type 0 where
     -- every wanted order is a path
-    pub still : (w : List ℕ) → Wanted w → IsPath r.n W xs w
+    pub still : (w : List ℕ) → Wanted w → IsPath by.round.n by.width xs w
     -- the bound is not above the cost of any
-    pub low : (w : List ℕ) (v : V) → Wanted w → bound r.n W xs ≡ Some v → tally.not_above v (cost r tally w) ≡ true
+    pub low : (w : List ℕ) (v : V) → Wanted w → bound by.round.n by.width xs ≡ Some v → by.tally.not_above v (cost by.round by.tally w) ≡ true
     -- if there is none, no order is wanted
-    pub low_none : bound r.n W xs ≡ None → (w : List ℕ) → Wanted w → ⊥
+    pub low_none : bound by.round.n by.width xs ≡ None → (w : List ℕ) → Wanted w → ⊥
     -- if i must be ahead of j, it is so in every wanted order
-    pub must_yes : (i j : ℕ) → Door r.n i → Door r.n j → (i ≢ j) → must r.n W i j xs ≡ true → (w : List ℕ) → Wanted w → Ahead i j w
+    pub must_yes : (i j : ℕ) → Door by.round.n i → Door by.round.n j → (i ≢ j) → must by.round.n by.width i j xs ≡ true → (w : List ℕ) → Wanted w → Ahead i j w
 
   -- what holds of a settled diagram
   pub record NothingFalse (xs : List (Node S V)) : Type 0 where
     -- every path is an allowed order
-    pub allowed : (w : List ℕ) → IsPath r.n W xs w → Allowed r Keeps w
+    pub allowed : (w : List ℕ) → IsPath by.round.n by.width xs w → Allowed by.round Keeps w
     -- the bound is the cost of a path, and not above that of any
-    pub least : (v : V) → bound r.n W xs ≡ Some v → (w : List ℕ) × IsPath r.n W xs w × (cost r tally w ≡ v)
-    pub least_of : (v : V) → bound r.n W xs ≡ Some v → (w : List ℕ) → IsPath r.n W xs w → tally.not_above v (cost r tally w) ≡ true
+    pub least : (v : V) → bound by.round.n by.width xs ≡ Some v → (w : List ℕ) × IsPath by.round.n by.width xs w × (cost by.round by.tally w ≡ v)
+    pub least_of : (v : V) → bound by.round.n by.width xs ≡ Some v → (w : List ℕ) → IsPath by.round.n by.width xs w → by.tally.not_above v (cost by.round by.tally w) ≡ true
     -- there is none only if there is no path
-    pub least_none : bound r.n W xs ≡ None → (w : List ℕ) → IsPath r.n W xs w → ⊥
+    pub least_none : bound by.round.n by.width xs ≡ None → (w : List ℕ) → IsPath by.round.n by.width xs w → ⊥
     -- if i need not be ahead of j, some path has j ahead of i
-    pub must_no : (i j : ℕ) → must r.n W i j xs ≡ false → (w : List ℕ) × IsPath r.n W xs w × Ahead j i w
+    pub must_no : (i j : ℕ) → must by.round.n by.width i j xs ≡ false → (w : List ℕ) × IsPath by.round.n by.width xs w × Ahead j i w
 
   -- nothing is lost at any time, and nothing is false once the diagram is settled
   pub record Sure (xs : List (Node S V)) : Type 0 where
     pub nothing_lost : NothingLost xs
-    pub nothing_false : settled r rule tally W xs ≡ true → NothingFalse xs
+    pub nothing_false : settled by xs ≡ true → NothingFalse xs
 
 -- for one rule and one tally: every round that both serve, every width from 1 to 128, every lent list, every list of calls after opening
 abbrev pub Kept : {S V : Type 0} → (ℕ → Type 0) → RuleSense S → (List ℕ → Type 0) → (ℕ → Type 0) → TallySense V → Type 0
 Kept {S} {V} RuleServes rule Keeps TallyServes tally =
     (r : Round) → RuleServes r.n → TallyServes r.n → (W : ℕ) → 1 ≤ W → W ≤ 128 → (lent : List (Node S V)) (cs : List (Call V))
-    → Sure r rule Keeps tally W cs (run r rule tally W cs (opened_on r rule tally W lent))
+    → let by = setting r rule tally W in Sure by Keeps cs (run by cs (opened_on by lent))
 
 -- the labels that stand: after every list of calls the records are the arcs read off them, labelled anew, and later places are those lent
 abbrev pub WorkedOut : {S V : Type 0} → (ℕ → Type 0) → RuleSense S → TallySense V → Type 0
 WorkedOut {S} {V} RuleServes rule tally =
     (r : Round) → RuleServes r.n → (W : ℕ) → 1 ≤ W → W ≤ 128 → (lent : List (Node S V)) (cs : List (Call V))
-    → run r rule tally W cs (opened_on r rule tally W lent) ≡ relaid r rule tally W lent (arcs r.n W (run r rule tally W cs (opened_on r rule tally W lent)))
+    → let by = setting r rule tally W in let xs = run by cs (opened_on by lent) in xs ≡ relaid by lent (arcs r.n W xs)
 
 -- settled is yes exactly when the in-arcs of each node agree and a sweep would take out nothing
 abbrev pub SettledMeans : {S V : Type 0} → (ℕ → Type 0) → RuleSense S → TallySense V → Type 0
 SettledMeans {S} {V} RuleServes rule tally =
     (r : Round) → RuleServes r.n → (W : ℕ) → 1 ≤ W → W ≤ 128 → (lent : List (Node S V)) (cs : List (Call V))
-    → let xs = run r rule tally W cs (opened_on r rule tally W lent) in settled r rule tally W xs ≡ (agreed_all r rule tally (nodes r.n W xs) && sweep_answer r rule tally W xs == 0)
+    → let by = setting r rule tally W in let xs = run by cs (opened_on by lent) in
+    settled by xs ≡ (agreed_all by (arcs r.n W xs) (labels r.n W xs) && sweep_answer by xs == 0)
 
 -- refine of these records that answers whole leaves the diagram settled
-abbrev pub WholeSettles : {S V : Type 0} → Round → RuleSense S → TallySense V → ℕ → List (Node S V) → Type 0
-WholeSettles r rule tally W xs = (refined r rule tally W xs).0 ≡ Whole → settled r rule tally W (refined r rule tally W xs).1 ≡ true
+abbrev pub WholeSettles : {S V : Type 0} → Setting S V → List (Node S V) → Type 0
+WholeSettles by xs = (refined by xs).0 ≡ Whole → settled by (refined by xs).1 ≡ true
 
 -- so after every list of calls
 abbrev pub WholeSettlesAlways : {S V : Type 0} → (ℕ → Type 0) → RuleSense S → TallySense V → Type 0
 WholeSettlesAlways {S} {V} RuleServes rule tally =
     (r : Round) → RuleServes r.n → (W : ℕ) → 1 ≤ W → W ≤ 128 → (lent : List (Node S V)) (cs : List (Call V))
-    → WholeSettles r rule tally W (run r rule tally W cs (opened_on r rule tally W lent))
+    → let by = setting r rule tally W in WholeSettles by (run by cs (opened_on by lent))

@@ -1,22 +1,24 @@
 -- Labels: what each arc brings to its target, and what a node gathers.
-use Rattle.std.specs.Prelude.{ℕ, suc, ◌+◌, ◌^◌, min, Bool, true, false, not, ◌&&◌, ◌||◌, List, [], ◌∷◌, Some, None, fold, Option, ◌==◌, bit_and, bit_or, count_ones, nat_lt}
+use Rattle.std.specs.Prelude.{ℕ, suc, ◌+◌, ◌^◌, min, Bool, true, false, if◌then◌else◌, not, ◌&&◌, ◌||◌, List, [], ◌∷◌, Some, None, fold, Option, unwrap_or, ◌==◌, bit_and, bit_or, count_ones, nat_lt}
 use Rattle.std.specs.List.{range_with_len}
-use Rattle.layers.specs.declared.node.Down.{Down}
-use Rattle.layers.specs.declared.node.Up.{Up}
-use Rattle.layers.specs.Flow.{table, Outs, Layer, Net, up, next}
 use Rattle.doors.specs.Sets.{has}
 use Rattle.round.specs.declared.table.Round.{Round}
 use Rattle.round.specs.Clock.{door, drive, finish}
 use Rattle.rules.specs.Rules.{RuleSense}
 use Rattle.tallies.specs.Tallies.{TallySense}
+use Rattle.layers.specs.declared.node.Down.{Down}
+use Rattle.layers.specs.declared.node.Up.{Up}
+use Rattle.layers.specs.Flow.{table, Outs, Layer, Net, up, next}
+use Rattle.layers.specs.Settings.{Setting}
+
+-- the set of door j alone
+abbrev pub bit_of : ℕ → ℕ
+bit_of j = 2 ^ j
 
 -- ---- upward
-abbrev pub one : ℕ → ℕ
-one j = 2 ^ j
-
 -- over an arc by door j to a node with these sets
 abbrev pub climb : Up → ℕ → Up
-climb u j = record { allup = bit_or u.allup (one j); someup = bit_or u.someup (one j) }
+climb u j = record { allup = bit_or u.allup (bit_of j); someup = bit_or u.someup (bit_of j) }
 
 -- what two arcs have together
 abbrev pub merge_up : Up → Up → Up
@@ -31,53 +33,36 @@ unfoldable pub ups : Net → List (Option Up)
 unfolding up
 ups = up climb merge_up no_up
 
--- ---- legs: the least drive to j from a member of the set m other than j, or 0 if there is none
+-- ---- legs
+-- the lesser of a drive and the least so far
 abbrev pub nearest : Option ℕ → ℕ → Option ℕ
 nearest None d = Some d
 nearest (Some e) d = Some (min e d)
 
-abbrev pub nearest_if : Bool → Option ℕ → ℕ → Option ℕ
-nearest_if true o d = nearest o d
-nearest_if false o d = o
-
--- one more place i that the van may come from
+-- the least drive to j from a member of the set m other than j, once place i is looked at too
 unfoldable pub leg_step : Round → ℕ → ℕ → Option ℕ → ℕ → Option ℕ
-leg_step r m j o i = nearest_if (has m i && not (i == j)) o (drive r i j)
+leg_step r m j o i = if has m i && not (i == j) then nearest o (drive r i j) else o
 
-abbrev pub or_zero : Option ℕ → ℕ
-or_zero None = 0
-or_zero (Some d) = d
-
+-- from any member of m, of the yard and all doors; 0 if there is none
 unfoldable pub leg : Round → ℕ → ℕ → ℕ
 unfolding leg_step
-leg r m j = or_zero (fold (leg_step r m j) None (range_with_len 0 (r.n + 1)))
+leg r m j = unwrap_or (fold (leg_step r m j) None (range_with_len 0 (r.n + 1))) 0
 
--- ---- downward
-module _ {S V : Type 0} (r : Round) (rule : RuleSense S) (tally : TallySense V) where
-  abbrev pub Lab : Type 0
-  Lab = Down S V
-
+-- ---- downward: what stands at a node
+module _ {S V : Type 0} (rule : RuleSense S) (tally : TallySense V) where
   -- the first node
-  abbrev pub first : Lab
+  abbrev pub first : Down S V
   first = record { all = 0; some = 0; finish = 0; lasts = 1; state = rule.start; value = tally.start }
 
-  -- the arrival over an arc by door j from a node with the label l
-  unfoldable pub arrive : Lab → ℕ → Lab
-  unfolding leg finish
-  arrive l j =
-      let g = leg r l.lasts j in
-      let f = finish r l.finish g j in
-      record {
-        all = bit_or l.all (one j);
-        some = bit_or l.some (one j);
-        finish = f;
-        lasts = one j;
-        state = rule.step l.state j;
-        value = tally.step l.value j g f;
-      }
+  abbrev pub firsts : List (Option (Down S V))
+  firsts = Some first ∷ []
+
+  -- a place that is not in use
+  abbrev pub blank : Down S V
+  blank = record { all = 0; some = 0; finish = 0; lasts = 0; state = rule.start; value = tally.start }
 
   -- what two arrivals, or what is gathered and one more, have together
-  unfoldable pub merge : Lab → Lab → Lab
+  unfoldable pub merge : Down S V → Down S V → Down S V
   merge x y = record {
     all = bit_and x.all y.all;
     some = bit_or x.some y.some;
@@ -87,60 +72,83 @@ module _ {S V : Type 0} (r : Round) (rule : RuleSense S) (tally : TallySense V) 
     value = tally.lesser x.value y.value;
   }
 
-  abbrev pub firsts : List (Option Lab)
-  firsts = Some first ∷ []
+-- ---- an arc by door j from a node with the label l
+-- the minute at which the work at j ends
+abbrev pub arrival_finish : {S V : Type 0} → Round → Down S V → ℕ → ℕ
+arrival_finish r l j = finish r l.finish (leg r l.lasts j) j
 
-  -- the labels of the next layer, of which there are so many nodes; None for a node to which no path leads
-  unfoldable pub labels_next : List (Option Lab) → Layer → ℕ → List (Option Lab)
-  unfolding next arrive merge
-  labels_next = next arrive merge
+-- the cost so far
+abbrev pub arrival_value : {S V : Type 0} → Round → TallySense V → Down S V → ℕ → V
+arrival_value r tally l j = tally.step l.value j (leg r l.lasts j) (arrival_finish r l j)
 
-  -- ---- open: each layer has one node, and each node an arc for every door
-  abbrev pub all_doors : Outs
-  all_doors = table r.n (λ k. 1)
+-- what it brings to its target
+unfoldable pub arrive : {S V : Type 0} → Setting S V → Down S V → ℕ → Down S V
+unfolding leg finish
+arrive by l j = record {
+  all = bit_or l.all (bit_of j);
+  some = bit_or l.some (bit_of j);
+  finish = arrival_finish by.round l j;
+  lasts = bit_of j;
+  state = by.rule.step l.state j;
+  value = arrival_value by.round by.tally l j;
+}
 
-  unfoldable pub opened : Net
-  opened = table r.n (λ i. all_doors ∷ [])
+-- the labels of the next layer, of which there are so many nodes; None for a node to which no path leads
+unfoldable pub labels_next : {S V : Type 0} → Setting S V → List (Option (Down S V)) → Layer → ℕ → List (Option (Down S V))
+unfolding next arrive merge
+labels_next by = next (arrive by) (merge by.rule by.tally)
 
-  -- ---- sweep: the arc by j from layer i, with h layers of arcs from there to the end, goes if
-  --   S1 j is in all of the source, or S2 some with j has fewer than i + 1 doors, or S3 the arrival's finish is above j's closes,
-  --   or S4 the rule bars j, or S5 j is in allup of the target, or S6 someup with j has fewer than h doors
-  abbrev pub barred : ℕ → ℕ → ℕ → Option Lab → Option Up → Bool
-  barred i h j None u = true
-  barred i h j (Some l) None = true
-  barred i h j (Some l) (Some u) =
-      has l.all j
-      || (nat_lt (count_ones (bit_or l.some (one j))) (suc i)
-      || (nat_lt (door r j).closes (finish r l.finish (leg r l.lasts j) j)
-      || (rule.bars l.state j
-      || (has u.allup j
-      || nat_lt (count_ones (bit_or u.someup (one j))) h))))
+-- ---- open: each of n layers has one node, and each node an arc for every door
+abbrev pub all_doors : ℕ → Outs
+all_doors n = table n (λ k. 1)
 
-  -- ---- cut: the arrival's value is above the ceiling c
-  abbrev pub dear : V → ℕ → Option Lab → Bool
-  dear c j None = true
-  dear c j (Some l) = not (tally.not_above (arrive l j).value c)
+unfoldable pub opened : ℕ → Net
+opened n = table n (λ i. all_doors n ∷ [])
 
-  -- ---- part: which in-arcs stay
+-- ---- sweep: the arc by j from layer i, with h layers of arcs from there to the end, goes if one of six tests bars it:
+--   1 j is in all of the source, 2 some with j has fewer than i + 1 doors, 3 the arrival's finish is above j's closes,
+--   4 the rule bars j, 5 j is in allup of the target, 6 someup with j has fewer than h doors
+abbrev pub barred : {S V : Type 0} → Round → RuleSense S → ℕ → ℕ → ℕ → Option (Down S V) → Option Up → Bool
+barred r rule i h j None u = true
+barred r rule i h j (Some l) None = true
+barred r rule i h j (Some l) (Some u) =
+    has l.all j
+    || (nat_lt (count_ones (bit_or l.some (bit_of j))) (suc i)
+    || (nat_lt (door r j).closes (arrival_finish r l j)
+    || (rule.bars l.state j
+    || (has u.allup j
+    || nat_lt (count_ones (bit_or u.someup (bit_of j))) h))))
+
+-- ---- cut: the arrival's value is above the ceiling c
+abbrev pub dear : {S V : Type 0} → Round → TallySense V → V → ℕ → Option (Down S V) → Bool
+dear r tally c j None = true
+dear r tally c j (Some l) = not (tally.not_above (arrival_value r tally l j) c)
+
+-- ---- part: which in-arcs stay
+module _ {S V : Type 0} (rule : RuleSense S) where
   -- two arrivals agree in all, some, finish, lasts and state
-  unfoldable pub agree : Lab → Lab → Bool
+  unfoldable pub agree : Down S V → Down S V → Bool
   agree x y = x.all == y.all && (x.some == y.some && (x.finish == y.finish && (x.lasts == y.lasts && rule.same x.state y.state)))
 
-  unfoldable pub agree_all : Lab → List Lab → Bool
+  -- x agrees with each of them
+  unfoldable pub agree_all : Down S V → List (Down S V) → Bool
   unfolding agree
   agree_all x [] = true
   agree_all x (y ∷ ys) = agree x y && agree_all x ys
 
-  unfoldable pub agreeing : List Lab → Bool
+  -- the first agrees with all others
+  unfoldable pub agreeing : List (Down S V) → Bool
   unfolding agree_all
   agreeing [] = true
   agreeing (x ∷ xs) = agree_all x xs
 
-  abbrev pub first_arrival : List Lab → Option Lab
-  first_arrival [] = None
-  first_arrival (x ∷ xs) = Some x
+-- the first, if there is one
+abbrev pub first_arrival : {S V : Type 0} → List (Down S V) → Option (Down S V)
+first_arrival [] = None
+first_arrival (x ∷ xs) = Some x
 
-  abbrev pub leaves : Option Lab → Option Lab → ℕ → Bool
-  leaves None o j = false
-  leaves (Some x) None j = false
-  leaves (Some x) (Some l) j = not (agree x (arrive l j))
+-- what the arc by door j from the label l brings differs from x, the first arrival
+abbrev pub leaves : {S V : Type 0} → Setting S V → Option (Down S V) → Option (Down S V) → ℕ → Bool
+leaves by None o j = false
+leaves by (Some x) None j = false
+leaves by (Some x) (Some l) j = not (agree by.rule x (arrive by l j))

@@ -1,24 +1,25 @@
 -- The lent list of records: node a of layer i at place i * W + a - 1, the end at n * W.
-use Rattle.std.specs.Prelude.{ℕ, zero, suc, Bool, cond, not, List, [], ◌∷◌, ◌++◌, map, take, drop, Some, None, Option, ◌==◌, slice_index, slice_index_or}
+use Rattle.std.specs.Prelude.{ℕ, zero, suc, Bool, if◌then◌else◌, not, List, [], ◌∷◌, ◌++◌, map, take, drop, Some, None, Option, unwrap_or, ◌==◌, slice_index, slice_index_or}
+use Rattle.rules.specs.Rules.{RuleSense}
+use Rattle.tallies.specs.Tallies.{TallySense}
 use Rattle.layers.specs.declared.node.Arcs.{Arcs}
 use Rattle.layers.specs.declared.node.Node.{Node}
 use Rattle.layers.specs.declared.node.Down.{Down}
 use Rattle.layers.specs.declared.node.Up.{Up}
 use Rattle.layers.specs.Flow.{table, Outs, Layer, Net, width}
-use Rattle.round.specs.declared.table.Round.{Round}
-use Rattle.rules.specs.Rules.{RuleSense}
-use Rattle.tallies.specs.Tallies.{TallySense}
-use Rattle.layers.specs.Labels.{no_up, Lab, firsts, labels_next, ups}
+use Rattle.layers.specs.Settings.{Setting}
+use Rattle.layers.specs.Labels.{no_up, firsts, blank, labels_next, ups}
 
 -- ---- reading: what stands in the records
 module _ {S V : Type 0} where
-  -- a place is used if its label has a last door; the nodes of a layer stand first
+  -- a place is used if its label has a last door
   abbrev pub used : Node S V → Bool
   used x = not (x.label.down.lasts == 0)
 
+  -- the nodes of a layer: they stand first
   abbrev pub standing : List (Node S V) → List (Node S V)
   standing [] = []
-  standing (x ∷ xs) = cond (used x) (x ∷ standing xs) []
+  standing (x ∷ xs) = if used x then x ∷ standing xs else []
 
   -- the nodes, layer by layer: k layers of W places, and the end
   abbrev pub layers : ℕ → ℕ → List (Node S V) → List (List (Node S V))
@@ -46,6 +47,7 @@ module _ {S V : Type 0} where
   arcs_read = map (λ x. x.arcs)
 
 -- ---- writing: arcs, with all labels worked out anew from them; an unused place has no arcs, empty sets, finish 0 and the starts
+-- the targets by all sixteen doors: 0 past the last of the round
 abbrev pub padded : Outs → List ℕ
 padded nd = table 16 (λ k. slice_index nd k)
 
@@ -58,28 +60,21 @@ abbrev pub laid_arcs : ℕ → Net → List Arcs
 laid_arcs W [] = table 1 (arcs_at [])
 laid_arcs W (L ∷ Ls) = table W (arcs_at L) ++ laid_arcs W Ls
 
-abbrev pub or_no_up : Option Up → Up
-or_no_up None = no_up
-or_no_up (Some u) = u
-
-module _ {S V : Type 0} (r : Round) (rule : RuleSense S) (tally : TallySense V) where
-  abbrev pub blank : Lab r rule tally
-  blank = record { all = 0; some = 0; finish = 0; lasts = 0; state = rule.start; value = tally.start }
-
-  abbrev pub or_blank : Option (Lab r rule tally) → Lab r rule tally
-  or_blank None = blank
-  or_blank (Some l) = l
-
-  -- place k of a layer
-  abbrev pub place : Layer → List (Option (Lab r rule tally)) → List (Option Up) → ℕ → Node S V
-  place L labs us k = record { arcs = record { to = padded (slice_index_or L k []) }; label = record { down = or_blank (slice_index_or labs k None); up = or_no_up (slice_index_or us k None) } }
+module _ {S V : Type 0} (by : Setting S V) where
+  -- the record at place k of a layer
+  abbrev pub place : Layer → List (Option (Down S V)) → List (Option Up) → ℕ → Node S V
+  place L labs us k = record {
+    arcs = arcs_at L k;
+    label = record { down = unwrap_or (slice_index_or labs k None) (blank by.rule by.tally); up = unwrap_or (slice_index_or us k None) no_up };
+  }
 
   -- from the layer with the labels labs on
-  unfoldable pub laid_from : ℕ → List (Option (Lab r rule tally)) → Net → List (Node S V)
+  unfoldable pub laid_from : List (Option (Down S V)) → Net → List (Node S V)
   unfolding ups labels_next
-  laid_from W labs [] = place [] labs [] 0 ∷ []
-  laid_from W labs (L ∷ Ls) = table W (place L labs (ups (L ∷ Ls))) ++ laid_from W (labels_next r rule tally labs L (width Ls)) Ls
+  laid_from labs [] = place [] labs [] 0 ∷ []
+  laid_from labs (L ∷ Ls) = table by.width (place L labs (ups (L ∷ Ls))) ++ laid_from (labels_next by labs L (width Ls)) Ls
 
-  unfoldable pub laid : ℕ → Net → List (Node S V)
+  -- all of them
+  unfoldable pub laid : Net → List (Node S V)
   unfolding laid_from
-  laid W Ls = laid_from W (firsts r rule tally) Ls
+  laid Ls = laid_from (firsts by.rule by.tally) Ls

@@ -4,17 +4,20 @@ use Rattle.round.specs.declared.table.Round.{Round}
 use Rattle.rules.specs.Rules.{RuleSense}
 use Rattle.tallies.specs.Tallies.{TallySense}
 use Rattle.layers.specs.declared.node.Node.{Node}
-use Rattle.layers.specs.Calls.{Call, sweep_answer, opened_on, refined, run}
+use Rattle.layers.specs.declared.call.Call.{Call}
+use Rattle.layers.specs.Settings.{Setting, setting}
+use Rattle.layers.specs.Calls.{sweep_answer, opened_on, refined, run}
 
 -- once these records are refined, whole or full, a sweep answers 0
-abbrev pub RefineSweepsOut : {S V : Type 0} → Round → RuleSense S → TallySense V → ℕ → List (Node S V) → Type 0
-RefineSweepsOut r rule tally W xs = sweep_answer r rule tally W (refined r rule tally W xs).1 ≡ 0
+abbrev pub RefineSweepsOut : {S V : Type 0} → Setting S V → List (Node S V) → Type 0
+RefineSweepsOut by xs = sweep_answer by (refined by xs).1 ≡ 0
 
 -- so it is after every list of calls on these records
-abbrev pub RefineSweepsOutFrom : {S V : Type 0} → Round → RuleSense S → TallySense V → ℕ → List (Node S V) → Type 0
-RefineSweepsOutFrom {S} {V} r rule tally W xs = (cs : List (Call V)) → RefineSweepsOut r rule tally W (run r rule tally W cs xs)
+abbrev pub RefineSweepsOutFrom : {S V : Type 0} → Setting S V → List (Node S V) → Type 0
+RefineSweepsOutFrom {S} {V} by xs = (cs : List (Call V)) → RefineSweepsOut by (run by cs xs)
 
 -- for one rule and one tally: every round that the rule serves, every width from 1 to 128, every lent list, once opened
 abbrev pub RefineSweepsOutAlways : {S V : Type 0} → (ℕ → Type 0) → RuleSense S → TallySense V → Type 0
 RefineSweepsOutAlways {S} {V} RuleServes rule tally =
-    (r : Round) → RuleServes r.n → (W : ℕ) → 1 ≤ W → W ≤ 128 → (lent : List (Node S V)) → RefineSweepsOutFrom r rule tally W (opened_on r rule tally W lent)
+    (r : Round) → RuleServes r.n → (W : ℕ) → 1 ≤ W → W ≤ 128 → (lent : List (Node S V))
+    → let by = setting r rule tally W in RefineSweepsOutFrom by (opened_on by lent)
