@@ -3,14 +3,14 @@ use Rattle.std.specs.Prelude.{ℕ, zero, suc, ◌*◌, ◌%◌, cond, ◌&&◌, 
 use Rattle.layers.specs.declared.node.Arcs.{Arcs}
 use Rattle.layers.specs.declared.node.Node.{Node}
 use Rattle.layers.specs.Flow.{table}
-use Rattle.layers.specs.Records.{padded}
+use Rattle.layers.specs.Records.{padded_targets}
 
 -- an arc for each of n doors, to node 1
 abbrev pub every_door : ℕ → Arcs
-every_door n = record { to = padded (table n (λ k. 1)) }
+every_door n = record { to = padded_targets (table n (λ k. 1)) }
 
 abbrev pub no_door : Arcs
-no_door = record { to = padded [] }
+no_door = record { to = padded_targets [] }
 
 -- the arcs of place k, with n layers of arcs: the first node of each has them all, and no other place has any
 unfoldable pub arcs_opened : Arcs → ℕ → ℕ → ℕ → Arcs

@@ -1,8 +1,8 @@
 //! A diagram over a lent list of records, which it keeps with its round and width.
 ghost use Rattle.std.specs.Prelude.{◌≡◌, ◌+◌, ◌*◌, ◌≤◌, List, length};
-ghost use Rattle.layers.specs.Calls.{Call, opened_on, run};
-ghost use Rattle.layers.specs.Claim.{Sure, WholeSettles};
-ghost use Rattle.layers.specs.Shape.{Shaped, Timely};
+ghost use Rattle.layers.specs.Calls.{Call, after_open, after_calls};
+ghost use Rattle.layers.specs.Claim.{ClaimHolds, WholeSettles};
+ghost use Rattle.layers.specs.Shape.{IsShaped, IsTimely};
 ghost use Rattle.layers.specs.SweepLaws.{RefineSweepsOutFrom};
 ghost use Rattle.std.proofs.Props.{props};
 
@@ -22,8 +22,8 @@ pub struct Diagram<'a, 'n, S, V> {
     room: Room<'a>,
     nodes: &'n mut [Node<S, V>],
     ghost fits: { room.round.now.n * room.width + 1 ≤ length nodes.now },
-    ghost shaped: { Shaped room.round.now.n room.width nodes.now } by { Prim.hlevel props },
-    ghost timely: { Timely room.round.now.n room.width nodes.now },
+    ghost shaped: { IsShaped room.round.now.n room.width nodes.now } by { Prim.hlevel props },
+    ghost timely: { IsTimely room.round.now.n room.width nodes.now },
 }
 
 impl<'a, 'n, S: Copy, V: Copy> Diagram<'a, 'n, S, V> {
@@ -38,20 +38,20 @@ impl<'a, 'n, S: Copy, V: Copy> Diagram<'a, 'n, S, V> {
     ) -> Diagram<'a, 'n, S, V>
         requires { room.round.now.n * room.width + 1 ≤ length nodes.old }
         ensures room { result.room ≡ room.entry }
-        ensures records { result.nodes.now ≡ opened_on room.entry.round.now (R.Rule.sense rule.now)
+        ensures records { result.nodes.now ≡ after_open room.entry.round.now (R.Rule.sense rule.now)
             (T.Tally.sense tally.now) room.entry.width nodes.old }
         ensures lender { result.nodes.ghost_name ≡ nodes.entry.ghost_name }
         ensures claim { R.Rule.serves rule.now room.entry.round.now.n
             → T.Tally.serves tally.now room.entry.round.now.n
             → (cs : List (Call V))
-            → Sure room.entry.round.now (R.Rule.sense rule.now) (R.Rule.keeps rule.now)
-            (T.Tally.sense tally.now) room.entry.width cs (run room.entry.round.now
+            → ClaimHolds room.entry.round.now (R.Rule.sense rule.now) (R.Rule.keeps rule.now)
+            (T.Tally.sense tally.now) room.entry.width cs (after_calls room.entry.round.now
             (R.Rule.sense rule.now) (T.Tally.sense tally.now) room.entry.width cs
             result.nodes.now) }
         ensures whole { R.Rule.serves rule.now room.entry.round.now.n
             → (cs : List (Call V))
             → WholeSettles room.entry.round.now (R.Rule.sense rule.now) (T.Tally.sense tally.now)
-            room.entry.width (run room.entry.round.now (R.Rule.sense rule.now)
+            room.entry.width (after_calls room.entry.round.now (R.Rule.sense rule.now)
             (T.Tally.sense tally.now) room.entry.width cs result.nodes.now) }
         ensures swept_out { R.Rule.serves rule.now room.entry.round.now.n
             → RefineSweepsOutFrom room.entry.round.now (R.Rule.sense rule.now)

@@ -3,7 +3,7 @@ use Rattle.std.proofs.Common.{◌≡◌, ℕ, zero, suc, ◌+◌, ◌*◌, ◌<�
 use Rattle.std.proofs.lemmas.List.{length-map, get_or-map}
 use Rattle.layers.specs.declared.node.Node.{Node}
 use Rattle.layers.specs.Flow.{table, Outs, Layer, Net, node, count_doors, count_layer, count_arcs}
-use Rattle.layers.specs.Records.{padded, arcs_at}
+use Rattle.layers.specs.Records.{padded_targets, arcs_at}
 use Rattle.layers.specs.Targets.{targets}
 use Rattle.labels.proofs.Laying.{Arranged, Good, arcs_of, split}
 use Rattle.labels.proofs.RedirectNet.{table-list, targets-arranged, arranged-long}
@@ -22,12 +22,12 @@ count-padded zero (t ∷ nd) h = absurd (omega arith)
 count-padded (suc m) (zero ∷ nd) h = count-padded m nd (omega arith)
 count-padded (suc m) (suc b ∷ nd) h = ap suc (count-padded m nd (omega arith))
 
-count-empty : (W : ℕ) → count_layer (table W (λ a. padded (node [] a))) ≡ 0
+count-empty : (W : ℕ) → count_layer (table W (λ a. padded_targets (node [] a))) ≡ 0
 unfolding count_layer
 count-empty zero = refl
 count-empty (suc W) = let z = count_none 16 in omega (arith, count-empty W)
 
-count-table : (W : ℕ) (L : Layer) → length L ≤ W → ((a : ℕ) → length (node L a) ≤ 16) → count_layer (table W (λ a. padded (node L a))) ≡ count_layer L
+count-table : (W : ℕ) (L : Layer) → length L ≤ W → ((a : ℕ) → length (node L a) ≤ 16) → count_layer (table W (λ a. padded_targets (node L a))) ≡ count_layer L
 unfolding count_layer
 count-table W [] h f = count-empty W
 count-table zero (nd ∷ L) h f = absurd (omega arith)
@@ -46,7 +46,7 @@ module _ {S V : Type 0} (W : ℕ) where
   count-row : (L : Layer) (us : List (Node S V)) → length L ≤ W → ((a : ℕ) → length (node L a) ≤ 16) → map arcs_of us ≡ table W (arcs_at L) → count_layer (map targets us) ≡ count_layer L
   count-row L us h f e =
       let long = arranged-long W L us e in
-      ap count_layer (table-list W (λ a. padded (node L a)) (map targets us) (length-map us targets ∙ long)
+      ap count_layer (table-list W (λ a. padded_targets (node L a)) (map targets us) (length-map us targets ∙ long)
       (λ k d lt. let z = some_of us (omega arith) in get_or-map targets us k z d (omega arith) ∙ targets-arranged W L us k z e lt))
       ∙ count-table W L h f
 

@@ -5,8 +5,8 @@ use Rattle.rules.specs.Rules.{RuleSense}
 use Rattle.tallies.specs.Tallies.{TallySense}
 use Rattle.layers.specs.declared.node.Node.{Node}
 use Rattle.layers.specs.Flow.{Net, count_arcs}
-use Rattle.layers.specs.Calls.{nodes, thinned, quiet_from}
-use Rattle.layers.specs.Shape.{Shaped}
+use Rattle.layers.specs.Calls.{nodes, unbarred_arcs, nothing_barred}
+use Rattle.layers.specs.Shape.{IsShaped}
 use Rattle.layers.proofs.Proper.{even-of}
 use Rattle.layers.proofs.Quiet.{thinned-quiet}
 use Rattle.layers.proofs.Shaped.{ended-one, thinned-less}
@@ -19,12 +19,12 @@ use Rattle.filter.proofs.CountNet.{arc-count}
 use Rattle.filter.proofs.FilterWords.{proper, enough, ranged, ended-from, shaped-count}
 use Rattle.filter.proofs.ThinNet.{thin-arranged}
 
-module _ {S V : Type 0} (r : Round) (R : RuleSense S) (T : TallySense V) (W : ℕ) (xs : List (Node S V)) (fit : fits r.n W (length xs) ≡ true) (s : Shaped r.n W xs) where
+module _ {S V : Type 0} (r : Round) (R : RuleSense S) (T : TallySense V) (W : ℕ) (xs : List (Node S V)) (fit : fits r.n W (length xs) ≡ true) (s : IsShaped r.n W xs) where
   -- the arcs that stay, before tidying
-  left-count : arc_count r.n W (thinned_from r R T W 0 r.n xs) ≡ count_arcs (thinned r R T 0 (nodes r.n W xs))
+  left-count : arc_count r.n W (thinned_from r R T W 0 r.n xs) ≡ count_arcs (unbarred_arcs r R T 0 (nodes r.n W xs))
   left-count =
       let n = r.n in
-      let Ms : Net = thinned r R T 0 (nodes n W xs) in
+      let Ms : Net = unbarred_arcs r R T 0 (nodes n W xs) in
       let l = thinned-less r R T W 0 (nodes n W xs) in
       let p = proper r R T W xs fit s in
       let g = ranged r R T W xs fit s in
@@ -32,6 +32,6 @@ module _ {S V : Type 0} (r : Round) (R : RuleSense S) (T : TallySense V) (W : �
       arc-count W n Ms (thinned_from r R T W 0 n xs) (l.deep ∙ p.deep) good
       (thin-arranged r R T W 0 n xs (shaped-arranged r W xs (enough r R T W xs fit s) s) g (ended-from r R T W n xs (ended-one r.n W xs s.ended)))
 
-  pub quiet-words : quiet_steps r R T W xs ≡ quiet_from r R T 0 (nodes r.n W xs)
+  pub quiet-words : quiet_steps r R T W xs ≡ nothing_barred r R T 0 (nodes r.n W xs)
   unfolding quiet_steps
   quiet-words = ap₂ eqb left-count (shaped-count r R T W xs fit s) ∙ thinned-quiet r R T 0 (nodes r.n W xs)

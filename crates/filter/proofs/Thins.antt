@@ -5,7 +5,7 @@ use Rattle.round.specs.declared.table.Round.{Round}
 use Rattle.rules.specs.Rules.{RuleSense}
 use Rattle.tallies.specs.Tallies.{TallySense}
 use Rattle.layers.specs.declared.node.Node.{Node}
-use Rattle.layers.specs.Labels.{barred}
+use Rattle.layers.specs.Labels.{is_barred}
 use Rattle.layers.specs.Records.{ups_in}
 use Rattle.layers.specs.Targets.{at_door}
 use Rattle.filter.specs.Thinned.{thinned_to}
@@ -18,13 +18,13 @@ module _ {S V : Type 0} (r : Round) (R : RuleSense S) (T : TallySense V) (i : �
   unfolding thinned_to
   thin-past zero lt = refl
   thin-past (suc b) lt =
-      sym (ap (λ o. cond (barred r R T i (r.n - i) j (Some u.label.down) o) 0 (suc b)) (get_or_past (ups_in vs) b None (omega (arith, length-map vs (λ (x : Node S V). Some x.label.up)))))
+      sym (ap (λ o. cond (is_barred r R T i (r.n - i) j (Some u.label.down) o) 0 (suc b)) (get_or_past (ups_in vs) b None (omega (arith, length-map vs (λ (x : Node S V). Some x.label.up)))))
 
-  pub thin-here : (t : ℕ) (gone : Bool) → 1 ≤ t → t ≤ length vs → gone ≡ barred r R T i (r.n - i) j (Some u.label.down) (Some (get_or vs (t - 1) u).label.up) → cond gone 0 t ≡ at_door (thinned_to r R T i vs u) j t
+  pub thin-here : (t : ℕ) (gone : Bool) → 1 ≤ t → t ≤ length vs → gone ≡ is_barred r R T i (r.n - i) j (Some u.label.down) (Some (get_or vs (t - 1) u).label.up) → cond gone 0 t ≡ at_door (thinned_to r R T i vs u) j t
   unfolding thinned_to
   thin-here zero gone some fits is = absurd (omega arith)
   thin-here (suc b) gone some fits is =
       let here : suc b - 1 ≡ b = omega arith in
       ap (λ g. cond g 0 (suc b)) is
-      ∙ ap (λ k. cond (barred r R T i (r.n - i) j (Some u.label.down) (Some (get_or vs k u).label.up)) 0 (suc b)) here
-      ∙ ap (λ o. cond (barred r R T i (r.n - i) j (Some u.label.down) o) 0 (suc b)) (sym (get_or-map (λ (x : Node S V). Some x.label.up) vs b u None (omega arith)))
+      ∙ ap (λ k. cond (is_barred r R T i (r.n - i) j (Some u.label.down) (Some (get_or vs k u).label.up)) 0 (suc b)) here
+      ∙ ap (λ o. cond (is_barred r R T i (r.n - i) j (Some u.label.down) o) 0 (suc b)) (sym (get_or-map (λ (x : Node S V). Some x.label.up) vs b u None (omega arith)))

@@ -9,9 +9,9 @@ use Rattle.rules.specs.Rules.{RuleSense}
 use Rattle.tallies.specs.Tallies.{TallySense}
 use Rattle.layers.specs.declared.node.Node.{Node}
 use Rattle.layers.specs.Flow.{table, Layer, Net, redirect}
-use Rattle.layers.specs.Labels.{dear}
-use Rattle.layers.specs.Records.{standing, layers, arcs_in, downs_in, drawn, arcs_at}
-use Rattle.layers.specs.Calls.{trimmed}
+use Rattle.layers.specs.Labels.{is_above_ceiling}
+use Rattle.layers.specs.Records.{nodes_in, layers, arcs_in, downs_in, arcs_of_layers, arcs_at}
+use Rattle.layers.specs.Calls.{affordable_arcs}
 use Rattle.labels.specs.Passes.{Early}
 use Rattle.labels.proofs.Laying.{Arranged, arcs_of, split}
 use Rattle.filter.specs.Steps.{timely}
@@ -47,26 +47,26 @@ module _ {S V : Type 0} (r : Round) (R : RuleSense S) (T : TallySense V) (W : �
       ∙ append_assoc (map f (take W xs)) (map f (take m (drop W xs))) (drop m (drop W xs))
 
   abbrev cutRow : List (Node S V) → Layer
-  cutRow us = redirect (λ a j b. cond (dear r R T c j (get_or (downs_in (standing us)) a None)) 0 (suc b)) (arcs_in r.n (standing us))
+  cutRow us = redirect (λ a j b. cond (is_above_ceiling r R T c j (get_or (downs_in (nodes_in us)) a None)) 0 (suc b)) (arcs_in r.n (nodes_in us))
 
-  row_step : (m : ℕ) (xs : List (Node S V)) (Ms : Net) → map arcs_of (take W xs) ≡ table W (arcs_at (arcs_in r.n (standing (take W xs)))) → Arranged W Ms (flat m (drop W xs)) → Arranged W (cutRow (take W xs) ∷ Ms) (flat (W + m) xs)
+  row_step : (m : ℕ) (xs : List (Node S V)) (Ms : Net) → map arcs_of (take W xs) ≡ table W (arcs_at (arcs_in r.n (nodes_in (take W xs)))) → Arranged W Ms (flat m (drop W xs)) → Arranged W (cutRow (take W xs) ∷ Ms) (flat (W + m) xs)
   row_step m xs Ms e rest =
       let us = take W xs in
-      let L = arcs_in r.n (standing us) in
+      let L = arcs_in r.n (nodes_in us) in
       let row = trim-row r R T W c us (row-short r R T W us L e) e in
       let p = front-row r R T W (map f us) (flat m (drop W xs)) _ row in
       subst (Arranged W (cutRow us ∷ Ms)) (sym (flat-more m xs)) (ap (map arcs_of) p.0 ∙ row, subst (Arranged W Ms) (sym p.1) rest)
 
-  pub trim-arranged : (k : ℕ) (xs : List (Node S V)) → Arranged W (drawn r.n (layers W k xs)) xs → Arranged W (trimmed r R T c (layers W k xs)) (flat (k * W) xs)
-  unfolding trimmed
+  pub trim-arranged : (k : ℕ) (xs : List (Node S V)) → Arranged W (arcs_of_layers r.n (layers W k xs)) xs → Arranged W (affordable_arcs r R T c (layers W k xs)) (flat (k * W) xs)
+  unfolding affordable_arcs
   trim-arranged zero xs e = subst (λ (m : ℕ). Arranged W [] (flat m xs)) (sym (zero-mul W)) e
   trim-arranged (suc zero) xs e =
       let z : W + 0 * W ≡ suc zero * W = omega (arith, suc-mul zero W) in
-      subst (λ (m : ℕ). Arranged W (trimmed r R T c (layers W (suc zero) xs)) (flat m xs)) z (row_step (0 * W) xs [] e.0 (trim-arranged zero (drop W xs) e.1))
+      subst (λ (m : ℕ). Arranged W (affordable_arcs r R T c (layers W (suc zero) xs)) (flat m xs)) z (row_step (0 * W) xs [] e.0 (trim-arranged zero (drop W xs) e.1))
   trim-arranged (suc (suc k)) xs e =
       let z : W + suc k * W ≡ suc (suc k) * W = omega (arith, suc-mul (suc k) W) in
-      subst (λ (m : ℕ). Arranged W (trimmed r R T c (layers W (suc (suc k)) xs)) (flat m xs)) z
-      (row_step (suc k * W) xs (trimmed r R T c (layers W (suc k) (drop W xs))) e.0 (trim-arranged (suc k) (drop W xs) e.1))
+      subst (λ (m : ℕ). Arranged W (affordable_arcs r R T c (layers W (suc (suc k)) xs)) (flat m xs)) z
+      (row_step (suc k * W) xs (affordable_arcs r R T c (layers W (suc k) (drop W xs))) e.0 (trim-arranged (suc k) (drop W xs) e.1))
 
   -- what follows the layers stays
   pub trim-tail : (xs : List (Node S V)) → r.n * W ≤ length xs → (length (trimmed_all r R T c W xs) ≡ length xs) × (drop (r.n * W) (trimmed_all r R T c W xs) ≡ drop (r.n * W) xs)

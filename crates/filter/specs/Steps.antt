@@ -6,8 +6,8 @@ use Rattle.round.specs.Clock.{latest}
 use Rattle.rules.specs.Rules.{RuleSense}
 use Rattle.tallies.specs.Tallies.{TallySense}
 use Rattle.layers.specs.declared.node.Node.{Node}
-use Rattle.layers.specs.Calls.{nodes, swept, sweep_answer, cut_at, cut_answer, quiet_from}
-use Rattle.layers.specs.Shape.{Shaped, Timely}
+use Rattle.layers.specs.Calls.{nodes, after_sweep, sweep_answer, after_cut, cut_answer, nothing_barred}
+use Rattle.layers.specs.Shape.{IsShaped, IsTimely}
 use Rattle.labels.specs.Passes.{fits, blank_node, relabelled}
 use Rattle.tidying.specs.Counted.{arcs_within}
 use Rattle.tidying.specs.Tidied.{tidied, first_mark}
@@ -28,8 +28,8 @@ arc_count n W xs = arcs_within (take (n * W) xs)
 pub record Done {S V A : Type 0} (n W : ℕ) (defined ys : List (Node S V)) (answered m : A) : Type 0 where
   pub records : ys ≡ defined
   pub answer : m ≡ answered
-  pub shaped : Shaped n W ys
-  pub timely : Timely n W ys
+  pub shaped : IsShaped n W ys
+  pub timely : IsTimely n W ys
 
 module _ {S V : Type 0} (r : Round) (rule : RuleSense S) (tally : TallySense V) (W : ℕ) where
   -- tidied, and labelled anew
@@ -52,10 +52,10 @@ module _ {S V : Type 0} (r : Round) (rule : RuleSense S) (tally : TallySense V) 
 
   -- on the records of a diagram: what the definitions of the calls say
   abbrev pub SweepDone : List (Node S V) → List (Node S V) → ℕ → Type 0
-  SweepDone xs ys m = fits r.n W (length xs) ≡ true → Shaped r.n W xs → Done r.n W (swept r rule tally W xs) ys (sweep_answer r rule tally W xs) m
+  SweepDone xs ys m = fits r.n W (length xs) ≡ true → IsShaped r.n W xs → Done r.n W (after_sweep r rule tally W xs) ys (sweep_answer r rule tally W xs) m
 
   abbrev pub CutDone : V → List (Node S V) → List (Node S V) → ℕ → Type 0
-  CutDone c xs ys m = fits r.n W (length xs) ≡ true → Shaped r.n W xs → Timely r.n W xs → Done r.n W (cut_at r rule tally W c xs) ys (cut_answer r rule tally W c xs) m
+  CutDone c xs ys m = fits r.n W (length xs) ≡ true → IsShaped r.n W xs → IsTimely r.n W xs → Done r.n W (after_cut r rule tally W c xs) ys (cut_answer r rule tally W c xs) m
 
   abbrev pub QuietDone : List (Node S V) → Bool → Type 0
-  QuietDone xs b = fits r.n W (length xs) ≡ true → Shaped r.n W xs → b ≡ quiet_from r rule tally 0 (nodes r.n W xs)
+  QuietDone xs b = fits r.n W (length xs) ≡ true → IsShaped r.n W xs → b ≡ nothing_barred r rule tally 0 (nodes r.n W xs)

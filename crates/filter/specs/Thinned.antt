@@ -6,7 +6,7 @@ use Rattle.round.specs.Clock.{finish}
 use Rattle.rules.specs.Rules.{RuleSense}
 use Rattle.tallies.specs.Tallies.{TallySense}
 use Rattle.layers.specs.declared.node.Node.{Node}
-use Rattle.layers.specs.Labels.{one, leg, barred}
+use Rattle.layers.specs.Labels.{one, leg, is_barred}
 use Rattle.layers.specs.Records.{ups_in}
 use Rattle.labels.specs.Passes.{part}
 use Rattle.layers.specs.Targets.{redirected}
@@ -24,7 +24,7 @@ module _ {S V : Type 0} (r : Round) (rule : RuleSense S) (tally : TallySense V) 
   -- what becomes of the arc by door j to place b, from u in layer i, where vs is the layer after it
   unfoldable pub thinned_to : ℕ → List (Node S V) → Node S V → ℕ → ℕ → ℕ
   unfolding ones leg finish
-  thinned_to i vs u j b = cond (barred r rule tally i (r.n - i) j (Some u.label.down) (slice_index_or (ups_in vs) b None)) 0 (suc b)
+  thinned_to i vs u j b = cond (is_barred r rule tally i (r.n - i) j (Some u.label.down) (slice_index_or (ups_in vs) b None)) 0 (suc b)
 
   unfoldable pub thinned_node : ℕ → List (Node S V) → Node S V → Node S V
   unfolding thinned_to redirected

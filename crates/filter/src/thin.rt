@@ -2,7 +2,7 @@
 ghost use Rattle.std.specs.Prelude.{◌≡◌, ◌+◌, ◌-◌, ◌*◌, ◌<◌, ◌≤◌, map, length, Some, nat_lt, slice_index};
 ghost use Rattle.round.specs.Clock.{door, finish};
 ghost use Rattle.tallies.specs.Tallies.{TallySense};
-ghost use Rattle.layers.specs.Labels.{leg, barred};
+ghost use Rattle.layers.specs.Labels.{leg, is_barred};
 ghost use Rattle.layers.specs.Targets.{at_door};
 ghost use Rattle.filter.specs.Thinned.{few, after, thinned_to, thinned_node, thinned_from};
 
@@ -42,7 +42,7 @@ fn bars<R: Rule, V: Copy>(
     requires i_lt_n { i < round.now.n }
     requires j_bound { j < 17 }
     ensures { (t : TallySense V)
-        → result ≡ barred round.now (R.Rule.sense rule.now) t i (round.now.n - i) j (Some u.now)
+        → result ≡ is_barred round.now (R.Rule.sense rule.now) t i (round.now.n - i) j (Some u.now)
         (Some v.now) }
 {
     contains(u.all, j)

@@ -3,7 +3,7 @@ ghost use Rattle.std.specs.Prelude.{◌≡◌, ◌+◌, ◌*◌, ◌<◌, ◌≤
 ghost use Rattle.std.specs.List.{AllByRecursion};
 ghost use Rattle.round.specs.Clock.{latest};
 ghost use Rattle.rules.specs.Rules.{RuleSense};
-ghost use Rattle.layers.specs.Labels.{arrive, dear};
+ghost use Rattle.layers.specs.Labels.{arrival_over, is_above_ceiling};
 ghost use Rattle.labels.specs.Passes.{Early};
 ghost use Rattle.layers.specs.Targets.{at_door};
 ghost use Rattle.filter.specs.Trimmed.{trimmed_to, trimmed_node, trimmed_all};
@@ -24,7 +24,7 @@ fn too_dear<S: Copy, T: Tally>(
 ) -> bool
     requires { u.now.finish ≤ latest 15 }
     ensures { (q : RuleSense S)
-        → result ≡ dear round.now q (T.Tally.sense tally.now) ceiling j (Some u.now) }
+        → result ≡ is_above_ceiling round.now q (T.Tally.sense tally.now) ceiling j (Some u.now) }
 {
     let leg = leg_from(round, u.lasts, j);
     let finish = round.finish(u.finish, leg, j) as u32;

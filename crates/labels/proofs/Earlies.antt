@@ -12,7 +12,7 @@ use Rattle.rules.specs.Rules.{RuleSense}
 use Rattle.tallies.specs.Tallies.{TallySense}
 use Rattle.layers.specs.declared.node.Node.{Node}
 use Rattle.layers.specs.declared.node.Down.{Down}
-use Rattle.layers.specs.Labels.{leg, arrive, merge}
+use Rattle.layers.specs.Labels.{leg, arrival_over, merge}
 use Rattle.layers.specs.Records.{blank}
 use Rattle.labels.specs.Passes.{arrivals, part, over, with_down, Early, blank_node, by_door, from_node, gathered, labelled, next_layer, layer_done, first_layer, begun, layers_done}
 use Rattle.labels.proofs.Folds.{folded_keeps}
@@ -39,8 +39,8 @@ module _ {S V : Type 0} (r : Round) (R : RuleSense S) (T : TallySense V) where
   abbrev Soon : ℕ → Down S V → Type 0
   Soon m l = l.finish ≤ m
 
-  arrive-soon : (k : ℕ) (u : Down S V) (j : ℕ) → u.finish ≤ latest k → (arrive r R T u j).finish ≤ latest (suc k)
-  unfolding arrive
+  arrive-soon : (k : ℕ) (u : Down S V) (j : ℕ) → u.finish ≤ latest k → (arrival_over r R T u j).finish ≤ latest (suc k)
+  unfolding arrival_over
   arrive-soon k u j h = (clock-laws r).bound k u.finish (leg r u.lasts j) j h (leg-most r u.lasts j)
 
   arrives-soon : (k t : ℕ) (us : List (Node S V)) → All (Early (latest k)) us → All (Soon (latest (suc k))) (arrivals r R T t us)
@@ -50,7 +50,7 @@ module _ {S V : Type 0} (r : Round) (R : RuleSense S) (T : TallySense V) where
       all-joined P (Early (latest i)) (from_node r R T t)
       (λ u e. cond_both (eqb u.label.down.lasts 0) [] (flat_map (by_door r R T t u) (range_with_len 0 16)) (All P) (λ _. tt)
       (λ _. all-joined P (λ _. Unit {0}) (by_door r R T t u)
-      (λ k _. cond_both (eqb (get_or u.arcs.to k 0) t) (arrive r R T u.label.down (k + 1) ∷ []) [] (All P) (λ _. (arrive-soon i u.label.down (k + 1) e, tt)) (λ _. tt))
+      (λ k _. cond_both (eqb (get_or u.arcs.to k 0) t) (arrival_over r R T u.label.down (k + 1) ∷ []) [] (All P) (λ _. (arrive-soon i u.label.down (k + 1) e, tt)) (λ _. tt))
       (range_with_len 0 16) (all_any (range_with_len 0 16))))
       us h
 

@@ -11,12 +11,12 @@ use Rattle.layers.specs.declared.node.Arcs.{Arcs}
 use Rattle.layers.specs.declared.node.Node.{Node}
 use Rattle.layers.specs.declared.node.Down.{Down}
 use Rattle.layers.specs.declared.node.Up.{Up}
-use Rattle.layers.specs.Flow.{table, Outs, Layer, Net, node, target, width, ins, gather, next, cons_if_some, outs, up, Ranged, Tied, Roomy, Even, Lawful}
-use Rattle.layers.specs.Labels.{arrive, merge, first, firsts, labels_next, climb, merge_up, no_up, ups}
-use Rattle.layers.specs.Records.{arcs_read, laid_arcs, arcs_at, blank, or_blank, or_no_up, padded, place, laid_from, laid}
+use Rattle.layers.specs.Flow.{table, Outs, Layer, Net, node, target, width, arrivals_at, gather, next, cons_if_some, climbs_of, up, IsRanged, IsTied, IsRoomy, IsEven, IsLawful}
+use Rattle.layers.specs.Labels.{arrival_over, merge, first_label, first_labels, labels_next, climb, merge_up, no_up, ups}
+use Rattle.layers.specs.Records.{arcs_read, laid_arcs, arcs_at, blank, or_blank, or_no_up, padded_targets, record_of_place, labelled_from, labelled_records}
 use Rattle.layers.proofs.Flows.{table_at, Among, ins-from}
 use Rattle.layers.proofs.Bridge.{table-long}
-use Rattle.layers.specs.Calls.{relaid}
+use Rattle.layers.specs.Calls.{records_with}
 use Rattle.layers.proofs.Lively.{ups-full}
 use Rattle.labels.specs.Passes.{part, over, with_down, with_up, blank_node, by_door, from_node, arrivals, gathered, labelled, next_layer, layer_done, numbered, up_by, ups_of, gathered_up, risen, layer_up, end_cleared, cleared, first_layer, begun, pass_up, relabelled}
 use Rattle.std.proofs.lemmas.Nat.{pow_pos}
@@ -45,12 +45,12 @@ Arranged w (L ∷ Ls) xs = (map arcs_of (take w xs) ≡ table w (arcs_at L)) × 
 -- what is asked of a net: few doors, few nodes, and no arc out of the next layer
 abbrev pub Good : ℕ → Net → Type 0
 Good w [] = Unit {0}
-Good w (L ∷ Ls) = ((a : ℕ) → length (node L a) ≤ 16) × (length L ≤ w) × Ranged L (width Ls) × Good w Ls
+Good w (L ∷ Ls) = ((a : ℕ) → length (node L a) ≤ 16) × (length L ≤ w) × IsRanged L (width Ls) × Good w Ls
 
 pub few : (n : ℕ) (L : Layer) → n ≤ 16 → ((a : ℕ) → a < length L → length (node L a) ≡ n) → (a : ℕ) → length (node L a) ≤ 16
 few n L h e a = ⊎_elim (λ lt. omega (arith, e a lt)) (λ ge. let z = ap length (get_or_past L a [] ge) in omega arith) (cases_lt a (length L))
 
-pub good : (n w : ℕ) (Ls : Net) → n ≤ 16 → Even n Ls → Roomy w Ls → Tied Ls → Good w Ls
+pub good : (n w : ℕ) (Ls : Net) → n ≤ 16 → IsEven n Ls → IsRoomy w Ls → IsTied Ls → Good w Ls
 good n w [] h even room t = tt
 good n w (L ∷ []) h even room t = (few n L h even.0, room.0, t, tt)
 good n w (L ∷ M ∷ Ls) h even room t = (few n L h even.0, room.0, t.0, good n w (M ∷ Ls) h even.1 room.1 t.3)
@@ -86,38 +86,38 @@ module _ {S V : Type 0} (r : Round) (R : RuleSense S) (T : TallySense V) where
   bare-from t [] = refl
   bare-from t (u ∷ us) = ap (λ ys. from_node r R T t u ++ ys) (bare-from t us)
 
-  in-nothing : (b m : ℕ) (labs : List (Option (Down S V))) (L : Layer) → Ranged L m → m ≤ b → ins (arrive r R T) b labs L ≡ []
-  in-nothing b m labs L g h = go (ins (arrive r R T) b labs L) refl
+  in-nothing : (b m : ℕ) (labs : List (Option (Down S V))) (L : Layer) → IsRanged L m → m ≤ b → arrivals_at (arrival_over r R T) b labs L ≡ []
+  in-nothing b m labs L g h = go (arrivals_at (arrival_over r R T) b labs L) refl
     where
-      go : (xs : List (Down S V)) → ins (arrive r R T) b labs L ≡ xs → ins (arrive r R T) b labs L ≡ []
+      go : (xs : List (Down S V)) → arrivals_at (arrival_over r R T) b labs L ≡ xs → arrivals_at (arrival_over r R T) b labs L ≡ []
       go [] e = e
       go (x ∷ xs) e =
-          let f = ins-from (arrive r R T) b labs L x (subst (Among x) (sym e) (inl refl)) in
+          let f = ins-from (arrival_over r R T) b labs L x (subst (Among x) (sym e) (inl refl)) in
           absurd (omega (arith, g f.source f.door b f.arc))
 
-  next-label : (b m : ℕ) (labs : List (Option (Down S V))) (L : Layer) → Ranged L m
-      → or_blank r R T (gather (merge r R T) (ins (arrive r R T) b labs L)) ≡ or_blank r R T (get_or (labels_next r R T labs L m) b None)
+  next-label : (b m : ℕ) (labs : List (Option (Down S V))) (L : Layer) → IsRanged L m
+      → or_blank r R T (gather (merge r R T) (arrivals_at (arrival_over r R T) b labs L)) ≡ or_blank r R T (get_or (labels_next r R T labs L m) b None)
   unfolding labels_next next gather
   next-label b m labs L g = ⊎_elim inside beyond (cases_lt b m)
     where
       f : ℕ → Option (Down S V)
-      f b = gather (merge r R T) (ins (arrive r R T) b labs L)
+      f b = gather (merge r R T) (arrivals_at (arrival_over r R T) b labs L)
 
-      inside : b < m → or_blank r R T (gather (merge r R T) (ins (arrive r R T) b labs L)) ≡ or_blank r R T (get_or (table m (λ b. gather (merge r R T) (ins (arrive r R T) b labs L))) b None)
-      inside h = ap (or_blank r R T) (sym (table_at m b (λ b. gather (merge r R T) (ins (arrive r R T) b labs L)) None h))
+      inside : b < m → or_blank r R T (gather (merge r R T) (arrivals_at (arrival_over r R T) b labs L)) ≡ or_blank r R T (get_or (table m (λ b. gather (merge r R T) (arrivals_at (arrival_over r R T) b labs L))) b None)
+      inside h = ap (or_blank r R T) (sym (table_at m b (λ b. gather (merge r R T) (arrivals_at (arrival_over r R T) b labs L)) None h))
 
-      beyond : m ≤ b → or_blank r R T (gather (merge r R T) (ins (arrive r R T) b labs L)) ≡ or_blank r R T (get_or (table m (λ b. gather (merge r R T) (ins (arrive r R T) b labs L))) b None)
+      beyond : m ≤ b → or_blank r R T (gather (merge r R T) (arrivals_at (arrival_over r R T) b labs L)) ≡ or_blank r R T (get_or (table m (λ b. gather (merge r R T) (arrivals_at (arrival_over r R T) b labs L))) b None)
       beyond h =
           ap (λ xs. or_blank r R T (gather (merge r R T) xs)) (in-nothing b m labs L g h)
-          ∙ ap (or_blank r R T) (sym (get_or_past (table m (λ b. gather (merge r R T) (ins (arrive r R T) b labs L))) b None (omega (arith, table-long m (λ b. gather (merge r R T) (ins (arrive r R T) b labs L))))))
+          ∙ ap (or_blank r R T) (sym (get_or_past (table m (λ b. gather (merge r R T) (arrivals_at (arrival_over r R T) b labs L))) b None (omega (arith, table-long m (λ b. gather (merge r R T) (arrivals_at (arrival_over r R T) b labs L))))))
 
   -- the m records after the layer us
-  next-block : (w m cnt : ℕ) (labs : List (Option (Down S V))) (L M : Layer) (us vs : List (Node S V)) → Lasting r R T labs → Narrow r R T L → length L ≤ w → Ranged L cnt
-      → map bare us ≡ table w (place r R T L labs []) → map arcs_of vs ≡ table m (arcs_at M)
-      → map bare (next_layer r R T us vs) ≡ table m (place r R T M (labels_next r R T labs L cnt) [])
+  next-block : (w m cnt : ℕ) (labs : List (Option (Down S V))) (L M : Layer) (us vs : List (Node S V)) → Lasting r R T labs → Narrow r R T L → length L ≤ w → IsRanged L cnt
+      → map bare us ≡ table w (record_of_place r R T L labs []) → map arcs_of vs ≡ table m (arcs_at M)
+      → map bare (next_layer r R T us vs) ≡ table m (record_of_place r R T M (labels_next r R T labs L cnt) [])
   unfolding next_layer labelled
   next-block w m cnt labs L M us vs g n fits ranged eu ev =
-      table-list m (place r R T M (labels_next r R T labs L cnt) []) (map bare (map f (range_with_len 0 (length vs)))) (long ∙ many) at_each
+      table-list m (record_of_place r R T M (labels_next r R T labs L cnt) []) (map bare (map f (range_with_len 0 (length vs)))) (long ∙ many) at_each
     where
       f : ℕ → Node S V
       f b = with_down (get_or vs b (blank_node r R T)) (gathered r R T (arrivals r R T (b + 1) us))
@@ -135,31 +135,31 @@ module _ {S V : Type 0} (r : Round) (R : RuleSense S) (T : TallySense V) where
       label_same b =
           ap (λ (t : ℕ). gathered r R T (arrivals r R T t us)) (add-one b)
           ∙ ap (gathered r R T) (sym (bare-from (suc b) us) ∙ ap (flat_map (from_node r R T (suc b))) eu ∙ arrivals-in r R T b w labs L g n fits)
-          ∙ gathered-is r R T (ins (arrive r R T) b labs L) ∙ next-label b cnt labs L ranged
+          ∙ gathered-is r R T (arrivals_at (arrival_over r R T) b labs L) ∙ next-label b cnt labs L ranged
 
-      at_each : (b : ℕ) (d : Node S V) → b < m → get_or (map bare (map f (range_with_len 0 (length vs)))) b d ≡ place r R T M (labels_next r R T labs L cnt) [] b
+      at_each : (b : ℕ) (d : Node S V) → b < m → get_or (map bare (map f (range_with_len 0 (length vs)))) b d ≡ record_of_place r R T M (labels_next r R T labs L cnt) [] b
       at_each b d h =
           get_or-map bare (map f (range_with_len 0 (length vs))) b d d (omega (arith, many, length-map-range_with_len f 0 (length vs)))
           ∙ ap bare (get_or-map-range_with_len f 0 (length vs) b b d (omega (arith, many)) (omega arith))
           ∙ ap₂ (λ (a : Arcs) (l : Down S V). record { arcs = a; label = record { down = l; up = no_up } }) (arcs-same b h) (label_same b)
 
-  some-last : (b : ℕ) (labs : List (Option (Down S V))) (L : Layer) (l : Down S V) → gather (merge r R T) (ins (arrive r R T) b labs L) ≡ Some l → 0 < l.lasts
-  unfolding gather merge arrive
-  some-last b labs L l e = go (ins (arrive r R T) b labs L) refl e
+  some-last : (b : ℕ) (labs : List (Option (Down S V))) (L : Layer) (l : Down S V) → gather (merge r R T) (arrivals_at (arrival_over r R T) b labs L) ≡ Some l → 0 < l.lasts
+  unfolding gather merge arrival_over
+  some-last b labs L l e = go (arrivals_at (arrival_over r R T) b labs L) refl e
     where
-      go : (xs : List (Down S V)) → ins (arrive r R T) b labs L ≡ xs → gather (merge r R T) xs ≡ Some l → 0 < l.lasts
+      go : (xs : List (Down S V)) → arrivals_at (arrival_over r R T) b labs L ≡ xs → gather (merge r R T) xs ≡ Some l → 0 < l.lasts
       go [] i e = let z : ◌≡◌ {A = ℕ} 0 1 = cc in absurd (omega arith)
       go (x ∷ xs) i e =
-          let f = ins-from (arrive r R T) b labs L x (subst (Among x) (sym i) (inl refl)) in
-          let first : 0 < x.lasts = subst (λ (y : Down S V). 0 < y.lasts) (sym f.is) (pow_pos f.door) in
-          let all : 0 < (fold (merge r R T) x xs).lasts = folded_keeps (λ (y : Down S V). 0 < y.lasts) (merge r R T) (λ y z h. or_some r R T y.lasts z.lasts h) x xs first in
+          let f = ins-from (arrival_over r R T) b labs L x (subst (Among x) (sym i) (inl refl)) in
+          let first_label : 0 < x.lasts = subst (λ (y : Down S V). 0 < y.lasts) (sym f.is) (pow_pos f.door) in
+          let all : 0 < (fold (merge r R T) x xs).lasts = folded_keeps (λ (y : Down S V). 0 < y.lasts) (merge r R T) (λ y z h. or_some r R T y.lasts z.lasts h) x xs first_label in
           let same : fold (merge r R T) x xs ≡ l = cc in
           subst (λ (y : Down S V). 0 < y.lasts) same all
 
   lasting-next : (labs : List (Option (Down S V))) (L : Layer) (m : ℕ) → Lasting r R T (labels_next r R T labs L m)
   unfolding labels_next next
   lasting-next labs L m a l e =
-      let f : ℕ → Option (Down S V) = λ b. gather (merge r R T) (ins (arrive r R T) b labs L) in
+      let f : ℕ → Option (Down S V) = λ b. gather (merge r R T) (arrivals_at (arrival_over r R T) b labs L) in
       ⊎_elim
       (λ h. ne_eqb l.lasts 0 (λ z. omega (arith, some-last a labs L l (sym (table_at m a f None h) ∙ e))))
       (λ h. let n : get_or (table m f) a None ≡ None = get_or_past (table m f) a None (omega (arith, table-long m f)) in let z : ◌≡◌ {A = ℕ} 0 1 = cc in absurd (omega arith))
@@ -167,8 +167,8 @@ module _ {S V : Type 0} (r : Round) (R : RuleSense S) (T : TallySense V) where
 
   -- the labels of the net, over the records
   abbrev Half : ℕ → List (Option (Down S V)) → Net → List (Node S V) → Type 0
-  Half w labs [] ys = map bare (take 1 ys) ≡ table 1 (place r R T [] labs [])
-  Half w labs (L ∷ Ls) ys = (map bare (take w ys) ≡ table w (place r R T L labs [])) × Half w (labels_next r R T labs L (width Ls)) Ls (drop w ys)
+  Half w labs [] ys = map bare (take 1 ys) ≡ table 1 (record_of_place r R T [] labs [])
+  Half w labs (L ∷ Ls) ys = (map bare (take w ys) ≡ table w (record_of_place r R T L labs [])) × Half w (labels_next r R T labs L (width Ls)) Ls (drop w ys)
 
   half-long : (w : ℕ) (f : ℕ → Node S V) (us : List (Node S V)) → map bare us ≡ table w f → length us ≡ w
   half-long w f us e = sym (length-map us bare) ∙ ap length e ∙ table-long w f
@@ -183,30 +183,30 @@ module _ {S V : Type 0} (r : Round) (R : RuleSense S) (T : TallySense V) where
   step_back w m xs e = drop_at (take w xs) (next_layer r R T (take w xs) (part w m xs) ++ drop (w + length (next_layer r R T (take w xs) (part w m xs))) xs) w e
 
   down-laid : (w k : ℕ) (labs : List (Option (Down S V))) (L : Layer) (Ls : Net) (xs : List (Node S V)) → length Ls ≡ k → Good w (L ∷ Ls) → Lasting r R T labs
-      → map bare (take w xs) ≡ table w (place r R T L labs []) → Arranged w Ls (drop w xs)
+      → map bare (take w xs) ≡ table w (record_of_place r R T L labs []) → Arranged w Ls (drop w xs)
       → Half w labs (L ∷ Ls) (flatDown r R T w k xs) × (drop (suc k * w + 1) (flatDown r R T w k xs) ≡ drop (suc k * w + 1) xs)
-  down-laid w zero labs L [] xs k good last first arr =
-      let us : length (take w xs) ≡ w = half-long w (place r R T L labs []) (take w xs) first in
+  down-laid w zero labs L [] xs k good last first_label arr =
+      let us : length (take w xs) ≡ w = half-long w (record_of_place r R T L labs []) (take w xs) first_label in
       let N = next_layer r R T (take w xs) (part w 1 xs) in
-      let nb : map bare N ≡ table 1 (place r R T [] (labels_next r R T labs L 1) []) = next-block w 1 1 labs L [] (take w xs) (part w 1 xs) last good.0 good.1 good.2 first arr in
-      let nl : length N ≡ 1 = half-long 1 (place r R T [] (labels_next r R T labs L 1) []) N nb in
+      let nb : map bare N ≡ table 1 (record_of_place r R T [] (labels_next r R T labs L 1) []) = next-block w 1 1 labs L [] (take w xs) (part w 1 xs) last good.0 good.1 good.2 first_label arr in
+      let nl : length N ≡ 1 = half-long 1 (record_of_place r R T [] (labels_next r R T labs L 1) []) N nb in
       let one : flatDown r R T w 0 xs ≡ layer_done r R T w 0 1 w xs = down-last r R T w xs in
       let back : drop w (flatDown r R T w 0 xs) ≡ N ++ drop (w + length N) xs = ap (drop w) one ∙ step_back w 1 xs us in (
         (
-          ap (λ ys. map bare (take w ys)) one ∙ ap (map bare) (step-front w 1 xs us) ∙ first,
+          ap (λ ys. map bare (take w ys)) one ∙ ap (map bare) (step-front w 1 xs us) ∙ first_label,
           ap (λ ys. map bare (take 1 ys)) back ∙ ap (map bare) (take_at N (drop (w + length N) xs) 1 nl) ∙ nb,
         ),
         (let e : suc 0 * w + 1 ≡ w + 1 = omega (arith, suc-mul 0 w, zero-mul w) in
             ap (λ (i : ℕ). drop i (flatDown r R T w 0 xs)) e ∙ sym (drop-drop 1 w (flatDown r R T w 0 xs)) ∙ ap (drop 1) back ∙ drop_at N (drop (w + length N) xs) 1 nl ∙ ap (λ (i : ℕ). drop i xs) (ap (λ (i : ℕ). w + i) nl ∙ sym e)),
       )
-  down-laid w zero labs L (M ∷ Ls) xs k good last first arr = absurd (omega arith)
-  down-laid w (suc k) labs L [] xs e good last first arr = absurd (omega arith)
-  down-laid w (suc k) labs L (M ∷ Ls) xs e good last first arr =
+  down-laid w zero labs L (M ∷ Ls) xs k good last first_label arr = absurd (omega arith)
+  down-laid w (suc k) labs L [] xs e good last first_label arr = absurd (omega arith)
+  down-laid w (suc k) labs L (M ∷ Ls) xs e good last first_label arr =
       let labs' = labels_next r R T labs L (length M) in
-      let us : length (take w xs) ≡ w = half-long w (place r R T L labs []) (take w xs) first in
+      let us : length (take w xs) ≡ w = half-long w (record_of_place r R T L labs []) (take w xs) first_label in
       let N = next_layer r R T (take w xs) (part w w xs) in
-      let nb : map bare N ≡ table w (place r R T M labs' []) = next-block w w (length M) labs L M (take w xs) (part w w xs) last good.0 good.1 good.2 first arr.0 in
-      let nl : length N ≡ w = half-long w (place r R T M labs' []) N nb in
+      let nb : map bare N ≡ table w (record_of_place r R T M labs' []) = next-block w w (length M) labs L M (take w xs) (part w w xs) last good.0 good.1 good.2 first_label arr.0 in
+      let nl : length N ≡ w = half-long w (record_of_place r R T M labs' []) N nb in
       let Y = layer_done r R T w 0 w w xs in
       let D = drop (w + length N) xs in
       let front : take w Y ≡ take w xs = step-front w w xs us in
@@ -219,7 +219,7 @@ module _ {S V : Type 0} (r : Round) (R : RuleSense S) (T : TallySense V) where
       (ap (λ ys. map bare (take w ys)) back ∙ ap (map bare) (take_at N D w nl) ∙ nb)
       (subst (Arranged w Ls) (sym (ap (drop w) back ∙ drop_at N D w nl ∙ far)) arr.1) in (
         (
-          ap (λ ys. map bare (take w ys)) same ∙ ap (map bare) (take_at (take w Y) Z w long ∙ front) ∙ first,
+          ap (λ ys. map bare (take w ys)) same ∙ ap (map bare) (take_at (take w Y) Z w long ∙ front) ∙ first_label,
           subst (Half w labs' (M ∷ Ls)) (sym (ap (drop w) same ∙ drop_at (take w Y) Z w long)) ih.0,
         ),
         (let m = suc k * w + 1 in
@@ -265,8 +265,8 @@ module _ {S V : Type 0} where
   climb-none vs to k e = ap (λ (t : ℕ). map (λ v. climb v.label.up (k + 1)) (numbered t vs)) e
 
   doors-up : (us : List (Option Up)) (vs : List (Node S V)) (ts to : List ℕ) (a m : ℕ) → length ts ≤ m → ((i : ℕ) → i < m → get_or to (a + i) 0 ≡ get_or ts i 0) → ((i b : ℕ) → get_or ts i 0 ≡ suc b → Linked us vs b)
-      → flat_map (climbing vs to) (range_with_len a m) ≡ outs climb us (suc a) ts
-  unfolding outs
+      → flat_map (climbing vs to) (range_with_len a m) ≡ climbs_of climb us (suc a) ts
+  unfolding climbs_of
   doors-up us vs [] to a zero h e g = refl
   doors-up us vs (x ∷ ts) to a zero h e g = absurd (omega arith)
   doors-up us vs [] to a (suc m) h e g =
@@ -277,14 +277,14 @@ module _ {S V : Type 0} where
       let here : get_or to a 0 ≡ 0 = ap (λ (k : ℕ). get_or to k 0) (omega arith) ∙ e 0 (omega arith) in
       ap (λ ys. ys ++ flat_map (climbing vs to) (range_with_len (a + 1) m)) (climb-none vs to a here)
       ∙ doors-up us vs ts to (a + 1) m (omega arith) (λ i lt. ap (λ (k : ℕ). get_or to k 0) (omega arith) ∙ e (suc i) (omega arith)) (λ i b q. g (suc i) b q)
-      ∙ ap (λ (k : ℕ). outs climb us (suc k) ts) (add-one a)
+      ∙ ap (λ (k : ℕ). climbs_of climb us (suc k) ts) (add-one a)
   doors-up us vs (suc b ∷ ts) to a (suc m) h e g =
       let here : get_or to a 0 ≡ suc b = ap (λ (k : ℕ). get_or to k 0) (omega arith) ∙ e 0 (omega arith) in
       ap (λ (t : ℕ). map (λ v. climb v.label.up (a + 1)) (numbered t vs) ++ flat_map (climbing vs to) (range_with_len (a + 1) m)) here
       ∙ ap (λ ys. map (λ v. climb v.label.up (a + 1)) (numbered (suc b) vs) ++ ys)
-      (doors-up us vs ts to (a + 1) m (omega arith) (λ i lt. ap (λ (k : ℕ). get_or to k 0) (omega arith) ∙ e (suc i) (omega arith)) (λ i b q. g (suc i) b q) ∙ ap (λ (k : ℕ). outs climb us (suc k) ts) (add-one a))
-      ∙ climb-link us vs b (a + 1) (outs climb us (suc (suc a)) ts) (g 0 b refl)
-      ∙ ap (λ (j : ℕ). cons_if_some climb j (get_or us b None) (outs climb us (suc (suc a)) ts)) (add-one a)
+      (doors-up us vs ts to (a + 1) m (omega arith) (λ i lt. ap (λ (k : ℕ). get_or to k 0) (omega arith) ∙ e (suc i) (omega arith)) (λ i b q. g (suc i) b q) ∙ ap (λ (k : ℕ). climbs_of climb us (suc k) ts) (add-one a))
+      ∙ climb-link us vs b (a + 1) (climbs_of climb us (suc (suc a)) ts) (g 0 b refl)
+      ∙ ap (λ (j : ℕ). cons_if_some climb j (get_or us b None) (climbs_of climb us (suc (suc a)) ts)) (add-one a)
 
 numbered-at : {X : Type 0} (b : ℕ) (vs : List X) (d : X) → b < length vs → numbered (suc b) vs ≡ get_or vs b d ∷ []
 numbered-at b vs d h =
@@ -303,31 +303,31 @@ linked us vs b d x h e q =
 
 module _ {S V : Type 0} (r : Round) (R : RuleSense S) (T : TallySense V) (w : ℕ) where
   node-ups : (L : Layer) (Ls : Net) (labs : List (Option (Down S V))) (vs : List (Node S V)) (a : ℕ) → length (node L a) ≤ 16 → ((j b : ℕ) → target (node L a) j ≡ suc b → Linked (ups Ls) vs b)
-      → gathered_up (ups_of vs (place r R T L labs [] a)) ≡ or_no_up (get_or (ups (L ∷ Ls)) a None)
-  unfolding ups_of up_by ups up outs gather
+      → gathered_up (ups_of vs (record_of_place r R T L labs [] a)) ≡ or_no_up (get_or (ups (L ∷ Ls)) a None)
+  unfolding ups_of up_by ups up climbs_of gather
   node-ups L Ls labs vs a h g =
       let nd = node L a in
-      let f : Outs → Option Up = λ nd. gather merge_up (outs climb (ups Ls) 1 nd) in
-      ap gathered_up (doors-up (ups Ls) vs nd (padded nd) 0 16 h (λ i lt. ap (λ (k : ℕ). get_or (padded nd) k 0) (zero-add i) ∙ table_at 16 i (λ k. get_or nd k 0) 0 lt) (λ i b e. g (suc i) b e))
-      ∙ gathered_up-is (outs climb (ups Ls) 1 nd)
+      let f : Outs → Option Up = λ nd. gather merge_up (climbs_of climb (ups Ls) 1 nd) in
+      ap gathered_up (doors-up (ups Ls) vs nd (padded_targets nd) 0 16 h (λ i lt. ap (λ (k : ℕ). get_or (padded_targets nd) k 0) (zero-add i) ∙ table_at 16 i (λ k. get_or nd k 0) 0 lt) (λ i b e. g (suc i) b e))
+      ∙ gathered_up-is (climbs_of climb (ups Ls) 1 nd)
       ∙ ⊎_elim
       (λ lt. ap or_no_up (sym (get_or-map f L a [] None lt)))
-      (λ ge. ap (λ x. or_no_up (gather merge_up (outs climb (ups Ls) 1 x))) (get_or_past L a [] ge) ∙ ap or_no_up (sym (get_or_past (map f L) a None (omega (arith, length-map L f)))))
+      (λ ge. ap (λ x. or_no_up (gather merge_up (climbs_of climb (ups Ls) 1 x))) (get_or_past L a [] ge) ∙ ap or_no_up (sym (get_or_past (map f L) a None (omega (arith, length-map L f)))))
       (cases_lt a (length L))
 
-  risen-block : (L : Layer) (labs : List (Option (Down S V))) (U : List (Option Up)) (us vs : List (Node S V)) → map bare us ≡ table w (place r R T L labs [])
-      → ((a : ℕ) → gathered_up (ups_of vs (place r R T L labs [] a)) ≡ or_no_up (get_or U a None)) → map (risen vs) us ≡ table w (place r R T L labs U)
+  risen-block : (L : Layer) (labs : List (Option (Down S V))) (U : List (Option Up)) (us vs : List (Node S V)) → map bare us ≡ table w (record_of_place r R T L labs [])
+      → ((a : ℕ) → gathered_up (ups_of vs (record_of_place r R T L labs [] a)) ≡ or_no_up (get_or U a None)) → map (risen vs) us ≡ table w (record_of_place r R T L labs U)
   unfolding risen ups_of up_by
   risen-block L labs U us vs e g =
-      let many : length us ≡ w = half-long r R T w (place r R T L labs []) us e in
-      table-list w (place r R T L labs U) (map (risen vs) us) (length-map us (risen vs) ∙ many)
+      let many : length us ≡ w = half-long r R T w (record_of_place r R T L labs []) us e in
+      table-list w (record_of_place r R T L labs U) (map (risen vs) us) (length-map us (risen vs) ∙ many)
       (λ a d h.
       let z = get_or us a d in
-      let is : bare z ≡ place r R T L labs [] a =
-      sym (get_or-map bare us a d (place r R T L labs [] a) (omega (arith, many))) ∙ ap (λ xs. get_or xs a (place r R T L labs [] a)) e ∙ table_at w a (place r R T L labs []) (place r R T L labs [] a) h in
+      let is : bare z ≡ record_of_place r R T L labs [] a =
+      sym (get_or-map bare us a d (record_of_place r R T L labs [] a) (omega (arith, many))) ∙ ap (λ xs. get_or xs a (record_of_place r R T L labs [] a)) e ∙ table_at w a (record_of_place r R T L labs []) (record_of_place r R T L labs [] a) h in
       get_or-map (risen vs) us a d d (omega (arith, many))
       ∙ ap (λ (y : Node S V). with_up y (gathered_up (ups_of vs y))) is
-      ∙ ap (with_up (place r R T L labs [] a)) (g a))
+      ∙ ap (with_up (record_of_place r R T L labs [] a)) (g a))
 
   up_first : (us Z vs : List (Node S V)) (m : ℕ) → length us ≡ w → take m Z ≡ vs → layer_up 0 w w m (us ++ Z) ≡ map (risen vs) us ++ Z
   unfolding layer_up
@@ -336,14 +336,14 @@ module _ {S V : Type 0} (r : Round) (R : RuleSense S) (T : TallySense V) (w : �
       ∙ ap (λ (k : ℕ). map (risen vs) us ++ drop k (us ++ Z)) (zero-add (length (map (risen vs) us)) ∙ length-map us (risen vs) ∙ e)
       ∙ ap (λ ys. map (risen vs) us ++ ys) (drop_at us Z w e)
 
-  up-laid : (k : ℕ) (labs : List (Option (Down S V))) (L : Layer) (Ls : Net) (ys : List (Node S V)) → length Ls ≡ k → Good w (L ∷ Ls) → Tied (L ∷ Ls) → Half r R T w labs (L ∷ Ls) ys
-      → flatUp w k ys ≡ laid_from r R T w labs (L ∷ Ls) ++ drop (suc k * w + 1) ys
-  unfolding laid_from ups up
+  up-laid : (k : ℕ) (labs : List (Option (Down S V))) (L : Layer) (Ls : Net) (ys : List (Node S V)) → length Ls ≡ k → Good w (L ∷ Ls) → IsTied (L ∷ Ls) → Half r R T w labs (L ∷ Ls) ys
+      → flatUp w k ys ≡ labelled_from r R T w labs (L ∷ Ls) ++ drop (suc k * w + 1) ys
+  unfolding labelled_from ups up
   up-laid zero labs L [] ys e good tied half =
       let labs' = labels_next r R T labs L 1 in
       let us = take w ys in
-      let many : length us ≡ w = half-long r R T w (place r R T L labs []) us half.0 in
-      let E = table 1 (place r R T [] labs' []) in
+      let many : length us ≡ w = half-long r R T w (record_of_place r R T L labs []) us half.0 in
+      let E = table 1 (record_of_place r R T [] labs' []) in
       let rest = drop (w + 1) ys in
       let cleared : end_cleared w ys ≡ us ++ (E ++ rest) = ap (λ b. take w ys ++ (b ++ drop (w + length b) ys)) half.1 in
       let last : suc 0 * w + 1 ≡ w + 1 = omega (arith, suc-mul 0 w, zero-mul w) in
@@ -351,21 +351,21 @@ module _ {S V : Type 0} (r : Round) (R : RuleSense S) (T : TallySense V) (w : �
       ∙ up_first us (E ++ rest) E 1 many (take_at E rest 1 refl)
       ∙ ap (λ xs. xs ++ (E ++ rest)) (risen-block L labs (ups (L ∷ [])) us E half.0 (λ a. node-ups L [] labs E a (good.0 a) (λ j b t. let z : b ≡ 0 = omega (arith, tied a j b t) in
       linked (ups []) E b (blank_node r R T) no_up (omega (arith, z)) (ap (λ (i : ℕ). get_or {A = Option Up} (Some no_up ∷ []) i None) z) (ap (λ (i : ℕ). (get_or E i (blank_node r R T)).label.up) z))))
-      ∙ sym (append_assoc (table w (place r R T L labs (ups (L ∷ [])))) E rest)
-      ∙ ap (λ (i : ℕ). (table w (place r R T L labs (ups (L ∷ []))) ++ E) ++ drop i ys) (sym last)
+      ∙ sym (append_assoc (table w (record_of_place r R T L labs (ups (L ∷ [])))) E rest)
+      ∙ ap (λ (i : ℕ). (table w (record_of_place r R T L labs (ups (L ∷ []))) ++ E) ++ drop i ys) (sym last)
   up-laid zero labs L (M ∷ Ls) ys e good tied half = absurd (omega arith)
   up-laid (suc k) labs L [] ys e good tied half = absurd (omega arith)
   up-laid (suc k) labs L (M ∷ Ls) ys e good tied half =
       let labs' = labels_next r R T labs L (length M) in
       let us = take w ys in
       let zs = drop w ys in
-      let many : length us ≡ w = half-long r R T w (place r R T L labs []) us half.0 in
+      let many : length us ≡ w = half-long r R T w (record_of_place r R T L labs []) us half.0 in
       let U = ups (M ∷ Ls) in
-      let VS = table w (place r R T M labs' U) in
-      let X = laid_from r R T w (labels_next r R T labs' M (width Ls)) Ls in
+      let VS = table w (record_of_place r R T M labs' U) in
+      let X = labelled_from r R T w (labels_next r R T labs' M (width Ls)) Ls in
       let later = drop (suc k * w + 1) zs in
       let ih : flatUp w k zs ≡ (VS ++ X) ++ later = up-laid k labs' M Ls zs (omega arith) good.3 tied.3 half.1 in
-      let front : take w ((VS ++ X) ++ later) ≡ VS = ap (take w) (append_assoc VS X later) ∙ take_at VS (X ++ later) w (table-long w (place r R T M labs' U)) in
+      let front : take w ((VS ++ X) ++ later) ≡ VS = ap (take w) (append_assoc VS X later) ∙ take_at VS (X ++ later) w (table-long w (record_of_place r R T M labs' U)) in
       let end : later ≡ drop (suc (suc k) * w + 1) ys = let p : w + (suc k * w + 1) ≡ suc (suc k) * w + 1 = omega (arith, suc-mul (suc k) w) in drop-drop (suc k * w + 1) w ys ∙ ap (λ (i : ℕ). drop i ys) p in
       ap (flatUp w (suc k)) (sym (take-append-drop w ys))
       ∙ up-front w k us zs many
@@ -375,38 +375,38 @@ module _ {S V : Type 0} (r : Round) (R : RuleSense S) (T : TallySense V) (w : �
       let lt : b < length M = tied.0 a j b t in
       let room : b < w = omega (arith, good.3.1) in
       let x = ups-full M Ls tied.2 tied.3 b lt in
-      linked U VS b (blank_node r R T) x.0 (omega (arith, table-long w (place r R T M labs' U))) x.1
-      (ap (λ (v : Node S V). v.label.up) (table_at w b (place r R T M labs' U) (blank_node r R T) room) ∙ ap or_no_up x.1))))
-      ∙ sym (append_assoc (table w (place r R T L labs (ups (L ∷ M ∷ Ls)))) (VS ++ X) later)
-      ∙ ap (λ x. (table w (place r R T L labs (ups (L ∷ M ∷ Ls))) ++ (VS ++ X)) ++ x) end
+      linked U VS b (blank_node r R T) x.0 (omega (arith, table-long w (record_of_place r R T M labs' U))) x.1
+      (ap (λ (v : Node S V). v.label.up) (table_at w b (record_of_place r R T M labs' U) (blank_node r R T) room) ∙ ap or_no_up x.1))))
+      ∙ sym (append_assoc (table w (record_of_place r R T L labs (ups (L ∷ M ∷ Ls)))) (VS ++ X) later)
+      ∙ ap (λ x. (table w (record_of_place r R T L labs (ups (L ∷ M ∷ Ls))) ++ (VS ++ X)) ++ x) end
 
   -- ---- both passes
-  first_block : (L : Layer) (us : List (Node S V)) → map arcs_of us ≡ table w (arcs_at L) → map bare (first_layer r R T us) ≡ table w (place r R T L (firsts r R T) [])
+  first_block : (L : Layer) (us : List (Node S V)) → map arcs_of us ≡ table w (arcs_at L) → map bare (first_layer r R T us) ≡ table w (record_of_place r R T L (first_labels r R T) [])
   first_block L us e =
       let many : length us ≡ w = sym (length-map us arcs_of) ∙ ap length e ∙ table-long w (arcs_at L) in
-      table-list w (place r R T L (firsts r R T) []) (map bare (first_layer r R T us)) (length-map (first_layer r R T us) bare ∙ first-long r R T us ∙ many)
+      table-list w (record_of_place r R T L (first_labels r R T) []) (map bare (first_layer r R T us)) (length-map (first_layer r R T us) bare ∙ first-long r R T us ∙ many)
       (λ a d h.
       let arcs : (get_or us a (blank_node r R T)).arcs ≡ arcs_at L a =
       sym (get_or-map arcs_of us a (blank_node r R T) (arcs_at L a) (omega (arith, many))) ∙ ap (λ xs. get_or xs a (arcs_at L a)) e ∙ table_at w a (arcs_at L) (arcs_at L a) h in
-      at_first us a d (omega (arith, many)) ∙ ap (λ (x : Arcs). record { arcs = x; label = record { down = or_blank r R T (get_or (firsts r R T) a None); up = no_up } }) arcs)
+      at_first us a d (omega (arith, many)) ∙ ap (λ (x : Arcs). record { arcs = x; label = record { down = or_blank r R T (get_or (first_labels r R T) a None); up = no_up } }) arcs)
     where
       at_rest : (us : List (Node S V)) (a : ℕ) (d : Node S V) → a < length us → get_or (map bare (map (cleared r R T) us)) a d ≡ record { arcs = (get_or us a (blank_node r R T)).arcs; label = record { down = blank r R T; up = no_up } }
       at_rest [] a d h = absurd (omega arith)
       at_rest (u ∷ us) zero d h = refl
       at_rest (u ∷ us) (suc a) d h = at_rest us a d (omega arith)
 
-      at_first : (us : List (Node S V)) (a : ℕ) (d : Node S V) → a < length us → get_or (map bare (first_layer r R T us)) a d ≡ record { arcs = (get_or us a (blank_node r R T)).arcs; label = record { down = or_blank r R T (get_or (firsts r R T) a None); up = no_up } }
+      at_first : (us : List (Node S V)) (a : ℕ) (d : Node S V) → a < length us → get_or (map bare (first_layer r R T us)) a d ≡ record { arcs = (get_or us a (blank_node r R T)).arcs; label = record { down = or_blank r R T (get_or (first_labels r R T) a None); up = no_up } }
       at_first [] a d h = absurd (omega arith)
       at_first (u ∷ us) zero d h = refl
       at_first (u ∷ us) (suc a) d h = at_rest us a d (omega arith)
 
-  lasting-firsts : Lasting r R T (firsts r R T)
-  lasting-firsts zero l e = let is : first r R T ≡ l = cc in subst (λ (y : Down S V). eqb y.lasts 0 ≡ false) is refl
+  lasting-firsts : Lasting r R T (first_labels r R T)
+  lasting-firsts zero l e = let is : first_label r R T ≡ l = cc in subst (λ (y : Down S V). eqb y.lasts 0 ≡ false) is refl
   lasting-firsts (suc a) l e = let z : ◌≡◌ {A = ℕ} 0 1 = cc in absurd (omega arith)
 
-  pub relabelled-laid : (k : ℕ) (L : Layer) (Ls : Net) (xs : List (Node S V)) → r.n ≡ suc k → length Ls ≡ k → Good w (L ∷ Ls) → Tied (L ∷ Ls) → Arranged w (L ∷ Ls) xs
-      → relabelled r R T w xs ≡ laid r R T w (L ∷ Ls) ++ drop (r.n * w + 1) xs
-  unfolding relabelled laid begun
+  pub relabelled-laid : (k : ℕ) (L : Layer) (Ls : Net) (xs : List (Node S V)) → r.n ≡ suc k → length Ls ≡ k → Good w (L ∷ Ls) → IsTied (L ∷ Ls) → Arranged w (L ∷ Ls) xs
+      → relabelled r R T w xs ≡ labelled_records r R T w (L ∷ Ls) ++ drop (r.n * w + 1) xs
+  unfolding relabelled labelled_records begun
   relabelled-laid k L Ls xs en el good tied arr =
       let us = take w xs in
       let many : length us ≡ w = sym (length-map us arcs_of) ∙ ap length arr.0 ∙ table-long w (arcs_at L) in
@@ -414,28 +414,28 @@ module _ {S V : Type 0} (r : Round) (R : RuleSense S) (T : TallySense V) (w : �
       let long : length F ≡ w = first-long r R T us ∙ many in
       let B = begun r R T w xs in
       let is : B ≡ F ++ drop w xs = ap (λ (i : ℕ). F ++ drop i xs) (zero-add (length F) ∙ long) in
-      let front : map bare (take w B) ≡ table w (place r R T L (firsts r R T) []) = ap (λ ys. map bare (take w ys)) is ∙ ap (map bare) (take_at F (drop w xs) w long) ∙ first_block L us arr.0 in
+      let front : map bare (take w B) ≡ table w (record_of_place r R T L (first_labels r R T) []) = ap (λ ys. map bare (take w ys)) is ∙ ap (map bare) (take_at F (drop w xs) w long) ∙ first_block L us arr.0 in
       let back : drop w B ≡ drop w xs = ap (drop w) is ∙ drop_at F (drop w xs) w long in
-      let d = down-laid r R T w k (firsts r R T) L Ls B el good lasting-firsts front (subst (Arranged w Ls) (sym back) arr.1) in
+      let d = down-laid r R T w k (first_labels r R T) L Ls B el good lasting-firsts front (subst (Arranged w Ls) (sym back) arr.1) in
       let m = suc k * w + 1 in
       let q = k * w + 1 in
       let em : m ≡ w + q = omega (arith, suc-mul k w) in
       let tail : drop m B ≡ drop m xs = ap (λ (i : ℕ). drop i B) em ∙ sym (drop-drop q w B) ∙ ap (drop q) back ∙ drop-drop q w xs ∙ ap (λ (i : ℕ). drop i xs) (sym em) in
       ap₂ (λ (n : ℕ) ys. pass_up n w ys) en (down_is r R T w k xs en)
       ∙ up_is w (suc k) k (flatDown r R T w k B) refl
-      ∙ up-laid k (firsts r R T) L Ls (flatDown r R T w k B) el good tied d.0
-      ∙ ap (λ ys. laid_from r R T w (firsts r R T) (L ∷ Ls) ++ ys) (d.1 ∙ tail ∙ ap (λ (n : ℕ). drop (n * w + 1) xs) (sym en))
+      ∙ up-laid k (first_labels r R T) L Ls (flatDown r R T w k B) el good tied d.0
+      ∙ ap (λ ys. labelled_from r R T w (first_labels r R T) (L ∷ Ls) ++ ys) (d.1 ∙ tail ∙ ap (λ (n : ℕ). drop (n * w + 1) xs) (sym en))
 
   -- of arcs that a diagram may have
-  pub relabelled-lawful : (Ls : Net) (xs : List (Node S V)) → Lawful r.n w Ls → Arranged w Ls xs → relabelled r R T w xs ≡ relaid r R T w xs Ls
-  unfolding relaid
+  pub relabelled-lawful : (Ls : Net) (xs : List (Node S V)) → IsLawful r.n w Ls → Arranged w Ls xs → relabelled r R T w xs ≡ records_with r R T w xs Ls
+  unfolding records_with
   relabelled-lawful [] xs p arr = let none : 0 ≡ r.n = p.deep in absurd (omega (arith, r.one))
   relabelled-lawful (L ∷ Ls) xs p arr =
       let deep : suc (length Ls) ≡ r.n = p.deep in
       relabelled-laid (length Ls) L Ls xs (sym deep) refl (good r.n w (L ∷ Ls) r.most p.even p.roomy p.tied) p.tied arr
 
   -- the same, of the flat list of arcs
-  pub relabelled-read : (Ls : Net) (xs : List (Node S V)) → Lawful r.n w Ls → r.n * w + 1 ≤ length xs → arcs_read (take (r.n * w + 1) xs) ≡ laid_arcs w Ls → relabelled r R T w xs ≡ relaid r R T w xs Ls
+  pub relabelled-read : (Ls : Net) (xs : List (Node S V)) → IsLawful r.n w Ls → r.n * w + 1 ≤ length xs → arcs_read (take (r.n * w + 1) xs) ≡ laid_arcs w Ls → relabelled r R T w xs ≡ records_with r R T w xs Ls
   relabelled-read Ls xs p h e =
       let n : length Ls * w + 1 ≡ r.n * w + 1 = ap (λ (k : ℕ). k * w + 1) p.deep in
       relabelled-lawful Ls xs p (arranged-of w Ls xs (omega (arith, n)) (ap (λ (k : ℕ). arcs_read (take k xs)) n ∙ e))

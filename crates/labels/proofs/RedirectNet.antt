@@ -5,7 +5,7 @@ use Rattle.std.proofs.lemmas.List.{get_or-map, get_or_default, length-map}
 use Rattle.layers.specs.declared.node.Arcs.{Arcs}
 use Rattle.layers.specs.declared.node.Node.{Node}
 use Rattle.layers.specs.Flow.{table, Outs, Layer, node, target, each_door, each_node, redirect}
-use Rattle.layers.specs.Records.{padded, arcs_at}
+use Rattle.layers.specs.Records.{padded_targets, arcs_at}
 use Rattle.layers.proofs.Flows.{table_at, has-arc}
 use Rattle.layers.proofs.Bridge.{table-long}
 use Rattle.labels.proofs.Laying.{arcs_of}
@@ -15,10 +15,10 @@ use Rattle.layers.specs.Targets.{targets, redirected, at_door}
 
 -- ---- lists
 -- sixteen targets that are those of a node, door by door
-pub padded-is : (ts : List ℕ) (nd : Outs) → length ts ≡ 16 → ((k : ℕ) → k < 16 → get_or ts k 0 ≡ get_or nd k 0) → ts ≡ padded nd
+pub padded-is : (ts : List ℕ) (nd : Outs) → length ts ≡ 16 → ((k : ℕ) → k < 16 → get_or ts k 0 ≡ get_or nd k 0) → ts ≡ padded_targets nd
 padded-is ts nd e h = table-list 16 (λ k. get_or nd k 0) ts e (λ k d lt. get_or_default ts k d 0 (omega arith) ∙ h k lt)
 
-pub padded-at : (nd : Outs) (k : ℕ) → k < 16 → get_or (padded nd) k 0 ≡ get_or nd k 0
+pub padded-at : (nd : Outs) (k : ℕ) → k < 16 → get_or (padded_targets nd) k 0 ≡ get_or nd k 0
 padded-at nd k lt = table_at 16 k (λ i. get_or nd i 0) 0 lt
 
 -- ---- redirecting
@@ -35,9 +35,9 @@ at_same g h j zero s = refl
 at_same g h j (suc b) s = s b refl
 
 -- two ways that agree on the arcs of a node give the same sixteen targets
-pub each-padded : (g h : ℕ → ℕ → ℕ) (nd : Outs) → ((j b : ℕ) → target nd j ≡ suc b → g j b ≡ h j b) → each_door g 1 (padded nd) ≡ padded (each_door h 1 nd)
-each-padded g h nd s = padded-is (each_door g 1 (padded nd)) (each_door h 1 nd) (each_door-length g 1 (padded nd)) (λ k lt.
-    each_at g 1 (padded nd) k (suc k) (omega arith) ∙ ap (at_door g (suc k)) (padded-at nd k lt)
+pub each-padded : (g h : ℕ → ℕ → ℕ) (nd : Outs) → ((j b : ℕ) → target nd j ≡ suc b → g j b ≡ h j b) → each_door g 1 (padded_targets nd) ≡ padded_targets (each_door h 1 nd)
+each-padded g h nd s = padded-is (each_door g 1 (padded_targets nd)) (each_door h 1 nd) (each_door-length g 1 (padded_targets nd)) (λ k lt.
+    each_at g 1 (padded_targets nd) k (suc k) (omega arith) ∙ ap (at_door g (suc k)) (padded-at nd k lt)
     ∙ at_same g h (suc k) (get_or nd k 0) (s (suc k)) ∙ sym (each_at h 1 nd k (suc k) (omega arith)))
 
 each_node-at : (f : ℕ → ℕ → ℕ → ℕ) (c : ℕ) (L : Layer) (a m : ℕ) → c + a ≡ m → node (each_node f c L) a ≡ each_door (f m) 1 (node L a)
@@ -60,12 +60,12 @@ module _ {S V : Type 0} where
       sym (get_or-map arcs_of us a d (arcs_at L a) (omega (arith, arranged-long w L us e)))
       ∙ ap (λ xs. get_or xs a (arcs_at L a)) e ∙ table_at w a (arcs_at L) (arcs_at L a) lt
 
-  pub targets-is : (x : Node S V) (nd : Outs) → x.arcs.to ≡ padded nd → targets x ≡ padded nd
+  pub targets-is : (x : Node S V) (nd : Outs) → x.arcs.to ≡ padded_targets nd → targets x ≡ padded_targets nd
   unfolding targets
   targets-is x nd e = ap (λ (ts : List ℕ). map (λ k. get_or ts k 0) (range_with_len 0 16)) e
 
   -- the targets of a record are those of the node
-  pub targets-arranged : (w : ℕ) (L : Layer) (us : List (Node S V)) (a : ℕ) (d : Node S V) → map arcs_of us ≡ table w (arcs_at L) → a < w → targets (get_or us a d) ≡ padded (node L a)
+  pub targets-arranged : (w : ℕ) (L : Layer) (us : List (Node S V)) (a : ℕ) (d : Node S V) → map arcs_of us ≡ table w (arcs_at L) → a < w → targets (get_or us a d) ≡ padded_targets (node L a)
   targets-arranged w L us a d e lt = targets-is (get_or us a d) (node L a) (ap (λ (x : Arcs). x.to) (arcs-arranged w L us a d e lt))
 
   pub redirected-arcs : (g : ℕ → ℕ → ℕ) (x : Node S V) → (redirected g x).arcs ≡ record { to = each_door g 1 (targets x) }
@@ -100,4 +100,4 @@ module _ {S V : Type 0} where
       at k lt = redirected-arcs (F (get_or xs k u)) (get_or xs k u)
           ∙ ap (λ (ts : List ℕ). record { to = each_door (F (get_or xs k u)) 1 ts }) (targets-arranged w L xs k u e lt)
           ∙ ap (λ (ts : List ℕ). record { to = ts }) (each-padded (F (get_or xs k u)) (f k) (node L k) (agree k))
-          ∙ ap (λ (nd : Outs). record { to = padded nd }) (sym (redirect-node f L k))
+          ∙ ap (λ (nd : Outs). record { to = padded_targets nd }) (sym (redirect-node f L k))

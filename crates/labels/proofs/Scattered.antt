@@ -12,7 +12,7 @@ use Rattle.rules.specs.Rules.{RuleSense}
 use Rattle.tallies.specs.Tallies.{TallySense}
 use Rattle.layers.specs.declared.node.Node.{Node}
 use Rattle.layers.specs.declared.node.Down.{Down}
-use Rattle.layers.specs.Labels.{arrive, merge}
+use Rattle.layers.specs.Labels.{arrival_over, merge}
 use Rattle.layers.specs.Records.{blank}
 use Rattle.labels.specs.Passes.{arrivals, with_down, blank_node, by_door, from_node, gathered, labelled, next_layer, cleared, taken, landed, hit, crossed, spread}
 use Rattle.labels.proofs.Folds.{folded_keeps, folded-view}
@@ -49,7 +49,7 @@ module _ {S V : Type 0} (r : Round) (R : RuleSense S) (T : TallySense V) where
 
   crossed-long : (u : Node S V) (vs : List (Node S V)) (k : ℕ) → length (crossed r R T u vs k) ≡ length vs
   unfolding crossed
-  crossed-long u vs k = hit-long vs (get_or u.arcs.to k 0) (arrive r R T u.label.down (k + 1))
+  crossed-long u vs k = hit-long vs (get_or u.arcs.to k 0) (arrival_over r R T u.label.down (k + 1))
 
   pub spread-long : (vs : List (Node S V)) (u : Node S V) → length (spread r R T vs u) ≡ length vs
   unfolding spread
@@ -65,7 +65,7 @@ module _ {S V : Type 0} (r : Round) (R : RuleSense S) (T : TallySense V) where
       let doors : get_or (fold (crossed r R T u) vs (range_with_len 0 16)) b z ≡ fold (takes) (get_or vs b z) (flat_map (by_door r R T (b + 1) u) (range_with_len 0 16)) =
       folded-view (λ ys. b < length ys) (λ ys. get_or ys b z) (crossed r R T u) (takes) (by_door r R T (b + 1) u)
       (λ ys k h. omega (arith, crossed-long u ys k))
-      (λ ys k h. hit-at ys b (get_or u.arcs.to k 0) (arrive r R T u.label.down (k + 1)) h)
+      (λ ys k h. hit-at ys b (get_or u.arcs.to k 0) (arrival_over r R T u.label.down (k + 1)) h)
       vs (range_with_len 0 16) lt in
       ⊎_elim
       (λ e. rw (eq-eqb u.label.down.lasts 0 e) refl)
@@ -111,12 +111,12 @@ module _ {S V : Type 0} (r : Round) (R : RuleSense S) (T : TallySense V) where
   all-joined P F (x ∷ xs) h = All-append P (F x) (flat_map F xs) (h x) (all-joined P F xs h)
 
   reached : (t : ℕ) (us : List (Node S V)) → All Reached (arrivals r R T t us)
-  unfolding from_node by_door arrive
+  unfolding from_node by_door arrival_over
   reached t us =
       all-joined Reached (from_node r R T t) us
       (λ u. cond_both (eqb u.label.down.lasts 0) [] (flat_map (by_door r R T t u) (range_with_len 0 16)) (All Reached) (λ _. tt)
       (λ _. all-joined Reached (by_door r R T t u) (range_with_len 0 16)
-      (λ k. cond_both (eqb (get_or u.arcs.to k 0) t) (arrive r R T u.label.down (k + 1) ∷ []) [] (All Reached) (λ _. (pow_pos (k + 1), tt)) (λ _. tt))))
+      (λ k. cond_both (eqb (get_or u.arcs.to k 0) t) (arrival_over r R T u.label.down (k + 1) ∷ []) [] (All Reached) (λ _. (pow_pos (k + 1), tt)) (λ _. tt))))
 
   -- ---- the whole layer
   pub spreads-layer : (us vs : List (Node S V)) → fold (spread r R T) (map (cleared r R T) vs) us ≡ next_layer r R T us vs

@@ -8,7 +8,7 @@ use Rattle.tallies.specs.Tallies.{TallySense}
 use Rattle.layers.specs.declared.node.Node.{Node}
 use Rattle.layers.specs.declared.node.Down.{Down}
 use Rattle.layers.specs.declared.node.Up.{Up}
-use Rattle.layers.specs.Labels.{arrive, merge, first, climb, merge_up, no_up}
+use Rattle.layers.specs.Labels.{arrival_over, merge, first_label, climb, merge_up, no_up}
 use Rattle.layers.specs.Records.{blank}
 
 -- ---- parts of the list
@@ -38,8 +38,8 @@ module _ {S V : Type 0} (r : Round) (R : RuleSense S) (T : TallySense V) where
   -- ---- down: what a node gathers
   -- the arrival over one door, if its arc goes to the target t
   unfoldable pub by_door : ℕ → Node S V → ℕ → List (Down S V)
-  unfolding arrive
-  by_door t u k = cond (slice_index u.arcs.to k == t) (arrive r R T u.label.down (k + 1) ∷ []) []
+  unfolding arrival_over
+  by_door t u k = cond (slice_index u.arcs.to k == t) (arrival_over r R T u.label.down (k + 1) ∷ []) []
 
   -- the arrivals from one record, by door; one that is not in use has none
   unfoldable pub from_node : ℕ → Node S V → List (Down S V)
@@ -76,7 +76,7 @@ module _ {S V : Type 0} (r : Round) (R : RuleSense S) (T : TallySense V) where
   -- the layer of the first node
   abbrev pub first_layer : List (Node S V) → List (Node S V)
   first_layer [] = []
-  first_layer (u ∷ us) = with_down u (first r R T) ∷ map cleared us
+  first_layer (u ∷ us) = with_down u (first_label r R T) ∷ map cleared us
 
   unfoldable pub begun : ℕ → List (Node S V) → List (Node S V)
   begun w xs = over 0 (first_layer (part 0 w xs)) xs
@@ -107,8 +107,8 @@ module _ {S V : Type 0} (r : Round) (R : RuleSense S) (T : TallySense V) where
 
   -- over the door k + 1 of u
   unfoldable pub crossed : Node S V → List (Node S V) → ℕ → List (Node S V)
-  unfolding hit arrive
-  crossed u vs k = hit vs (slice_index u.arcs.to k) (arrive r R T u.label.down (k + 1))
+  unfolding hit arrival_over
+  crossed u vs k = hit vs (slice_index u.arcs.to k) (arrival_over r R T u.label.down (k + 1))
 
   -- over all doors of u
   unfoldable pub spread : List (Node S V) → Node S V → List (Node S V)

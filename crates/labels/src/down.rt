@@ -4,7 +4,7 @@ ghost use Rattle.std.specs.List.{AllByRecursion};
 ghost use Rattle.round.specs.Clock.{latest};
 ghost use Rattle.round.specs.declared.table.Round.{Round as ARound};
 ghost use Rattle.layers.specs.declared.node.Node.{Node as ANode};
-ghost use Rattle.layers.specs.Labels.{arrive, merge, first};
+ghost use Rattle.layers.specs.Labels.{arrival_over, merge, first_label};
 ghost use Rattle.layers.specs.Records.{blank};
 ghost use Rattle.labels.specs.Passes.{part, over, Early, cleared, first_layer, begun, layer_done, pass_down, landed, crossed, spread};
 
@@ -24,7 +24,7 @@ pub(crate) fn arrive<R: Rule, T: Tally>(
 ) -> Down<R::State, T::Value>
     requires j_bound { j < 17 }
     requires finish_bound { u.now.finish ≤ latest 15 }
-    ensures { result ≡ arrive round.now (R.Rule.sense rule.now) (T.Tally.sense tally.now) u.now j }
+    ensures { result ≡ arrival_over round.now (R.Rule.sense rule.now) (T.Tally.sense tally.now) u.now j }
 {
     let leg = leg_from(round, u.lasts, j);
     let minute = round.finish(u.finish, leg, j);
@@ -174,7 +174,7 @@ fn relabel_layer<R: Rule, T: Tally>(
 
 /// The label of the first node.
 fn at_first<R: Rule, T: Tally>(rule: &R, tally: &T) -> Down<R::State, T::Value>
-    ensures { (r : ARound) → result ≡ first r (R.Rule.sense rule.now) (T.Tally.sense tally.now) }
+    ensures { (r : ARound) → result ≡ first_label r (R.Rule.sense rule.now) (T.Tally.sense tally.now) }
 {
     Down {
         all: 0,

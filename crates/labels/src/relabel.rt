@@ -1,8 +1,8 @@
 //! All labels of a diagram's records.
 ghost use Rattle.std.specs.Prelude.{◌≡◌, ◌+◌, ◌*◌, ◌≤◌, length, take, if◌then◌else◌};
-ghost use Rattle.layers.specs.Flow.{Net, Lawful};
+ghost use Rattle.layers.specs.Flow.{Net, IsLawful};
 ghost use Rattle.layers.specs.Records.{arcs_read, laid_arcs};
-ghost use Rattle.layers.specs.Calls.{relaid};
+ghost use Rattle.layers.specs.Calls.{records_with};
 ghost use Rattle.labels.specs.Passes.{fits, relabelled};
 
 use crate::down::label_down;
@@ -24,9 +24,9 @@ pub fn relabel<R: Rule, T: Tally>(
     ensures passes { nodes.new ≡ (if fits round.now.n width (length nodes.old) then relabelled
         round.now (R.Rule.sense rule.now) (T.Tally.sense tally.now) width nodes.old else nodes.old) }
     ensures labelled { (Ls : Net) → 1 ≤ width → width ≤ 128
-        → round.now.n * width + 1 ≤ length nodes.old → Lawful round.now.n width Ls
+        → round.now.n * width + 1 ≤ length nodes.old → IsLawful round.now.n width Ls
         → arcs_read (take (round.now.n * width + 1) nodes.old) ≡ laid_arcs width Ls
-        → nodes.new ≡ relaid round.now (R.Rule.sense rule.now) (T.Tally.sense tally.now) width
+        → nodes.new ≡ records_with round.now (R.Rule.sense rule.now) (T.Tally.sense tally.now) width
         nodes.old Ls }
 {
     if has_room(round, width, nodes.len()) {

@@ -6,7 +6,7 @@ use Rattle.round.specs.declared.table.Round.{Round}
 use Rattle.round.specs.Clock.{finish}
 use Rattle.rules.specs.Rules.{RuleLaws, RuleSense}
 use Rattle.tallies.specs.Tallies.{TallySense}
-use Rattle.layers.specs.Labels.{bit_of, leg, arrive, merge, agree, agree_all, agreeing}
+use Rattle.layers.specs.Labels.{bit_of, leg, arrival_over, merge, agree, agrees_with_all, all_agree}
 use Rattle.layers.proofs.Flows.{Among}
 use Rattle.layers.specs.Settings.{Setting}
 use Rattle.layers.specs.declared.node.Down.{Down}
@@ -52,8 +52,8 @@ module _ {S V : Type 0} {Keeps : List ℕ → Type 0} {Stands : S → List ℕ �
     state = sym (ruled.cover_same x.state) ∙ ap (λ (t : S). by.rule.cover t x.state) p.state ∙ ap (by.rule.cover y.state) q.state;
   }
 
-  pub agree-arrive : (x y : Down S V) (j : ℕ) → Agree x y → Agree (arrive by x j) (arrive by y j)
-  unfolding arrive
+  pub agree-arrive : (x y : Down S V) (j : ℕ) → Agree x y → Agree (arrival_over by x j) (arrival_over by y j)
+  unfolding arrival_over
   agree-arrive x y j p = record {
     all = ap (λ (t : ℕ). bit_or t (bit_of j)) p.all;
     some = ap (λ (t : ℕ). bit_or t (bit_of j)) p.some;
@@ -63,19 +63,19 @@ module _ {S V : Type 0} {Keeps : List ℕ → Type 0} {Stands : S → List ℕ �
   }
 
   -- a list of arrivals agrees if any two do
-  all_yes : (x : Down S V) (l : List (Down S V)) → agree_all by.rule x l ≡ true → (y : Down S V) → Among y l → Agree x y
-  unfolding agree_all
+  all_yes : (x : Down S V) (l : List (Down S V)) → agrees_with_all by.rule x l ≡ true → (y : Down S V) → Among y l → Agree x y
+  unfolding agrees_with_all
   all_yes x [] e y i = absurd i
-  all_yes x (z ∷ l) e y (inl f) = rw f (agree-yes x z (and_parts (agree by.rule x z) (agree_all by.rule x l) e).0)
-  all_yes x (z ∷ l) e y (inr i) = all_yes x l (and_parts (agree by.rule x z) (agree_all by.rule x l) e).1 y i
+  all_yes x (z ∷ l) e y (inl f) = rw f (agree-yes x z (and_parts (agree by.rule x z) (agrees_with_all by.rule x l) e).0)
+  all_yes x (z ∷ l) e y (inr i) = all_yes x l (and_parts (agree by.rule x z) (agrees_with_all by.rule x l) e).1 y i
 
-  yes-all : (x : Down S V) (l : List (Down S V)) → ((y : Down S V) → Among y l → Agree x y) → agree_all by.rule x l ≡ true
-  unfolding agree_all
+  yes-all : (x : Down S V) (l : List (Down S V)) → ((y : Down S V) → Among y l → Agree x y) → agrees_with_all by.rule x l ≡ true
+  unfolding agrees_with_all
   yes-all x [] f = refl
   yes-all x (y ∷ l) f = rw (yes-agree x y (f y (inl refl))) (yes-all x l (λ z i. f z (inr i)))
 
-  pub pairs : (l : List (Down S V)) → agreeing by.rule l ≡ true → (y z : Down S V) → Among y l → Among z l → Agree y z
-  unfolding agreeing
+  pub pairs : (l : List (Down S V)) → all_agree by.rule l ≡ true → (y z : Down S V) → Among y l → Among z l → Agree y z
+  unfolding all_agree
   pairs [] e y z i k = absurd i
   pairs (x ∷ l) e y z i k = agree-back x y z (one_of y i) (one_of z k)
     where
@@ -83,7 +83,7 @@ module _ {S V : Type 0} {Keeps : List ℕ → Type 0} {Stands : S → List ℕ �
       one_of t (inl f) = rw f (agree-self x)
       one_of t (inr m) = all_yes x l e t m
 
-  pub by-pairs : (l : List (Down S V)) → ((y z : Down S V) → Among y l → Among z l → Agree y z) → agreeing by.rule l ≡ true
-  unfolding agreeing
+  pub by-pairs : (l : List (Down S V)) → ((y z : Down S V) → Among y l → Among z l → Agree y z) → all_agree by.rule l ≡ true
+  unfolding all_agree
   by-pairs [] f = refl
   by-pairs (x ∷ l) f = yes-all x l (λ y i. f x y (inl refl) (inr i))

@@ -8,17 +8,17 @@ use Rattle.rules.specs.Rules.{RuleSense}
 use Rattle.tallies.specs.Tallies.{TallySense}
 use Rattle.layers.specs.declared.node.Node.{Node}
 use Rattle.layers.specs.declared.node.Up.{Up}
-use Rattle.layers.specs.Flow.{table, Outs, Layer, Net, node, target, width, each_door, each_node, redirect, every_door, every_arc, ins, gather, next, up, final, Led, Tied, Roomy}
-use Rattle.layers.specs.Labels.{first, firsts, arrive, merge, labels_next, no_up, ups, barred, dear, agreeing}
-use Rattle.layers.specs.Records.{used, standing, layers, arcs_in, downs_in, ups_in, drawn, padded, place, laid_from, laid}
-use Rattle.layers.specs.Calls.{thinned, trimmed, arrivals, parted_at, agreed_below, agreed_all, quiet_from, value_in, labels_in, LayerLabels}
+use Rattle.layers.specs.Flow.{table, Outs, Layer, Net, node, target, width, each_door, each_node, redirect, every_door, every_arc, arrivals_at, gather, next, up, end_label, IsLed, IsTied, IsRoomy}
+use Rattle.layers.specs.Labels.{first_label, first_labels, arrival_over, merge, labels_next, no_up, ups, is_barred, is_above_ceiling, all_agree}
+use Rattle.layers.specs.Records.{is_used, nodes_in, layers, arcs_in, downs_in, ups_in, arcs_of_layers, padded_targets, record_of_place, labelled_from, labelled_records}
+use Rattle.layers.specs.Calls.{unbarred_arcs, affordable_arcs, arrivals, parted_arcs, places_agree, in_arcs_agree, nothing_barred, value_in, labels_in, LayerLabels}
 use Rattle.layers.proofs.Flows.{ins-from, next-some, next-at, gather-all, table_at, has-arc}
 use Rattle.layers.proofs.Sets.{or_left, one-self, none_has}
 use Rattle.layers.proofs.Model.{sweeps, cuts, part_at, one_group, agrees, quiet, valueO, or_blank, or_no_up, labels_at}
 use Rattle.layers.proofs.Lively.{labels_full, ups-full}
 use Rattle.layers.specs.Settings.{Setting}
 use Rattle.layers.specs.declared.node.Down.{Down}
-pub use Rattle.layers.specs.Flow.{Even}
+pub use Rattle.layers.specs.Flow.{IsEven}
 pub use Rattle.layers.proofs.Flows.{table-long}
 
 -- ---- tables
@@ -95,10 +95,10 @@ unfolding ups up
 ups-end b e = ap (λ (k : ℕ). get_or {A = Option Up} (Some no_up ∷ []) k None) e
 
 -- the nodes of a layer, out of its W places
-stand-table : {S V : Type 0} (W m : ℕ) (f : ℕ → Node S V) → m ≤ W → ((k : ℕ) → k < m → used (f k) ≡ true) → (m < W → used (f m) ≡ false) → standing (table W f) ≡ table m f
+stand-table : {S V : Type 0} (W m : ℕ) (f : ℕ → Node S V) → m ≤ W → ((k : ℕ) → k < m → is_used (f k) ≡ true) → (m < W → is_used (f m) ≡ false) → nodes_in (table W f) ≡ table m f
 stand-table zero zero f h on off = refl
 stand-table zero (suc m) f h on off = absurd (not-suc-le-zero h)
-stand-table (suc W) zero f h on off = ap (λ (q : Bool). cond q (f 0 ∷ standing (table W (λ k. f (suc k)))) []) (off (omega arith))
+stand-table (suc W) zero f h on off = ap (λ (q : Bool). cond q (f 0 ∷ nodes_in (table W (λ k. f (suc k)))) []) (off (omega arith))
 stand-table (suc W) (suc m) f h on off =
     rw (on 0 (omega arith)) (ap (λ (z : List (Node _ _)). f 0 ∷ z) (stand-table W m (λ k. f (suc k)) (le_of_suc-le-suc h) (λ k q. on (suc k) (omega arith)) (λ q. off (omega arith))))
 
@@ -119,7 +119,7 @@ module _ {S V : Type 0} (by : Setting S V) (w : 1 ≤ by.width) where
   lasting-if : (m j : ℕ) → has m j ≡ true → eqb m 0 ≡ false
   lasting-if m j h = ne_eqb m 0 (λ e. none_has j (rw (← e) h))
 
-  filled-first : Filled (firsts by.rule by.tally) 1
+  filled-first : Filled (first_labels by.rule by.tally) 1
   filled-first = record {
     there = one-there;
     beyond = refl;
@@ -127,34 +127,34 @@ module _ {S V : Type 0} (by : Setting S V) (w : 1 ≤ by.width) where
     lasting = once;
   }
     where
-      one-there : (a : ℕ) → a < 1 → (l : Down S V) × (get_or (firsts by.rule by.tally) a None ≡ Some l)
-      one-there zero h = (first by.rule by.tally, refl)
+      one-there : (a : ℕ) → a < 1 → (l : Down S V) × (get_or (first_labels by.rule by.tally) a None ≡ Some l)
+      one-there zero h = (first_label by.rule by.tally, refl)
       one-there (suc a) h = absurd (not-suc-le-zero (le_of_suc-le-suc h))
 
-      once : (a : ℕ) (l : Down S V) → get_or (firsts by.rule by.tally) a None ≡ Some l → eqb l.lasts 0 ≡ false
-      once zero l e = let x : first by.rule by.tally ≡ l = cc in rw (← x) refl
+      once : (a : ℕ) (l : Down S V) → get_or (first_labels by.rule by.tally) a None ≡ Some l → eqb l.lasts 0 ≡ false
+      once zero l e = let x : first_label by.rule by.tally ≡ l = cc in rw (← x) refl
       once (suc a) l e = absurd cc
 
   lasting-next : (labs : Labs) (L : Layer) (count : ℕ) → Lasting (labels_next by labs L count)
-  unfolding labels_next arrive merge
+  unfolding labels_next arrival_over merge
   lasting-next labs L count a l e =
-      let q = gather-all (merge by.rule by.tally) (λ x. (j : ℕ) × (has x.lasts j ≡ true)) (λ x y p q. (p.0, or_left x.lasts y.lasts p.0 p.1)) (ins (arrive by) a labs L) l
-      (λ x i. let f = ins-from (arrive by) a labs L x i in (f.door, ap (λ (z : Down S V). has z.lasts f.door) f.is ∙ one-self f.door))
-      (next-some (arrive by) (merge by.rule by.tally) labs L count a l e) in
+      let q = gather-all (merge by.rule by.tally) (λ x. (j : ℕ) × (has x.lasts j ≡ true)) (λ x y p q. (p.0, or_left x.lasts y.lasts p.0 p.1)) (arrivals_at (arrival_over by) a labs L) l
+      (λ x i. let f = ins-from (arrival_over by) a labs L x i in (f.door, ap (λ (z : Down S V). has z.lasts f.door) f.is ∙ one-self f.door))
+      (next-some (arrival_over by) (merge by.rule by.tally) labs L count a l e) in
       lasting-if l.lasts q.0 q.1
 
-  filled_next : (labs : Labs) (L M : Layer) (Ls : Net) → Tied (L ∷ M ∷ Ls) → Filled labs (length L) → Filled (labels_next by labs L (length M)) (length M)
+  filled_next : (labs : Labs) (L M : Layer) (Ls : Net) → IsTied (L ∷ M ∷ Ls) → Filled labs (length L) → Filled (labels_next by labs L (length M)) (length M)
   filled_next labs L M Ls t f = record {
     there = labels_full by w labs L M Ls t f.there;
-    beyond = unfold labels_next next in table-end (length M) (λ b. gather (merge by.rule by.tally) (ins (arrive by) b labs L));
-    long = unfold labels_next next in table-long (length M) (λ b. gather (merge by.rule by.tally) (ins (arrive by) b labs L));
+    beyond = unfold labels_next next in table-end (length M) (λ b. gather (merge by.rule by.tally) (arrivals_at (arrival_over by) b labs L));
+    long = unfold labels_next next in table-long (length M) (λ b. gather (merge by.rule by.tally) (arrivals_at (arrival_over by) b labs L));
     lasting = lasting-next labs L (length M);
   }
 
   -- ---- the nodes that stand, by layers
   abbrev pub top : Labs → Net → List (Node S V)
-  top labs [] = standing (place by [] labs [] 0 ∷ [])
-  top labs (L ∷ Ls) = table (length L) (place by L labs (ups (L ∷ Ls)))
+  top labs [] = nodes_in (record_of_place by [] labs [] 0 ∷ [])
+  top labs (L ∷ Ls) = table (length L) (record_of_place by L labs (ups (L ∷ Ls)))
 
   abbrev pub rest : Labs → Net → List (List (Node S V))
   rest labs [] = []
@@ -177,66 +177,66 @@ module _ {S V : Type 0} (by : Setting S V) (w : 1 ≤ by.width) where
   -- ---- a layer
   row-arcs : (labs : Labs) (L : Layer) (Ls : Net) → Fit labs L Ls → arcs_in by.round.n (top labs (L ∷ Ls)) ≡ L
   row-arcs labs L Ls f =
-      map-table (λ (x : Node S V). take by.round.n x.arcs.to) (length L) (place by L labs (ups (L ∷ Ls)))
+      map-table (λ (x : Node S V). take by.round.n x.arcs.to) (length L) (record_of_place by L labs (ups (L ∷ Ls)))
       ∙ table-ext (length L) _ (λ k. get_or L k []) (λ k h. pad-back by.round.n 16 (node L k) (f.even k h) by.round.most) ∙ table-back [] L
 
   row-downs : (labs : Labs) (L : Layer) (Ls : Net) → Fit labs L Ls → downs_in (top labs (L ∷ Ls)) ≡ labs
   row-downs labs L Ls f =
-      map-table (λ (x : Node S V). Some x.label.down) (length L) (place by L labs (ups (L ∷ Ls)))
+      map-table (λ (x : Node S V). Some x.label.down) (length L) (record_of_place by L labs (ups (L ∷ Ls)))
       ∙ table-ext (length L) _ (λ k. get_or labs k None) (λ k h. let x = f.filled.there k h in ap (λ (o : Option (Down S V)). Some (or_blank by.rule by.tally o)) x.1 ∙ sym x.1)
       ∙ rw (← f.filled.long) (table-back None labs)
 
   -- the end's node
-  end-top : (labs : Labs) (l : Down S V) → get_or labs 0 None ≡ Some l → eqb l.lasts 0 ≡ false → top labs [] ≡ record { arcs = record { to = padded [] }; label = record { down = l; up = no_up } } ∷ []
+  end-top : (labs : Labs) (l : Down S V) → get_or labs 0 None ≡ Some l → eqb l.lasts 0 ≡ false → top labs [] ≡ record { arcs = record { to = padded_targets [] }; label = record { down = l; up = no_up } } ∷ []
   end-top labs l e q =
-      let P : Option (Down S V) → Node S V = λ o. record { arcs = record { to = padded [] }; label = record { down = or_blank by.rule by.tally o; up = no_up } } in
+      let P : Option (Down S V) → Node S V = λ o. record { arcs = record { to = padded_targets [] }; label = record { down = or_blank by.rule by.tally o; up = no_up } } in
       rw e (ap (λ (z : Bool). cond (not z) (P (Some l) ∷ []) []) q)
 
-  tops-end : (labs : Labs) (L : Layer) → Filled labs (length L) → Tied (L ∷ []) → (a j b : ℕ) → target (node L a) j ≡ suc b → get_or (ups_in (top (labels_next by labs L 1) [])) b None ≡ get_or (ups []) b None
+  tops-end : (labs : Labs) (L : Layer) → Filled labs (length L) → IsTied (L ∷ []) → (a j b : ℕ) → target (node L a) j ≡ suc b → get_or (ups_in (top (labels_next by labs L 1) [])) b None ≡ get_or (ups []) b None
   unfolding labels_next
   tops-end labs L f t a j b e =
       let z : b ≡ 0 = omega (arith, t a j b e) in
       let l = f.there a (has-arc L a j b e) in
-      let n = next-at {A = Down S V} (merge by.rule by.tally) (λ x y. Unit {0}) (λ x. tt) (λ x y z f g. tt) (λ x y. tt) (λ x y. tt) (arrive by) labs L 1 a j b l.0 e l.1 (t a j b e) in
-      let n0 : get_or (next (arrive by) (merge by.rule by.tally) labs L 1) 0 None ≡ Some n.0 = ap (λ (k : ℕ). get_or (next (arrive by) (merge by.rule by.tally) labs L 1) k None) (sym z) ∙ n.1 in
+      let n = next-at {A = Down S V} (merge by.rule by.tally) (λ x y. Unit {0}) (λ x. tt) (λ x y z f g. tt) (λ x y. tt) (λ x y. tt) (arrival_over by) labs L 1 a j b l.0 e l.1 (t a j b e) in
+      let n0 : get_or (next (arrival_over by) (merge by.rule by.tally) labs L 1) 0 None ≡ Some n.0 = ap (λ (k : ℕ). get_or (next (arrival_over by) (merge by.rule by.tally) labs L 1) k None) (sym z) ∙ n.1 in
       let q = lasting-next labs L 1 0 n.0 n0 in
-      ap (λ (x : List (Node S V)). get_or (ups_in x) b None) (end-top (next (arrive by) (merge by.rule by.tally) labs L 1) n.0 n0 q)
+      ap (λ (x : List (Node S V)). get_or (ups_in x) b None) (end-top (next (arrival_over by) (merge by.rule by.tally) labs L 1) n.0 n0 q)
       ∙ ap (λ (k : ℕ). get_or {A = Option Up} (Some no_up ∷ []) k None) z ∙ sym (ups-end b z)
 
-  tops-inner : (labs : Labs) (M : Layer) (Ls : Net) (b : ℕ) → Led M → Tied (M ∷ Ls) → b < length M → get_or (ups_in (top labs (M ∷ Ls))) b None ≡ get_or (ups (M ∷ Ls)) b None
+  tops-inner : (labs : Labs) (M : Layer) (Ls : Net) (b : ℕ) → IsLed M → IsTied (M ∷ Ls) → b < length M → get_or (ups_in (top labs (M ∷ Ls))) b None ≡ get_or (ups (M ∷ Ls)) b None
   tops-inner labs M Ls b led t h =
       let x = ups-full M Ls led t b h in
-      ap (λ (z : List (Option Up)). get_or z b None) (map-table (λ (x : Node S V). Some x.label.up) (length M) (place by M labs (ups (M ∷ Ls))))
+      ap (λ (z : List (Option Up)). get_or z b None) (map-table (λ (x : Node S V). Some x.label.up) (length M) (record_of_place by M labs (ups (M ∷ Ls))))
       ∙ table_at (length M) b (λ k. Some (or_no_up (get_or (ups (M ∷ Ls)) k None))) None h ∙ ap (λ (o : Option Up). Some (or_no_up o)) x.1 ∙ sym x.1
 
-  full_from : (labs : Labs) (L : Layer) (Ls : Net) → Filled labs (length L) → Tied (L ∷ Ls) → Roomy by.width (L ∷ Ls) → Even by.round.n (L ∷ Ls) → Full labs (L ∷ Ls)
+  full_from : (labs : Labs) (L : Layer) (Ls : Net) → Filled labs (length L) → IsTied (L ∷ Ls) → IsRoomy by.width (L ∷ Ls) → IsEven by.round.n (L ∷ Ls) → Full labs (L ∷ Ls)
   full_from labs L [] f t room even = (record { filled = f; room = room.0; even = even.0; tops = tops-end labs L f t }, lasting-next labs L 1)
   full_from labs L (M ∷ Ls) f t room even = (
     record { filled = f; room = room.0; even = even.0; tops = λ a j b e. tops-inner (labels_next by labs L (length M)) M Ls b t.2 t.3 (t.0 a j b e) },
     full_from (labels_next by labs L (length M)) M Ls (filled_next labs L M Ls t f) t.3 room.1 even.1,
   )
 
-  pub full-first : (L : Layer) (Ls : Net) → length L ≡ 1 → Tied (L ∷ Ls) → Roomy by.width (L ∷ Ls) → Even by.round.n (L ∷ Ls) → Full (firsts by.rule by.tally) (L ∷ Ls)
-  full-first L Ls e t room even = full_from (firsts by.rule by.tally) L Ls (rw e filled-first) t room even
+  pub full-first : (L : Layer) (Ls : Net) → length L ≡ 1 → IsTied (L ∷ Ls) → IsRoomy by.width (L ∷ Ls) → IsEven by.round.n (L ∷ Ls) → Full (first_labels by.rule by.tally) (L ∷ Ls)
+  full-first L Ls e t room even = full_from (first_labels by.rule by.tally) L Ls (rw e filled-first) t room even
 
   -- ---- reading the records
-  one-row : (labs : Labs) (L : Layer) (Ls : Net) → Fit labs L Ls → standing (table by.width (place by L labs (ups (L ∷ Ls)))) ≡ top labs (L ∷ Ls)
-  one-row labs L Ls f = stand-table by.width (length L) (place by L labs (ups (L ∷ Ls))) f.room
+  one-row : (labs : Labs) (L : Layer) (Ls : Net) → Fit labs L Ls → nodes_in (table by.width (record_of_place by L labs (ups (L ∷ Ls)))) ≡ top labs (L ∷ Ls)
+  one-row labs L Ls f = stand-table by.width (length L) (record_of_place by L labs (ups (L ∷ Ls))) f.room
       (λ k h. let x = f.filled.there k h in rw x.1 (ap not (f.filled.lasting k x.0 x.1)))
       (λ h. ap (λ (o : Option (Down S V)). not (eqb (or_blank by.rule by.tally o).lasts 0)) f.filled.beyond)
 
-  pub layers-laid : (later : List (Node S V)) (labs : Labs) (Ls : Net) → Full labs Ls → layers by.width (length Ls) (laid_from by labs Ls ++ later) ≡ stood labs Ls
-  unfolding laid_from
+  pub layers-laid : (later : List (Node S V)) (labs : Labs) (Ls : Net) → Full labs Ls → layers by.width (length Ls) (labelled_from by labs Ls ++ later) ≡ stood labs Ls
+  unfolding labelled_from
   layers-laid later labs [] f = refl
   layers-laid later labs (L ∷ Ls) f =
-      let f' = place by L labs (ups (L ∷ Ls)) in
-      let X = laid_from by (labels_next by labs L (width Ls)) Ls in
-      ap₂ (λ (x y : List (Node S V)). standing x ∷ layers by.width (length Ls) y)
+      let f' = record_of_place by L labs (ups (L ∷ Ls)) in
+      let X = labelled_from by (labels_next by labs L (width Ls)) Ls in
+      ap₂ (λ (x y : List (Node S V)). nodes_in x ∷ layers by.width (length Ls) y)
       (ap (take by.width) (append_assoc (table by.width f') X later) ∙ take-table by.width f' (X ++ later))
       (ap (drop by.width) (append_assoc (table by.width f') X later) ∙ drop-table by.width f' (X ++ later))
       ∙ ap₂ (λ (x : List (Node S V)) (y : List (List (Node S V))). x ∷ y) (one-row labs L Ls f.0) (layers-laid later (labels_next by labs L (width Ls)) Ls f.1)
 
-  pub drawn-stood : (labs : Labs) (Ls : Net) → Full labs Ls → drawn by.round.n (stood labs Ls) ≡ Ls
+  pub drawn-stood : (labs : Labs) (Ls : Net) → Full labs Ls → arcs_of_layers by.round.n (stood labs Ls) ≡ Ls
   drawn-stood labs [] f = refl
   drawn-stood labs (L ∷ Ls) f = ap₂ (λ (x : Layer) (y : Net). x ∷ y) (row-arcs labs L Ls f.0) (drawn-stood (labels_next by labs L (width Ls)) Ls f.1)
 
@@ -244,79 +244,79 @@ module _ {S V : Type 0} (by : Setting S V) (w : 1 ≤ by.width) where
   abbrev pub Standing : Labs → Net → List (LayerLabels S V)
   Standing labs Ls = labels_in (stood labs Ls)
 
-  pub thinned-stood : (i : ℕ) (labs : Labs) (Ls : Net) → Full labs Ls → thinned by.round by.rule i Ls (Standing labs Ls) ≡ sweeps by i labs Ls
-  unfolding thinned
+  pub thinned-stood : (i : ℕ) (labs : Labs) (Ls : Net) → Full labs Ls → unbarred_arcs by.round by.rule i Ls (Standing labs Ls) ≡ sweeps by i labs Ls
+  unfolding unbarred_arcs
   thinned-stood i labs [] f = refl
   thinned-stood i labs (L ∷ Ls) f =
       let labs' = labels_next by labs L (width Ls) in
-      let Q : Labs → ℕ → ℕ → Option Up → ℕ → ℕ = λ x a j u b. cond (barred by.round by.rule i (suc (length Ls)) j (get_or x a None) u) 0 (suc b) in
+      let Q : Labs → ℕ → ℕ → Option Up → ℕ → ℕ = λ x a j u b. cond (is_barred by.round by.rule i (suc (length Ls)) j (get_or x a None) u) 0 (suc b) in
       let F : Labs → List (Option Up) → ℕ → ℕ → ℕ → ℕ = λ x y a j b. Q x a j (get_or y b None) b in
       ap₂ (λ (x : Layer) (y : Net). x ∷ y)
       (ap (λ (x : Labs). redirect (F x (ups_in (top labs' Ls))) L) (row-downs labs L Ls f.0)
       ∙ redirect-cong (F labs (ups_in (top labs' Ls))) (F labs (ups Ls)) L (λ a j b g. ap (λ (u : Option Up). Q labs a j u b) (f.0.tops a j b g)))
       (thinned-stood (suc i) labs' Ls f.1)
 
-  pub quiet-stood : (i : ℕ) (labs : Labs) (Ls : Net) → Full labs Ls → quiet_from by.round by.rule i Ls (Standing labs Ls) ≡ quiet by i labs Ls
-  unfolding quiet_from
+  pub quiet-stood : (i : ℕ) (labs : Labs) (Ls : Net) → Full labs Ls → nothing_barred by.round by.rule i Ls (Standing labs Ls) ≡ quiet by i labs Ls
+  unfolding nothing_barred
   quiet-stood i labs [] f = refl
   quiet-stood i labs (L ∷ Ls) f =
       let labs' = labels_next by labs L (width Ls) in
-      let Q : Labs → ℕ → ℕ → Option Up → Bool = λ x a j u. not (barred by.round by.rule i (suc (length Ls)) j (get_or x a None) u) in
+      let Q : Labs → ℕ → ℕ → Option Up → Bool = λ x a j u. not (is_barred by.round by.rule i (suc (length Ls)) j (get_or x a None) u) in
       let F : Labs → List (Option Up) → ℕ → ℕ → ℕ → Bool = λ x y a j b. Q x a j (get_or y b None) in
       ap₂ ◌&&◌
       (ap (λ (x : Labs). every_arc (F x (ups_in (top labs' Ls))) 0 L) (row-downs labs L Ls f.0)
       ∙ every_arc-cong (F labs (ups_in (top labs' Ls))) (F labs (ups Ls)) 0 L (λ a j b g. ap (λ (u : Option Up). Q labs (0 + a) j u) (f.0.tops a j b g)))
       (quiet-stood (suc i) labs' Ls f.1)
 
-  pub trimmed-stood : (c : V) (labs : Labs) (Ls : Net) → Full labs Ls → trimmed by.round by.tally c Ls (Standing labs Ls) ≡ cuts by c labs Ls
-  unfolding trimmed
+  pub trimmed-stood : (c : V) (labs : Labs) (Ls : Net) → Full labs Ls → affordable_arcs by.round by.tally c Ls (Standing labs Ls) ≡ cuts by c labs Ls
+  unfolding affordable_arcs
   trimmed-stood c labs [] f = refl
   trimmed-stood c labs (L ∷ Ls) f =
       ap₂ (λ (x : Layer) (y : Net). x ∷ y)
-      (ap (λ (x : Labs). redirect (λ a j b. cond (dear by.round by.tally c j (get_or x a None)) 0 (suc b)) L) (row-downs labs L Ls f.0))
+      (ap (λ (x : Labs). redirect (λ a j b. cond (is_above_ceiling by.round by.tally c j (get_or x a None)) 0 (suc b)) L) (row-downs labs L Ls f.0))
       (trimmed-stood c (labels_next by labs L (width Ls)) Ls f.1)
 
-  pub agrees-stood : (labs : Labs) (Ls : Net) → Full labs Ls → agreed_all by Ls (Standing labs Ls) ≡ agrees by labs Ls
-  unfolding agreed_all
+  pub agrees-stood : (labs : Labs) (Ls : Net) → Full labs Ls → in_arcs_agree by Ls (Standing labs Ls) ≡ agrees by labs Ls
+  unfolding in_arcs_agree
   agrees-stood labs [] f = refl
   agrees-stood labs (L ∷ []) f = refl
   agrees-stood labs (L ∷ M ∷ Ls) f =
-      ap₂ ◌&&◌ (ap (λ (x : Labs). agreed_below by x L (length M)) (row-downs labs L (M ∷ Ls) f.0)) (agrees-stood (labels_next by labs L (length M)) (M ∷ Ls) f.1)
+      ap₂ ◌&&◌ (ap (λ (x : Labs). places_agree by x L (length M)) (row-downs labs L (M ∷ Ls) f.0)) (agrees-stood (labels_next by labs L (length M)) (M ∷ Ls) f.1)
 
   pub stood-at : (d : ℕ) (labs : Labs) (Ls : Net) → Full labs Ls → d < length Ls
       → (downs_in (get_or (stood labs Ls) d []) ≡ labels_at by d labs Ls) × (arcs_in by.round.n (get_or (stood labs Ls) d []) ≡ get_or Ls d []) × (length (get_or (stood labs Ls) d []) ≡ length (get_or Ls d []))
   stood-at d labs [] f h = absurd (not-suc-le-zero h)
-  stood-at zero labs (L ∷ Ls) f h = (row-downs labs L Ls f.0, row-arcs labs L Ls f.0, table-long (length L) (place by L labs (ups (L ∷ Ls))))
+  stood-at zero labs (L ∷ Ls) f h = (row-downs labs L Ls f.0, row-arcs labs L Ls f.0, table-long (length L) (record_of_place by L labs (ups (L ∷ Ls))))
   stood-at (suc d) labs (L ∷ Ls) f h = stood-at d (labels_next by labs L (width Ls)) Ls f.1 (le_of_suc-le-suc h)
 
-  pub group_at : (d a : ℕ) (labs : Labs) (Ls : Net) → d < length Ls → one_group by d a labs Ls ≡ agreeing by.rule (ins (arrive by) a (labels_at by d labs Ls) (get_or Ls d []))
+  pub group_at : (d a : ℕ) (labs : Labs) (Ls : Net) → d < length Ls → one_group by d a labs Ls ≡ all_agree by.rule (arrivals_at (arrival_over by) a (labels_at by d labs Ls) (get_or Ls d []))
   unfolding one_group
   group_at d a labs [] h = absurd (not-suc-le-zero h)
   group_at zero a labs (L ∷ Ls) h = refl
   group_at (suc d) a labs (L ∷ Ls) h = group_at d a (labels_next by labs L (width Ls)) Ls (le_of_suc-le-suc h)
 
   -- the end's value
-  pub value-stood : (labs : Labs) (Ls : Net) → Full labs Ls → value_in (get_or (stood labs Ls) (length Ls) []) ≡ valueO by (final (arrive by) (merge by.rule by.tally) labs Ls)
-  unfolding final labels_next
+  pub value-stood : (labs : Labs) (Ls : Net) → Full labs Ls → value_in (get_or (stood labs Ls) (length Ls) []) ≡ valueO by (end_label (arrival_over by) (merge by.rule by.tally) labs Ls)
+  unfolding end_label labels_next
   value-stood labs [] f = go (get_or labs 0 None) refl
     where
       P : Option (Down S V) → Node S V
-      P o = record { arcs = record { to = padded [] }; label = record { down = or_blank by.rule by.tally o; up = no_up } }
+      P o = record { arcs = record { to = padded_targets [] }; label = record { down = or_blank by.rule by.tally o; up = no_up } }
 
-      go : (o : Option (Down S V)) → get_or labs 0 None ≡ o → value_in (standing (P o ∷ [])) ≡ valueO by o
+      go : (o : Option (Down S V)) → get_or labs 0 None ≡ o → value_in (nodes_in (P o ∷ [])) ≡ valueO by o
       go None e = refl
       go (Some l) e = ap (λ (z : Bool). value_in (cond (not z) (P (Some l) ∷ []) [])) (f 0 l e)
   value-stood labs (L ∷ Ls) f = value-stood (labels_next by labs L (width Ls)) Ls f.1
 
   -- ---- later places
-  pub laid-long : (labs : Labs) (Ls : Net) → length (laid_from by labs Ls) ≡ length Ls * by.width + 1
-  unfolding laid_from
+  pub laid-long : (labs : Labs) (Ls : Net) → length (labelled_from by labs Ls) ≡ length Ls * by.width + 1
+  unfolding labelled_from
   laid-long labs [] = omega (arith, zero-mul by.width)
   laid-long labs (L ∷ Ls) =
-      let f' = place by L labs (ups (L ∷ Ls)) in
-      let X = laid_from by (labels_next by labs L (width Ls)) Ls in
+      let f' = record_of_place by L labs (ups (L ∷ Ls)) in
+      let X = labelled_from by (labels_next by labs L (width Ls)) Ls in
       omega (arith, length-append (table by.width f') X, table-long by.width f', laid-long (labels_next by labs L (width Ls)) Ls, suc-mul (length Ls) by.width)
 
-  pub later-stays : (later : List (Node S V)) (Ls : Net) → length Ls ≡ by.round.n → drop (by.round.n * by.width + 1) (laid by Ls ++ later) ≡ later
-  unfolding laid
-  later-stays later Ls e = drop_at (laid_from by (firsts by.rule by.tally) Ls) later (by.round.n * by.width + 1) (laid-long (firsts by.rule by.tally) Ls ∙ ap (λ (k : ℕ). k * by.width + 1) e)
+  pub later-stays : (later : List (Node S V)) (Ls : Net) → length Ls ≡ by.round.n → drop (by.round.n * by.width + 1) (labelled_records by Ls ++ later) ≡ later
+  unfolding labelled_records
+  later-stays later Ls e = drop_at (labelled_from by (first_labels by.rule by.tally) Ls) later (by.round.n * by.width + 1) (laid-long (first_labels by.rule by.tally) Ls ∙ ap (λ (k : ℕ). k * by.width + 1) e)

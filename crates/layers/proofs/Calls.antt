@@ -8,10 +8,10 @@ use Rattle.rules.specs.Rules.{RuleLaws, RuleSense}
 use Rattle.tallies.specs.Tallies.{TallyLaws, TallySense}
 use Rattle.orders.specs.Allowed.{Allowed}
 use Rattle.orders.specs.Costs.{Trip, cost, rides, trip_after}
-use Rattle.layers.specs.Flow.{table, Net, node, target, width, PathFrom, clash, join_at, final}
-use Rattle.layers.specs.Labels.{arrive, merge, firsts, labels_next, dear, opened, all_doors}
+use Rattle.layers.specs.Flow.{table, Net, node, target, width, PathFrom, clash, joined_arcs, end_label}
+use Rattle.layers.specs.Labels.{arrival_over, merge, first_labels, labels_next, is_above_ceiling, opening_arcs, all_doors}
 use Rattle.layers.specs.declared.call.Call.{Call}
-use Rattle.layers.specs.Calls.{EachCut, trimmed}
+use Rattle.layers.specs.Calls.{EachCut, affordable_arcs}
 use Rattle.layers.proofs.Flows.{redirect-arc, inside, table_at, tidy-keeps}
 use Rattle.layers.proofs.Ways.{trip-snoc, length-snoc, snoc-assoc}
 use Rattle.layers.proofs.Model.{part_at, one_group, sweep, cuts, cut, after, bound, valueO}
@@ -38,7 +38,7 @@ module _ {S V : Type 0} {Keeps : List ℕ → Type 0} {Stands : S → List ℕ �
 
   cuts-keep : (c : V) (p w : List ℕ) (labs : List (Option (Down S V))) (Ls : Net) (a : ℕ) → by.tally.not_above (cost by.round by.tally (p ++ w)) c ≡ true → Going by ruled tallied p w → Told by ruled tallied p
       → At by ruled tallied labs a p → Good by ruled tallied (length p) labs → Neat by.round.n Ls → PathFrom Ls a w → PathFrom (cuts by c labs Ls) a w
-  unfolding trimmed At arrive
+  unfolding affordable_arcs At arrival_over
   cuts-keep c p [] labs [] a u g t at good neat q = q
   cuts-keep c p (j ∷ w) labs [] a u g t at good neat q = absurd q
   cuts-keep c p [] labs (L ∷ Ls) a u g t at good neat q = absurd q
@@ -49,27 +49,27 @@ module _ {S V : Type 0} {Keeps : List ℕ → Type 0} {Stands : S → List ℕ �
       let t' = told-next by ruled tallied p j t facts.0 facts.2 facts.1 in
       let u' = subst (λ (z : List ℕ). by.tally.not_above (cost by.round by.tally z) c ≡ true) (sym (snoc-assoc p w j)) u in
       let fits = arrive-fits by ruled tallied at.0 p j at.2 t (unfold Good in (good a at.0 at.1).0) facts.0 facts.2 facts.1 in
-      let low : by.tally.not_above (arrive by at.0 j).value c ≡ true =
+      let low : by.tally.not_above (arrival_over by at.0 j).value c ≡ true =
       tallied.order_chain _ (cost by.round by.tally (p ++ (j ∷ []))) c fits.value (tallied.order_chain _ (cost by.round by.tally ((p ++ (j ∷ [])) ++ w)) c (cost-rises (p ++ (j ∷ [])) w g' t') u') in
-      let nd : dear by.round by.tally c j (get_or labs a None) ≡ false = rw at.1 (ap not low) in
+      let nd : is_above_ceiling by.round by.tally c j (get_or labs a None) ≡ false = rw at.1 (ap not low) in
       let next' = at_next by ruled tallied labs L (width Ls) a j b p q.1 (inside Ls b w q.2) at t good facts.0 facts.2 facts.1 in
       let good' = good-next by ruled tallied (length p) labs L (width Ls) facts.2 good neat.0 in (
         b,
-        redirect-arc (λ a j b. cond (dear by.round by.tally c j (get_or labs a None)) 0 (suc b)) L a j b q.1 ∙ ap (λ (z : Bool). cond z 0 (suc b)) nd,
+        redirect-arc (λ a j b. cond (is_above_ceiling by.round by.tally c j (get_or labs a None)) 0 (suc b)) L a j b q.1 ∙ ap (λ (z : Bool). cond z 0 (suc b)) nd,
         cuts-keep c (p ++ (j ∷ [])) w (labels_next by labs L (width Ls)) Ls b u' g' t' next'
             (rw (length-snoc p j) good') neat.1 q.2,
       )
 
   cut_keeps : (c : V) (w : List ℕ) (Ls : Net) → Allowed by.round Keeps w → by.tally.not_above (cost by.round by.tally w) c ≡ true → Neat by.round.n Ls → PathFrom Ls 0 w → PathFrom (cut by c Ls) 0 w
   unfolding cut
-  cut_keeps c w Ls o u neat q = tidy-keeps (cuts by c (firsts by.rule by.tally) Ls) w
-      (cuts-keep c [] w (firsts by.rule by.tally) Ls 0 u (setting-out by ruled tallied w o) (told_none by ruled tallied) (at_first by ruled tallied) (good-first by ruled tallied) neat q)
+  cut_keeps c w Ls o u neat q = tidy-keeps (cuts by c (first_labels by.rule by.tally) Ls) w
+      (cuts-keep c [] w (first_labels by.rule by.tally) Ls 0 u (setting-out by ruled tallied w o) (told_none by ruled tallied) (at_first by ruled tallied) (good-first by ruled tallied) neat q)
 
   -- the label at the end fits an allowed order that is a path
   final-fits : (p w : List ℕ) (labs : List (Option (Down S V))) (Ls : Net) (a : ℕ) → Going by ruled tallied p w → Told by ruled tallied p
       → At by ruled tallied labs a p → Good by ruled tallied (length p) labs → Neat by.round.n Ls → PathFrom Ls a w
-      → (l : Down S V) × (final (arrive by) (merge by.rule by.tally) labs Ls ≡ Some l) × (by.tally.not_above l.value (cost by.round by.tally (p ++ w)) ≡ true)
-  unfolding final At labels_next
+      → (l : Down S V) × (end_label (arrival_over by) (merge by.rule by.tally) labs Ls ≡ Some l) × (by.tally.not_above l.value (cost by.round by.tally (p ++ w)) ≡ true)
+  unfolding end_label At labels_next
   final-fits p [] labs [] a g t at good neat q =
       (at.0, rw (← q) at.1, tallied.order_chain _ (cost by.round by.tally p) _ at.2.value (cost-rises p [] g t))
   final-fits p (j ∷ w) labs [] a g t at good neat q = absurd q
@@ -88,7 +88,7 @@ module _ {S V : Type 0} {Keeps : List ℕ → Type 0} {Stands : S → List ℕ �
   pub bound-below : (w : List ℕ) (Ls : Net) → Allowed by.round Keeps w → Neat by.round.n Ls → PathFrom Ls 0 w → (v : V) × (bound by Ls ≡ Some v) × (by.tally.not_above v (cost by.round by.tally w) ≡ true)
   unfolding bound
   bound-below w Ls o neat q =
-      let x = final-fits [] w (firsts by.rule by.tally) Ls 0 (setting-out by ruled tallied w o) (told_none by ruled tallied) (at_first by ruled tallied) (good-first by ruled tallied) neat q in
+      let x = final-fits [] w (first_labels by.rule by.tally) Ls 0 (setting-out by ruled tallied w o) (told_none by ruled tallied) (at_first by ruled tallied) (good-first by ruled tallied) neat q in
       (x.0.value, ap (valueO by) x.1, x.2)
 
   module _ (w1 : 1 ≤ by.width) (w : List ℕ) (o : Allowed by.round Keeps w) where
@@ -104,11 +104,11 @@ module _ {S V : Type 0} {Keeps : List ℕ → Type 0} {Stands : S → List ℕ �
     unfolding Safe
     kept-cut c Ls u s = (proper-cut by w1 c Ls tt s.0, cut_keeps c w Ls o u (neat-of by.round.n Ls s.0.even) s.1)
 
-    kept-partAt : (d a : ℕ) (Ls : Net) → a < length (get_or Ls (suc d) []) → length (get_or Ls (suc d) []) < by.width → one_group by d a (firsts by.rule by.tally) Ls ≡ false → Safe Ls → Safe (part_at by d a (firsts by.rule by.tally) Ls)
+    kept-partAt : (d a : ℕ) (Ls : Net) → a < length (get_or Ls (suc d) []) → length (get_or Ls (suc d) []) < by.width → one_group by d a (first_labels by.rule by.tally) Ls ≡ false → Safe Ls → Safe (part_at by d a (first_labels by.rule by.tally) Ls)
     unfolding Safe
-    kept-partAt d a Ls x y z s = (proper-part by ruled.same_self w1 d a Ls x y z s.0, part-keeps by d a (firsts by.rule by.tally) Ls 0 w s.1)
+    kept-partAt d a Ls x y z s = (proper-part by ruled.same_self w1 d a Ls x y z s.0, part-keeps by d a (first_labels by.rule by.tally) Ls 0 w s.1)
 
-    kept-join_at : (d lo hi : ℕ) (Ls : Net) → lo < hi → hi < length (get_or Ls (suc d) []) → clash (node (get_or Ls (suc d) []) lo) (node (get_or Ls (suc d) []) hi) ≡ false → Safe Ls → Safe (join_at d lo hi Ls)
+    kept-join_at : (d lo hi : ℕ) (Ls : Net) → lo < hi → hi < length (get_or Ls (suc d) []) → clash (node (get_or Ls (suc d) []) lo) (node (get_or Ls (suc d) []) hi) ≡ false → Safe Ls → Safe (joined_arcs d lo hi Ls)
     unfolding Safe
     kept-join_at d lo hi Ls a b n s = (proper-join by w1 d lo hi Ls a b n s.0, join-keeps d lo hi Ls 0 w a b n s.1)
 
@@ -122,10 +122,10 @@ module _ {S V : Type 0} {Keeps : List ℕ → Type 0} {Stands : S → List ℕ �
     open-path (suc k) [] d e = absurd (omega arith)
     open-path (suc k) (j ∷ v) d e = (0, open-door j d.0, open-path k v d.2 (omega arith))
 
-    kept-opened : Safe (opened by.round.n)
-    unfolding Safe opened
+    kept-opened : Safe (opening_arcs by.round.n)
+    unfolding Safe opening_arcs
     kept-opened = (proper-opened by w1, open-path by.round.n w o.part o.whole)
 
-    pub still : (cs : List (Call V)) → EachCut (λ c. by.tally.not_above (cost by.round by.tally w) c ≡ true) cs → PathFrom (after by cs (opened by.round.n)) 0 w
+    pub still : (cs : List (Call V)) → EachCut (λ c. by.tally.not_above (cost by.round by.tally w) c ≡ true) cs → PathFrom (after by cs (opening_arcs by.round.n)) 0 w
     unfolding Safe
-    still cs u = (safe-after by Safe (λ c. by.tally.not_above (cost by.round by.tally w) c ≡ true) kept-sweep kept-cut kept-partAt kept-join_at cs (opened by.round.n) u kept-opened).1
+    still cs u = (safe-after by Safe (λ c. by.tally.not_above (cost by.round by.tally w) c ≡ true) kept-sweep kept-cut kept-partAt kept-join_at cs (opening_arcs by.round.n) u kept-opened).1

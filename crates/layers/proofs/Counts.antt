@@ -4,15 +4,15 @@ use Rattle.std.proofs.lemmas.Bool.{false≢true, not-true, and_parts}
 use Rattle.round.specs.declared.table.Round.{Round}
 use Rattle.rules.specs.Rules.{RuleSense}
 use Rattle.tallies.specs.Tallies.{TallySense}
-use Rattle.layers.specs.Flow.{Outs, Layer, Net, node, target, width, each_door, each_node, redirect, count_doors, count_layer, count_arcs, every_door, every_arc, up, Mark, marks_next, marks_up, flags, rank, compress, renumber, tidy, tidied, Led, Tied}
-use Rattle.layers.specs.Labels.{firsts, labels_next, barred, ups}
+use Rattle.layers.specs.Flow.{Outs, Layer, Net, node, target, width, each_door, each_node, redirect, count_doors, count_layer, count_arcs, every_door, every_arc, up, Mark, marks_next, marks_up, flags, rank, compress, renumber, tidy, tidied_arcs, IsLed, IsTied}
+use Rattle.layers.specs.Labels.{first_labels, labels_next, is_barred, ups}
 use Rattle.layers.proofs.Flows.{has-arc, mark-next, flags-at, renumber-at}
 use Rattle.layers.proofs.Model.{sweeps, sweep, settles, settled, agrees, quiet}
 use Rattle.layers.proofs.Exact.{every_arc-at}
 use Rattle.layers.proofs.Tied.{climbs}
 use Rattle.layers.specs.Settings.{Setting}
 use Rattle.layers.specs.declared.node.Down.{Down}
-use Rattle.layers.specs.Calls.{thinned, quiet_from}
+use Rattle.layers.specs.Calls.{unbarred_arcs, nothing_barred}
 
 count-one : (t : ℕ) (ts : Outs) → count_doors (t ∷ ts) ≤ suc (count_doors ts)
 unfolding count_doors
@@ -48,8 +48,8 @@ tidy-fewer fr (L ∷ Ls) =
     let f : ℕ → ℕ → ℕ → ℕ = λ a j b. renumber (flags (marks_next fr L (width Ls)) (marks_up Ls)) b in
     omega (arith, compress-fewer (flags fr (marks_up (L ∷ Ls))) (redirect f L), redirect-fewer f L, tidy-fewer (marks_next fr L (width Ls)) Ls)
 
-tidied-fewer : (Ls : Net) → count_arcs (tidied Ls) ≤ count_arcs Ls
-unfolding count_arcs tidied
+tidied-fewer : (Ls : Net) → count_arcs (tidied_arcs Ls) ≤ count_arcs Ls
+unfolding count_arcs tidied_arcs
 tidied-fewer [] = omega arith
 tidied-fewer (L ∷ Ls) =
     let f : ℕ → ℕ → ℕ → ℕ = λ a j b. renumber (flags (marks_next (Some tt ∷ []) L (width Ls)) (marks_up Ls)) b in
@@ -57,15 +57,15 @@ tidied-fewer (L ∷ Ls) =
 
 module _ {S V : Type 0} (by : Setting S V) where
   sweeps-fewer : (i : ℕ) (labs : List (Option (Down S V))) (Ls : Net) → count_arcs (sweeps by i labs Ls) ≤ count_arcs Ls
-  unfolding count_arcs thinned
+  unfolding count_arcs unbarred_arcs
   sweeps-fewer i labs [] = omega arith
   sweeps-fewer i labs (L ∷ Ls) =
-      let f : ℕ → ℕ → ℕ → ℕ = λ a j b. cond (barred by.round by.rule i (suc (length Ls)) j (get_or labs a None) (get_or (ups Ls) b None)) 0 (suc b) in
+      let f : ℕ → ℕ → ℕ → ℕ = λ a j b. cond (is_barred by.round by.rule i (suc (length Ls)) j (get_or labs a None) (get_or (ups Ls) b None)) 0 (suc b) in
       omega (arith, redirect-fewer f L, sweeps-fewer (suc i) (labels_next by labs L (width Ls)) Ls)
 
   pub sweep-fewer : (Ls : Net) → count_arcs (sweep by Ls) ≤ count_arcs Ls
   unfolding sweep
-  sweep-fewer Ls = omega (arith, tidied-fewer (sweeps by 0 (firsts by.rule by.tally) Ls), sweeps-fewer 0 (firsts by.rule by.tally) Ls)
+  sweep-fewer Ls = omega (arith, tidied-fewer (sweeps by 0 (first_labels by.rule by.tally) Ls), sweeps-fewer 0 (first_labels by.rule by.tally) Ls)
 
 -- ---- tidying leaves a tied diagram as it is
 each_door-same : (f : ℕ → ℕ → ℕ) (j : ℕ) (ts : Outs) → ((k b : ℕ) → get_or ts k 0 ≡ suc b → f (j + k) b ≡ suc b) → each_door f j ts ≡ ts
@@ -109,12 +109,12 @@ unfolding marks_up
 end-up zero h = unfold up in refl
 end-up (suc b) h = absurd (not-suc-le-zero (le_of_suc-le-suc h))
 
-marks-full : (M : Layer) (Ls : Net) → Led M → Tied (M ∷ Ls) → (a : ℕ) → a < length M → get_or (marks_up (M ∷ Ls)) a None ≡ Some tt
+marks-full : (M : Layer) (Ls : Net) → IsLed M → IsTied (M ∷ Ls) → (a : ℕ) → a < length M → get_or (marks_up (M ∷ Ls)) a None ≡ Some tt
 marks-full M [] led t a h = let s = led a h in climbs M [] a s.0 s.1 s.2 (end-up s.1 (t a s.0 s.1 s.2))
 marks-full M (N ∷ Ls) led t a h = let s = led a h in climbs M (N ∷ Ls) a s.0 s.1 s.2 (marks-full N Ls t.2 t.3 s.1 (t.0 a s.0 s.1 s.2))
 
 -- a layer whose nodes are all marked keeps its arcs
-arcs-same : (fr : List (Option Mark)) (L : Layer) (Ls : Net) → ((a : ℕ) → a < length L → get_or fr a None ≡ Some tt) → Tied (L ∷ Ls)
+arcs-same : (fr : List (Option Mark)) (L : Layer) (Ls : Net) → ((a : ℕ) → a < length L → get_or fr a None ≡ Some tt) → IsTied (L ∷ Ls)
     → redirect (λ a j b. renumber (flags (marks_next fr L (width Ls)) (marks_up Ls)) b) L ≡ L
 arcs-same fr L [] m t = redirect-same (λ a j b. renumber (flags (marks_next fr L 1) (marks_up [])) b) L (λ a j b e.
     let z = t a j b e in
@@ -128,10 +128,10 @@ arcs-same fr L (M ∷ Ls) m t = redirect-same (λ a j b. renumber (flags (marks_
     on b h = let s = t.1 b h in
         flags-at (marks_next fr L (length M)) (marks_up (M ∷ Ls)) b (mark-next fr L (length M) s.0 s.1 b s.2 (m s.0 (has-arc L s.0 s.1 b s.2)) h) (marks-full M Ls t.2 t.3 b h)
 
-marks-next : (fr : List (Option Mark)) (L M : Layer) (Ls : Net) → ((a : ℕ) → a < length L → get_or fr a None ≡ Some tt) → Tied (L ∷ M ∷ Ls) → (b : ℕ) → b < length M → get_or (marks_next fr L (length M)) b None ≡ Some tt
+marks-next : (fr : List (Option Mark)) (L M : Layer) (Ls : Net) → ((a : ℕ) → a < length L → get_or fr a None ≡ Some tt) → IsTied (L ∷ M ∷ Ls) → (b : ℕ) → b < length M → get_or (marks_next fr L (length M)) b None ≡ Some tt
 marks-next fr L M Ls m t b h = let s = t.1 b h in mark-next fr L (length M) s.0 s.1 b s.2 (m s.0 (has-arc L s.0 s.1 b s.2)) h
 
-tidy-same : (fr : List (Option Mark)) (L : Layer) (Ls : Net) → ((a : ℕ) → a < length L → get_or fr a None ≡ Some tt) → Led L → Tied (L ∷ Ls) → tidy fr (L ∷ Ls) ≡ L ∷ Ls
+tidy-same : (fr : List (Option Mark)) (L : Layer) (Ls : Net) → ((a : ℕ) → a < length L → get_or fr a None ≡ Some tt) → IsLed L → IsTied (L ∷ Ls) → tidy fr (L ∷ Ls) ≡ L ∷ Ls
 unfolding tidy
 tidy-same fr L [] m led t =
     ap (λ (x : Layer). x ∷ []) (ap (compress (flags fr (marks_up (L ∷ [])))) (arcs-same fr L [] m t) ∙ compress-all (flags fr (marks_up (L ∷ []))) L (λ a k. flags-at fr (marks_up (L ∷ [])) a (m a k) (marks-full L [] led t a k)))
@@ -140,8 +140,8 @@ tidy-same fr L (M ∷ Ls) m led t =
     (ap (compress (flags fr (marks_up (L ∷ M ∷ Ls)))) (arcs-same fr L (M ∷ Ls) m t) ∙ compress-all (flags fr (marks_up (L ∷ M ∷ Ls))) L (λ a k. flags-at fr (marks_up (L ∷ M ∷ Ls)) a (m a k) (marks-full L (M ∷ Ls) led t a k)))
     (tidy-same (marks_next fr L (length M)) M Ls (marks-next fr L M Ls m t) t.2 t.3)
 
-pub tidied-same : (Ls : Net) → width Ls ≡ 1 → Tied Ls → tidied Ls ≡ Ls
-unfolding tidied
+pub tidied-same : (Ls : Net) → width Ls ≡ 1 → IsTied Ls → tidied_arcs Ls ≡ Ls
+unfolding tidied_arcs
 tidied-same [] w t = refl
 tidied-same (L ∷ []) w t = unfold tidy in ap (λ (x : Layer). x ∷ []) (arcs-same (Some tt ∷ []) L [] (λ a k. only a (omega arith)) t)
   where
@@ -179,46 +179,46 @@ layer-quiet t i (nd ∷ L) e =
 
 -- ---- settled: a sweep would change nothing
 module _ {S V : Type 0} (by : Setting S V) where
-  kept-arcs : (i h : ℕ) (labs : List (Option (Down S V))) (Ls : Net) (L : Layer) → every_arc (λ a j b. not (barred by.round by.rule i h j (get_or labs a None) (get_or (ups Ls) b None))) 0 L ≡ true
-      → redirect (λ a j b. cond (barred by.round by.rule i h j (get_or labs a None) (get_or (ups Ls) b None)) 0 (suc b)) L ≡ L
-  kept-arcs i h labs Ls L e = redirect-same (λ a j b. cond (barred by.round by.rule i h j (get_or labs a None) (get_or (ups Ls) b None)) 0 (suc b)) L (λ a j b g.
-      ap (λ (q : Bool). cond q 0 (suc b)) (not-true (barred by.round by.rule i h j (get_or labs a None) (get_or (ups Ls) b None)) (every_arc-at (λ a j b. not (barred by.round by.rule i h j (get_or labs a None) (get_or (ups Ls) b None))) 0 L a a j b (omega arith) e g)))
+  kept-arcs : (i h : ℕ) (labs : List (Option (Down S V))) (Ls : Net) (L : Layer) → every_arc (λ a j b. not (is_barred by.round by.rule i h j (get_or labs a None) (get_or (ups Ls) b None))) 0 L ≡ true
+      → redirect (λ a j b. cond (is_barred by.round by.rule i h j (get_or labs a None) (get_or (ups Ls) b None)) 0 (suc b)) L ≡ L
+  kept-arcs i h labs Ls L e = redirect-same (λ a j b. cond (is_barred by.round by.rule i h j (get_or labs a None) (get_or (ups Ls) b None)) 0 (suc b)) L (λ a j b g.
+      ap (λ (q : Bool). cond q 0 (suc b)) (not-true (is_barred by.round by.rule i h j (get_or labs a None) (get_or (ups Ls) b None)) (every_arc-at (λ a j b. not (is_barred by.round by.rule i h j (get_or labs a None) (get_or (ups Ls) b None))) 0 L a a j b (omega arith) e g)))
 
   quiet_same : (i : ℕ) (labs : List (Option (Down S V))) (Ls : Net) → quiet by i labs Ls ≡ true → sweeps by i labs Ls ≡ Ls
-  unfolding thinned quiet_from
+  unfolding unbarred_arcs nothing_barred
   quiet_same i labs [] e = refl
   quiet_same i labs (L ∷ Ls) e =
-      let q = and_parts (every_arc (λ a j b. not (barred by.round by.rule i (suc (length Ls)) j (get_or labs a None) (get_or (ups Ls) b None))) 0 L) (quiet by (suc i) (labels_next by labs L (width Ls)) Ls) e in
+      let q = and_parts (every_arc (λ a j b. not (is_barred by.round by.rule i (suc (length Ls)) j (get_or labs a None) (get_or (ups Ls) b None))) 0 L) (quiet by (suc i) (labels_next by labs L (width Ls)) Ls) e in
       ap₂ (λ (x : Layer) (y : Net). x ∷ y) (kept-arcs i (suc (length Ls)) labs Ls L q.0) (quiet_same (suc i) (labels_next by labs L (width Ls)) Ls q.1)
 
   sweeps-quiet : (i : ℕ) (labs : List (Option (Down S V))) (Ls : Net) → count_arcs (sweeps by i labs Ls) ≡ count_arcs Ls → quiet by i labs Ls ≡ true
-  unfolding thinned quiet_from count_arcs redirect
+  unfolding unbarred_arcs nothing_barred count_arcs redirect
   sweeps-quiet i labs [] e = refl
   sweeps-quiet i labs (L ∷ Ls) e =
-      let t : ℕ → ℕ → ℕ → Bool = λ a j b. barred by.round by.rule i (suc (length Ls)) j (get_or labs a None) (get_or (ups Ls) b None) in
+      let t : ℕ → ℕ → ℕ → Bool = λ a j b. is_barred by.round by.rule i (suc (length Ls)) j (get_or labs a None) (get_or (ups Ls) b None) in
       let x = nodes-fewer (λ a j b. cond (t a j b) 0 (suc b)) 0 L in
       let y = sweeps-fewer by (suc i) (labels_next by labs L (width Ls)) Ls in
       let p : every_arc (λ a j b. not (t a j b)) 0 L ≡ true = layer-quiet t 0 L (omega arith) in
       rw p (sweeps-quiet (suc i) (labels_next by labs L (width Ls)) Ls (omega arith))
 
   -- a sweep that takes out no arc leaves all as it is
-  pub sweep-same : (Ls : Net) → width Ls ≡ 1 → Tied Ls → count_arcs (sweep by Ls) ≡ count_arcs Ls → sweep by Ls ≡ Ls
+  pub sweep-same : (Ls : Net) → width Ls ≡ 1 → IsTied Ls → count_arcs (sweep by Ls) ≡ count_arcs Ls → sweep by Ls ≡ Ls
   unfolding sweep
   sweep-same Ls w t c =
-      let x = tidied-fewer (sweeps by 0 (firsts by.rule by.tally) Ls) in
-      let y = sweeps-fewer by 0 (firsts by.rule by.tally) Ls in
-      ap tidied (quiet_same 0 (firsts by.rule by.tally) Ls (sweeps-quiet 0 (firsts by.rule by.tally) Ls (omega arith))) ∙ tidied-same Ls w t
+      let x = tidied-fewer (sweeps by 0 (first_labels by.rule by.tally) Ls) in
+      let y = sweeps-fewer by 0 (first_labels by.rule by.tally) Ls in
+      ap tidied_arcs (quiet_same 0 (first_labels by.rule by.tally) Ls (sweeps-quiet 0 (first_labels by.rule by.tally) Ls (omega arith))) ∙ tidied-same Ls w t
 
   -- settled is yes exactly when the in-arcs agree and a sweep would answer 0
-  pub settled-yes : (Ls : Net) → width Ls ≡ 1 → Tied Ls → settled by Ls ≡ true → (agrees by (firsts by.rule by.tally) Ls ≡ true) × (sweep by Ls ≡ Ls)
+  pub settled-yes : (Ls : Net) → width Ls ≡ 1 → IsTied Ls → settled by Ls ≡ true → (agrees by (first_labels by.rule by.tally) Ls ≡ true) × (sweep by Ls ≡ Ls)
   unfolding settled settles sweep
   settled-yes Ls w t e =
-      let p = and_parts (agrees by (firsts by.rule by.tally) Ls) (quiet by 0 (firsts by.rule by.tally) Ls) e in
-      (p.0, ap tidied (quiet_same 0 (firsts by.rule by.tally) Ls p.1) ∙ tidied-same Ls w t)
+      let p = and_parts (agrees by (first_labels by.rule by.tally) Ls) (quiet by 0 (first_labels by.rule by.tally) Ls) e in
+      (p.0, ap tidied_arcs (quiet_same 0 (first_labels by.rule by.tally) Ls p.1) ∙ tidied-same Ls w t)
 
-  pub settled-if : (Ls : Net) → agrees by (firsts by.rule by.tally) Ls ≡ true → count_arcs (sweep by Ls) ≡ count_arcs Ls → settled by Ls ≡ true
+  pub settled-if : (Ls : Net) → agrees by (first_labels by.rule by.tally) Ls ≡ true → count_arcs (sweep by Ls) ≡ count_arcs Ls → settled by Ls ≡ true
   unfolding settled settles sweep
   settled-if Ls a c =
-      let x = tidied-fewer (sweeps by 0 (firsts by.rule by.tally) Ls) in
-      let y = sweeps-fewer by 0 (firsts by.rule by.tally) Ls in
-      rw a (sweeps-quiet 0 (firsts by.rule by.tally) Ls (omega arith))
+      let x = tidied-fewer (sweeps by 0 (first_labels by.rule by.tally) Ls) in
+      let y = sweeps-fewer by 0 (first_labels by.rule by.tally) Ls in
+      rw a (sweeps-quiet 0 (first_labels by.rule by.tally) Ls (omega arith))

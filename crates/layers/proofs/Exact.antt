@@ -16,15 +16,15 @@ use Rattle.orders.specs.Costs.{Trip, cost, rides, trip_after}
 use Rattle.orders.specs.Times.{finish_of, Timely}
 use Rattle.orders.specs.declared.van.Van.{Van}
 use Rattle.layers.specs.declared.node.Up.{Up}
-use Rattle.layers.specs.Flow.{Outs, Layer, Net, node, target, PathFrom, final, every_door, every_arc, ins, gather}
-use Rattle.layers.specs.Labels.{bit_of, leg, ups, first, arrive, merge, firsts, labels_next, barred, agreeing}
+use Rattle.layers.specs.Flow.{Outs, Layer, Net, node, target, PathFrom, end_label, every_door, every_arc, arrivals_at, gather}
+use Rattle.layers.specs.Labels.{bit_of, leg, ups, first_label, arrival_over, merge, first_labels, labels_next, is_barred, all_agree}
 use Rattle.layers.proofs.Flows.{Among, From, inside, ins-in, ins-from, next-some, next-within, next-at, gather-all}
 use Rattle.layers.proofs.Agreeing.{Agree, agree-merge, pairs}
 use Rattle.layers.proofs.Sets.{or_left, or_right, one-self}
 use Rattle.layers.proofs.Ways.{in_split, trip-snoc, state-snoc, length-snoc, snoc-assoc, leg-one}
 use Rattle.layers.proofs.Model.{agrees, quiet, settles, settled, bound, valueO}
 use Rattle.layers.proofs.Walk.{NeatLayer, Neat, neat-door, path-length, Told, told_none, told-next}
-use Rattle.layers.specs.Calls.{agreed_below, agreed_all, quiet_from}
+use Rattle.layers.specs.Calls.{places_agree, in_arcs_agree, nothing_barred}
 use Rattle.layers.specs.Settings.{Setting}
 use Rattle.layers.specs.declared.node.Down.{Down}
 
@@ -48,7 +48,7 @@ every_arc-at f c (nd ∷ L) (suc a) m j b h t e = every_arc-at f (suc c) L a m j
 
 module _ {S V : Type 0} {Keeps : List ℕ → Type 0} {Stands : S → List ℕ → Type 0} {Allows : ℕ → V → Type 0} (by : Setting S V) (ruled : RuleLaws by.round.n by.rule Keeps Stands) (tallied : TallyLaws by.round.n by.tally Allows) where
   -- ---- what is gathered from arrivals that agree agrees with each
-  same-gather : (l : List (Down S V)) (m x : Down S V) → agreeing by.rule l ≡ true → gather (merge by.rule by.tally) l ≡ Some m → Among x l → Agree by ruled x m
+  same-gather : (l : List (Down S V)) (m x : Down S V) → all_agree by.rule l ≡ true → gather (merge by.rule by.tally) l ≡ Some m → Among x l → Agree by ruled x m
   same-gather l m x e g i = gather-all (merge by.rule by.tally) (Agree by ruled x) (agree-merge by ruled x) l m (λ y k. pairs by ruled l e x y i k) g
 
   -- the value gathered is that of some arrival
@@ -89,7 +89,7 @@ module _ {S V : Type 0} {Keeps : List ℕ → Type 0} {Stands : S → List ℕ �
   sound_none : Sound []
   sound_none = record { keeps = ruled.keeps_none; timely = each_none _; told = told_none by ruled tallied }
 
-  exact-first : Exact (first by.rule by.tally) []
+  exact-first : Exact (first_label by.rule by.tally) []
   exact-first = record { all = λ j i. absurd i; finish = refl; lasts = refl; state = refl }
 
   exact_same : (x y : Down S V) (p : List ℕ) → Agree by ruled x y → Exact x p → Exact y p
@@ -106,7 +106,7 @@ module _ {S V : Type 0} {Keeps : List ℕ → Type 0} {Stands : S → List ℕ �
     pub early : finish by.round l.finish (leg by.round l.lasts j) j ≤ (door by.round j).closes
     pub free : by.rule.bars l.state j ≡ false
 
-  clear : (i h j : ℕ) (l : Down S V) (u : Option Up) → barred by.round by.rule i h j (Some l) u ≡ false → Clear l j
+  clear : (i h j : ℕ) (l : Down S V) (u : Option Up) → is_barred by.round by.rule i h j (Some l) u ≡ false → Clear l j
   clear i h j l None e = absurd (true≢false e)
   clear i h j l (Some u) e =
       let a = or_parts (has l.all j) _ e in
@@ -118,11 +118,11 @@ module _ {S V : Type 0} {Keeps : List ℕ → Type 0} {Stands : S → List ℕ �
   -- bit_of door on
   pub record Onward (l : Down S V) (p : List ℕ) (j : ℕ) : Type 0 where
     pub sound : Sound (p ++ (j ∷ []))
-    pub exact : Exact (arrive by l j) (p ++ (j ∷ []))
-    pub worth : l.value ≡ cost by.round by.tally p → (arrive by l j).value ≡ cost by.round by.tally (p ++ (j ∷ []))
+    pub exact : Exact (arrival_over by l j) (p ++ (j ∷ []))
+    pub worth : l.value ≡ cost by.round by.tally p → (arrival_over by l j).value ≡ cost by.round by.tally (p ++ (j ∷ []))
 
   onward : (l : Down S V) (p : List ℕ) (j : ℕ) → length p < 16 → Door by.round.n j → Sound p → Exact l p → Clear l j → Onward l p j
-  unfolding arrive
+  unfolding arrival_over
   onward l p j k d s e c =
       let n : ¬ In j p = λ i. absurd (true≢false (sym (e.all j i) ∙ c.new)) in
       let z = trip-snoc by.round by.tally p j in
@@ -157,26 +157,26 @@ module _ {S V : Type 0} {Keeps : List ℕ → Type 0} {Stands : S → List ℕ �
   -- ---- settled
   settles-arc : (i : ℕ) (labs : List (Option (Down S V))) (L : Layer) (Ls : Net) (a j b : ℕ) (l : Down S V) → settles by i labs (L ∷ Ls) ≡ true
       → target (node L a) j ≡ suc b → get_or labs a None ≡ Some l → Clear l j
-  unfolding settles quiet_from
+  unfolding settles nothing_barred
   settles-arc i labs L Ls a j b l s e g =
-      clear i (suc (length Ls)) j l (get_or (ups Ls) b None) (rw (← g) (not-true _ (every_arc-at (λ a j b. not (barred by.round by.rule i (suc (length Ls)) j (get_or labs a None) (get_or (ups Ls) b None))) 0 L a a j b (omega arith)
+      clear i (suc (length Ls)) j l (get_or (ups Ls) b None) (rw (← g) (not-true _ (every_arc-at (λ a j b. not (is_barred by.round by.rule i (suc (length Ls)) j (get_or labs a None) (get_or (ups Ls) b None))) 0 L a a j b (omega arith)
       (and_parts _ _ (and_parts (agrees by labs (L ∷ Ls)) (quiet by i labs (L ∷ Ls)) s).1).0 e)))
 
-  agreed-at : (labs : List (Option (Down S V))) (L : Layer) (k b : ℕ) → agreed_below by labs L k ≡ true → b < k → agreeing by.rule (ins (arrive by) b labs L) ≡ true
-  unfolding agreed_below
+  agreed-at : (labs : List (Option (Down S V))) (L : Layer) (k b : ℕ) → places_agree by labs L k ≡ true → b < k → all_agree by.rule (arrivals_at (arrival_over by) b labs L) ≡ true
+  unfolding places_agree
   agreed-at labs L zero b e h = absurd (not-suc-le-zero h)
   agreed-at labs L (suc k) b e h = go (eqb b k) refl (λ g. agreed-at labs L k b (and_parts _ _ e).1 g)
     where
-      go : (q : Bool) → eqb b k ≡ q → (b < k → agreeing by.rule (ins (arrive by) b labs L) ≡ true) → agreeing by.rule (ins (arrive by) b labs L) ≡ true
+      go : (q : Bool) → eqb b k ≡ q → (b < k → all_agree by.rule (arrivals_at (arrival_over by) b labs L) ≡ true) → all_agree by.rule (arrivals_at (arrival_over by) b labs L) ≡ true
       go true f g = rw (eqb-true b k f) ((and_parts _ _ e).0)
       go false f g = g (omega (arith, eqb-false b k f))
 
   settles-next : (i : ℕ) (labs : List (Option (Down S V))) (L M : Layer) (Ls : Net) → settles by i labs (L ∷ M ∷ Ls) ≡ true
-      → (agreed_below by labs L (length M) ≡ true) × (settles by (suc i) (labels_next by labs L (length M)) (M ∷ Ls) ≡ true)
-  unfolding settles agreed_all quiet_from
+      → (places_agree by labs L (length M) ≡ true) × (settles by (suc i) (labels_next by labs L (length M)) (M ∷ Ls) ≡ true)
+  unfolding settles in_arcs_agree nothing_barred
   settles-next i labs L M Ls s =
       let p = and_parts (agrees by labs (L ∷ M ∷ Ls)) (quiet by i labs (L ∷ M ∷ Ls)) s in
-      let q = and_parts (agreed_below by labs L (length M)) (agrees by (labels_next by labs L (length M)) (M ∷ Ls)) p.0 in
+      let q = and_parts (places_agree by labs L (length M)) (agrees by (labels_next by labs L (length M)) (M ∷ Ls)) p.0 in
       (q.0, rw q.1 (and_parts _ (quiet by (suc i) (labels_next by labs L (length M)) (M ∷ Ls)) p.1).1)
 
   -- ---- every path is sound
@@ -193,17 +193,17 @@ module _ {S V : Type 0} {Keeps : List ℕ → Type 0} {Stands : S → List ℕ �
       let b = q.0 in
       let on = onward l p j (omega (arith, by.round.most)) (neat-door by.round L neat.0 a j b q.1) o e (settles-arc i labs L (M ∷ Ls) a j b l s q.1 g) in
       let h = inside (M ∷ Ls) b w q.2 in
-      let n = next-at {A = Down S V} (merge by.rule by.tally) (λ x y. Unit {0}) (λ x. tt) (λ x y z f g. tt) (λ x y. tt) (λ x y. tt) (arrive by) labs L (length M) a j b l q.1 g h in
+      let n = next-at {A = Down S V} (merge by.rule by.tally) (λ x y. Unit {0}) (λ x. tt) (λ x y z f g. tt) (λ x y. tt) (λ x y. tt) (arrival_over by) labs L (length M) a j b l q.1 g h in
       let sn = settles-next i labs L M Ls s in
-      let same = same-gather (ins (arrive by) b labs L) n.0 (arrive by l j) (agreed-at labs L (length M) b sn.0 h)
-      (next-some (arrive by) (merge by.rule by.tally) labs L (length M) b n.0 n.1) (ins-in (arrive by) (merge by.rule by.tally) b labs L a j l q.1 g) in
+      let same = same-gather (arrivals_at (arrival_over by) b labs L) n.0 (arrival_over by l j) (agreed-at labs L (length M) b sn.0 h)
+      (next-some (arrival_over by) (merge by.rule by.tally) labs L (length M) b n.0 n.1) (ins-in (arrival_over by) (merge by.rule by.tally) b labs L a j l q.1 g) in
       rw (← (snoc-assoc p w j)) (paths-sound (suc i) (p ++ (j ∷ [])) w (labels_next by labs L (length M)) (M ∷ Ls) b n.0 (omega (arith, length-snoc p j)) sn.1 n.1
-      (exact_same (arrive by l j) n.0 (p ++ (j ∷ [])) same on.exact) on.sound neat.1 q.2)
+      (exact_same (arrival_over by l j) n.0 (p ++ (j ∷ [])) same on.exact) on.sound neat.1 q.2)
 
   pub paths-allowed : (D : Net) (w : List ℕ) → length D ≡ by.round.n → Neat by.round.n D → settled by D ≡ true → PathFrom D 0 w → Allowed by.round Keeps w
   unfolding settled
   paths-allowed D w t neat s q =
-      let o = paths-sound 0 [] w (firsts by.rule by.tally) D 0 (first by.rule by.tally) (omega arith) s refl exact-first sound_none neat q in
+      let o = paths-sound 0 [] w (first_labels by.rule by.tally) D 0 (first_label by.rule by.tally) (omega arith) s refl exact-first sound_none neat q in
       record { whole = path-length D 0 w q ∙ t; part = o.told.part; keeps = o.keeps; timely = o.timely }
 
   -- ---- the bound is the cost of a path
@@ -217,7 +217,7 @@ module _ {S V : Type 0} {Keeps : List ℕ → Type 0} {Stands : S → List ℕ �
       long : length way ≡ k
 
     -- over an arc
-    onto : (Ls : Net) (L : Layer) (k : ℕ) (labs : List (Option (Down S V))) (b : ℕ) (x : Down S V) (f : From (arrive by) b labs L x)
+    onto : (Ls : Net) (L : Layer) (k : ℕ) (labs : List (Option (Down S V))) (b : ℕ) (x : Down S V) (f : From (arrival_over by) b labs L x)
         (c : Reached (L ∷ Ls) k f.source f.label) → Onward f.label c.way f.door → Reached Ls (suc k) b x
     onto Ls L k labs b x f c on = record {
       way = c.way ++ (f.door ∷ []);
@@ -230,49 +230,49 @@ module _ {S V : Type 0} {Keeps : List ℕ → Type 0} {Stands : S → List ℕ �
 
     -- to whatever gathered it: bit_of of the arrivals has its value
     over : (Ls : Net) (L : Layer) (i k : ℕ) (labs : List (Option (Down S V))) (b : ℕ) (m : Down S V) → k < 16 → NeatLayer by.round.n L → settles by i labs (L ∷ Ls) ≡ true
-        → ((a : ℕ) (l : Down S V) → get_or labs a None ≡ Some l → Reached (L ∷ Ls) k a l) → gather (merge by.rule by.tally) (ins (arrive by) b labs L) ≡ Some m
-        → (x : Down S V) × Among x (ins (arrive by) b labs L) × (x.value ≡ m.value) × Reached Ls (suc k) b x
+        → ((a : ℕ) (l : Down S V) → get_or labs a None ≡ Some l → Reached (L ∷ Ls) k a l) → gather (merge by.rule by.tally) (arrivals_at (arrival_over by) b labs L) ≡ Some m
+        → (x : Down S V) × Among x (arrivals_at (arrival_over by) b labs L) × (x.value ≡ m.value) × Reached Ls (suc k) b x
     over Ls L i k labs b m h neat s reach g =
-        let v = value-gather (ins (arrive by) b labs L) m g in
-        let f = ins-from (arrive by) b labs L v.0 v.1 in
+        let v = value-gather (arrivals_at (arrival_over by) b labs L) m g in
+        let f = ins-from (arrival_over by) b labs L v.0 v.1 in
         let c = reach f.source f.label f.labelled in
         let on = onward f.label c.way f.door (omega (arith, c.long)) (neat-door by.round L neat f.source f.door b f.arc) c.sound c.exact
         (settles-arc i labs L Ls f.source f.door b f.label s f.arc f.labelled) in
         (v.0, v.1, v.2, onto Ls L k labs b v.0 f c on)
 
     attain : (i k : ℕ) (labs : List (Option (Down S V))) (Ls : Net) (l : Down S V) → k + length Ls ≡ by.round.n → settles by i labs Ls ≡ true → Neat by.round.n Ls
-        → ((a : ℕ) (l : Down S V) → get_or labs a None ≡ Some l → Reached Ls k a l) → final (arrive by) (merge by.rule by.tally) labs Ls ≡ Some l
+        → ((a : ℕ) (l : Down S V) → get_or labs a None ≡ Some l → Reached Ls k a l) → end_label (arrival_over by) (merge by.rule by.tally) labs Ls ≡ Some l
         → (w : List ℕ) × PathFrom D 0 w × (cost by.round by.tally w ≡ l.value)
-    unfolding final labels_next
+    unfolding end_label labels_next
     attain i k labs [] l t s neat reach g =
         let c = reach 0 l g in (c.way ++ [], c.leads [] refl, ap (cost by.round by.tally) (append-nil c.way) ∙ sym c.worth)
     attain i k labs (L ∷ []) l t s neat reach g =
-        let x = over [] L i k labs 0 l (omega (arith, by.round.most)) neat.0 s reach (next-some (arrive by) (merge by.rule by.tally) labs L 1 0 l g) in
+        let x = over [] L i k labs 0 l (omega (arith, by.round.most)) neat.0 s reach (next-some (arrival_over by) (merge by.rule by.tally) labs L 1 0 l g) in
         let c = x.3 in
         (c.way ++ [], c.leads [] refl, ap (cost by.round by.tally) (append-nil c.way) ∙ sym c.worth ∙ x.2)
     attain i k labs (L ∷ M ∷ Ls) l t s neat reach g =
         let sn = settles-next i labs L M Ls s in
         attain (suc i) (suc k) (labels_next by labs L (length M)) (M ∷ Ls) l (omega arith) sn.1 neat.1
         (λ b m e.
-        let e' = next-some (arrive by) (merge by.rule by.tally) labs L (length M) b m e in
-        let h = next-within (arrive by) (merge by.rule by.tally) labs L (length M) b m e in
+        let e' = next-some (arrival_over by) (merge by.rule by.tally) labs L (length M) b m e in
+        let h = next-within (arrival_over by) (merge by.rule by.tally) labs L (length M) b m e in
         let x = over (M ∷ Ls) L i k labs b m (omega (arith, by.round.most)) neat.0 s reach e' in
-        let same = same-gather (ins (arrive by) b labs L) m x.0 (agreed-at labs L (length M) b sn.0 h) e' x.1 in
+        let same = same-gather (arrivals_at (arrival_over by) b labs L) m x.0 (agreed-at labs L (length M) b sn.0 h) e' x.1 in
         let c = x.3 in
         record { way = c.way; leads = c.leads; sound = c.sound; exact = exact_same x.0 m c.way same c.exact; worth = sym x.2 ∙ c.worth; long = c.long })
         g
 
     pub bound-attained : (v : V) → length D ≡ by.round.n → Neat by.round.n D → settled by D ≡ true → bound by D ≡ Some v → (w : List ℕ) × PathFrom D 0 w × (cost by.round by.tally w ≡ v)
     unfolding settled bound
-    bound-attained v t neat s e = go (final (arrive by) (merge by.rule by.tally) (firsts by.rule by.tally) D) refl e
+    bound-attained v t neat s e = go (end_label (arrival_over by) (merge by.rule by.tally) (first_labels by.rule by.tally) D) refl e
       where
-        start : (a : ℕ) (l : Down S V) → get_or (firsts by.rule by.tally) a None ≡ Some l → Reached D 0 a l
-        start zero l f = let x : first by.rule by.tally ≡ l = cc in
+        start : (a : ℕ) (l : Down S V) → get_or (first_labels by.rule by.tally) a None ≡ Some l → Reached D 0 a l
+        start zero l f = let x : first_label by.rule by.tally ≡ l = cc in
             rw (← x) (record { way = []; leads = λ w q. q; sound = sound_none; exact = exact-first; worth = refl; long = refl })
         start (suc a) l f = absurd cc
 
-        go : (x : Option (Down S V)) → final (arrive by) (merge by.rule by.tally) (firsts by.rule by.tally) D ≡ x → valueO by x ≡ Some v → (w : List ℕ) × PathFrom D 0 w × (cost by.round by.tally w ≡ v)
+        go : (x : Option (Down S V)) → end_label (arrival_over by) (merge by.rule by.tally) (first_labels by.rule by.tally) D ≡ x → valueO by x ≡ Some v → (w : List ℕ) × PathFrom D 0 w × (cost by.round by.tally w ≡ v)
         go None f g = absurd cc
         go (Some l) f g =
             let y : l.value ≡ v = cc in
-            let c = attain 0 0 (firsts by.rule by.tally) D l (omega arith) s neat start f in (c.0, c.1, c.2 ∙ y)
+            let c = attain 0 0 (first_labels by.rule by.tally) D l (omega arith) s neat start f in (c.0, c.1, c.2 ∙ y)

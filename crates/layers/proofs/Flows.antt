@@ -2,8 +2,8 @@
 use Rattle.std.proofs.Common.{◌≡◌, ℕ, zero, suc, ◌+◌, ◌<◌, Bool, true, false, eqb, ◌⊎◌, List, [], ◌∷◌, ◌++◌, map, length, get_or, Some, None, fold, Option, refl, ap, ◌∙◌, inl, inr, le_of_suc-le-suc, not-suc-le-zero, arith}
 use Rattle.std.proofs.lemmas.Bool.{eqb-true, eq-eqb}
 use Rattle.std.proofs.lemmas.List.{get_or-map}
-use Rattle.layers.specs.Flow.{table, Outs, Layer, Net, node, target, width, PathFrom, each_door, each_node, redirect, put, ins_door, ins, gather, next, read, cons_if_some, outs, up, Mark, marks_next, marks_up, flags, rank, compress, renumber, tidy, tidied}
-use Rattle.layers.specs.Labels.{arrive}
+use Rattle.layers.specs.Flow.{table, Outs, Layer, Net, node, target, width, PathFrom, each_door, each_node, redirect, put, arrivals_by_door, arrivals_at, gather, next, read, cons_if_some, climbs_of, up, Mark, marks_next, marks_up, flags, rank, compress, renumber, tidy, tidied_arcs}
+use Rattle.layers.specs.Labels.{arrival_over}
 
 -- membership, in lists of any kind
 abbrev pub Among : {A : Type 0} → A → List A → Type 0
@@ -63,7 +63,7 @@ pub among-right : {A : Type 0} (x : A) (l m : List A) → Among x m → Among x 
 among-right x [] m i = i
 among-right x (y ∷ l) m i = inr (among-right x l m i)
 
-module _ {A : Type 0} (arrive : A → ℕ → A) (merge : A → A → A) where
+module _ {A : Type 0} (arrival_over : A → ℕ → A) (merge : A → A → A) where
   put_in : (q : Bool) (x y : A) (r : List A) → q ≡ true → x ≡ y → Among x (put q y r)
   put_in true x y r e f = inl f
   put_in false x y r e f = absurd cc
@@ -72,14 +72,14 @@ module _ {A : Type 0} (arrive : A → ℕ → A) (merge : A → A → A) where
   put-tail true x y r i = inr i
   put-tail false x y r i = i
 
-  ins_door-in : (b : ℕ) (l : A) (j : ℕ) (ts : Outs) (k m : ℕ) → j + k ≡ m → get_or ts k 0 ≡ suc b → Among (arrive l m) (ins_door arrive b l j ts)
-  unfolding ins_door
+  ins_door-in : (b : ℕ) (l : A) (j : ℕ) (ts : Outs) (k m : ℕ) → j + k ≡ m → get_or ts k 0 ≡ suc b → Among (arrival_over l m) (arrivals_by_door arrival_over b l j ts)
+  unfolding arrivals_by_door
   ins_door-in b l j [] k m h e = absurd (omega arith)
-  ins_door-in b l j (t ∷ ts) zero m h e = put_in (eqb t (suc b)) (arrive l m) (arrive l j) (ins_door arrive b l (suc j) ts) (eq-eqb t (suc b) e) (ap (arrive l) (omega arith))
-  ins_door-in b l j (t ∷ ts) (suc k) m h e = put-tail (eqb t (suc b)) (arrive l m) (arrive l j) (ins_door arrive b l (suc j) ts) (ins_door-in b l (suc j) ts k m (omega arith) e)
+  ins_door-in b l j (t ∷ ts) zero m h e = put_in (eqb t (suc b)) (arrival_over l m) (arrival_over l j) (arrivals_by_door arrival_over b l (suc j) ts) (eq-eqb t (suc b) e) (ap (arrival_over l) (omega arith))
+  ins_door-in b l j (t ∷ ts) (suc k) m h e = put-tail (eqb t (suc b)) (arrival_over l m) (arrival_over l j) (arrivals_by_door arrival_over b l (suc j) ts) (ins_door-in b l (suc j) ts k m (omega arith) e)
 
-  pub ins-in : (b : ℕ) (labs : List (Option A)) (L : Layer) (a j : ℕ) (l : A) → target (node L a) j ≡ suc b → get_or labs a None ≡ Some l → Among (arrive l j) (ins arrive b labs L)
-  unfolding ins
+  pub ins-in : (b : ℕ) (labs : List (Option A)) (L : Layer) (a j : ℕ) (l : A) → target (node L a) j ≡ suc b → get_or labs a None ≡ Some l → Among (arrival_over l j) (arrivals_at arrival_over b labs L)
+  unfolding arrivals_at
   ins-in b [] L a j l e g = absurd cc
   ins-in b (o ∷ labs) [] a zero l e g = absurd (omega arith)
   ins-in b (o ∷ labs) [] a (suc k) l e g = absurd (omega arith)
@@ -88,8 +88,8 @@ module _ {A : Type 0} (arrive : A → ℕ → A) (merge : A → A → A) where
   ins-in b (Some l' ∷ labs) (nd ∷ L) zero zero l e g = absurd (omega arith)
   ins-in b (Some l' ∷ labs) (nd ∷ L) zero (suc k) l e g =
       let x : l' ≡ l = cc in
-      among-left (arrive l (suc k)) (ins_door arrive b l' 1 nd) (ins arrive b labs L) (rw (← x) (ins_door-in b l' 1 nd k (suc k) (omega arith) e))
-  ins-in b (Some l' ∷ labs) (nd ∷ L) (suc a) j l e g = among-right (arrive l j) (ins_door arrive b l' 1 nd) (ins arrive b labs L) (ins-in b labs L a j l e g)
+      among-left (arrival_over l (suc k)) (arrivals_by_door arrival_over b l' 1 nd) (arrivals_at arrival_over b labs L) (rw (← x) (ins_door-in b l' 1 nd k (suc k) (omega arith) e))
+  ins-in b (Some l' ∷ labs) (nd ∷ L) (suc a) j l e g = among-right (arrival_over l j) (arrivals_by_door arrival_over b l' 1 nd) (arrivals_at arrival_over b labs L) (ins-in b labs L a j l e g)
 
 module _ {A : Type 0} (merge : A → A → A) (R : A → A → Type 0) (R-refl : (x : A) → R x x) (R-trans : (x y z : A) → R x y → R y z → R x z)
     (left : (x y : A) → R x (merge x y)) (right : (x y : A) → R y (merge x y)) where
@@ -109,22 +109,22 @@ module _ {A : Type 0} (merge : A → A → A) (R : A → A → Type 0) (R-refl :
   gather-in z (x ∷ xs) (inr i) = (fold merge x xs, refl, fold-in z x xs i)
 
   -- what goes over an arc is below the label of its target
-  pub next-at : (arrive : A → ℕ → A) (labs : List (Option A)) (L : Layer) (count a j b : ℕ) (l : A) → target (node L a) j ≡ suc b → get_or labs a None ≡ Some l → b < count
-      → (m : A) × (get_or (next arrive merge labs L count) b None ≡ Some m) × R (arrive l j) m
+  pub next-at : (arrival_over : A → ℕ → A) (labs : List (Option A)) (L : Layer) (count a j b : ℕ) (l : A) → target (node L a) j ≡ suc b → get_or labs a None ≡ Some l → b < count
+      → (m : A) × (get_or (next arrival_over merge labs L count) b None ≡ Some m) × R (arrival_over l j) m
   unfolding next
-  next-at arrive labs L count a j b l e g h =
-      let q = gather-in (arrive l j) (ins arrive b labs L) (ins-in arrive merge b labs L a j l e g) in
-      (q.0, table_at count b (λ c. gather merge (ins arrive c labs L)) None h ∙ q.1, q.2)
+  next-at arrival_over labs L count a j b l e g h =
+      let q = gather-in (arrival_over l j) (arrivals_at arrival_over b labs L) (ins-in arrival_over merge b labs L a j l e g) in
+      (q.0, table_at count b (λ c. gather merge (arrivals_at arrival_over c labs L)) None h ∙ q.1, q.2)
 
-  outs-in : (climb : A → ℕ → A) (us : List (Option A)) (u : A) (j : ℕ) (ts : Outs) (k m b : ℕ) → j + k ≡ m → get_or ts k 0 ≡ suc b → get_or us b None ≡ Some u → Among (climb u m) (outs climb us j ts)
-  unfolding outs
+  outs-in : (climb : A → ℕ → A) (us : List (Option A)) (u : A) (j : ℕ) (ts : Outs) (k m b : ℕ) → j + k ≡ m → get_or ts k 0 ≡ suc b → get_or us b None ≡ Some u → Among (climb u m) (climbs_of climb us j ts)
+  unfolding climbs_of
   outs-in climb us u j [] k m b h e g = absurd (omega arith)
   outs-in climb us u j (t ∷ ts) zero m b h e g =
       let x : read us t ≡ Some u = ap (read us) e ∙ g in let y : m ≡ j = omega arith in
       rw x (inl (ap (climb u) y))
   outs-in climb us u j (t ∷ ts) (suc k) m b h e g = more (read us t) (outs-in climb us u (suc j) ts k m b (omega arith) e g)
     where
-      more : (o : Option A) → Among (climb u m) (outs climb us (suc j) ts) → Among (climb u m) (cons_if_some climb j o (outs climb us (suc j) ts))
+      more : (o : Option A) → Among (climb u m) (climbs_of climb us (suc j) ts) → Among (climb u m) (cons_if_some climb j o (climbs_of climb us (suc j) ts))
       more None i = i
       more (Some l) i = inr i
 
@@ -134,8 +134,8 @@ module _ {A : Type 0} (merge : A → A → A) (R : A → A → Type 0) (R-refl :
   up_at climb top L Ls a zero b u e g = absurd (omega arith)
   up_at climb top L Ls a (suc k) b u e g =
       let us = up climb merge top Ls in
-      let q = gather-in (climb u (suc k)) (outs climb us 1 (node L a)) (outs-in climb us u 1 (node L a) k (suc k) b (omega arith) e g) in
-      (q.0, get_or-map (λ nd. gather merge (outs climb us 1 nd)) L a [] None (has-arc L a (suc k) b e) ∙ q.1, q.2)
+      let q = gather-in (climb u (suc k)) (climbs_of climb us 1 (node L a)) (outs-in climb us u 1 (node L a) k (suc k) b (omega arith) e g) in
+      (q.0, get_or-map (λ nd. gather merge (climbs_of climb us 1 nd)) L a [] None (has-arc L a (suc k) b e) ∙ q.1, q.2)
 
 -- ---- tidying
 pub mark-next : (fr : List (Option Mark)) (L : Layer) (count a j b : ℕ) → target (node L a) j ≡ suc b → get_or fr a None ≡ Some tt → b < count → get_or (marks_next fr L count) b None ≡ Some tt
@@ -194,8 +194,8 @@ tidy-from fr (L ∷ Ls) a (j ∷ w) g p =
       tidy-from fr' Ls b w g' p.2,
     )
 
-pub tidy-keeps : (Ls : Net) (w : List ℕ) → PathFrom Ls 0 w → PathFrom (tidied Ls) 0 w
-unfolding tidied
+pub tidy-keeps : (Ls : Net) (w : List ℕ) → PathFrom Ls 0 w → PathFrom (tidied_arcs Ls) 0 w
+unfolding tidied_arcs
 tidy-keeps [] w p = p
 tidy-keeps (L ∷ Ls) [] p = absurd p
 tidy-keeps (L ∷ Ls) (j ∷ w) p =
@@ -216,42 +216,42 @@ among-split x (y ∷ l) m (inr i) = go (among-split x l m i)
     go (inl h) = inl (inr h)
     go (inr h) = inr h
 
-pub record From {A : Type 0} (arrive : A → ℕ → A) (b : ℕ) (labs : List (Option A)) (L : Layer) (x : A) : Type 0 where
+pub record From {A : Type 0} (arrival_over : A → ℕ → A) (b : ℕ) (labs : List (Option A)) (L : Layer) (x : A) : Type 0 where
   pub source : ℕ
   pub door : ℕ
   pub label : A
   pub arc : target (node L source) door ≡ suc b
   pub labelled : get_or labs source None ≡ Some label
-  pub is : x ≡ arrive label door
+  pub is : x ≡ arrival_over label door
 
-module _ {A : Type 0} (arrive : A → ℕ → A) where
+module _ {A : Type 0} (arrival_over : A → ℕ → A) where
   put-from : (q : Bool) (x y : A) (r : List A) → Among x (put q y r) → ((q ≡ true) × (x ≡ y)) ⊎ Among x r
   put-from true x y r (inl e) = inl (refl, e)
   put-from true x y r (inr i) = inr i
   put-from false x y r i = inr i
 
-  ins_door-from : (b : ℕ) (l x : A) (j : ℕ) (ts : Outs) → Among x (ins_door arrive b l j ts) → (k : ℕ) × (get_or ts k 0 ≡ suc b) × (x ≡ arrive l (j + k))
-  unfolding ins_door
+  ins_door-from : (b : ℕ) (l x : A) (j : ℕ) (ts : Outs) → Among x (arrivals_by_door arrival_over b l j ts) → (k : ℕ) × (get_or ts k 0 ≡ suc b) × (x ≡ arrival_over l (j + k))
+  unfolding arrivals_by_door
   ins_door-from b l x j [] i = absurd i
-  ins_door-from b l x j (t ∷ ts) i = go (put-from (eqb t (suc b)) x (arrive l j) (ins_door arrive b l (suc j) ts) i) (λ h. ins_door-from b l x (suc j) ts h)
+  ins_door-from b l x j (t ∷ ts) i = go (put-from (eqb t (suc b)) x (arrival_over l j) (arrivals_by_door arrival_over b l (suc j) ts) i) (λ h. ins_door-from b l x (suc j) ts h)
     where
-      go : ((eqb t (suc b) ≡ true) × (x ≡ arrive l j)) ⊎ Among x (ins_door arrive b l (suc j) ts)
-          → (Among x (ins_door arrive b l (suc j) ts) → (k : ℕ) × (get_or ts k 0 ≡ suc b) × (x ≡ arrive l (suc j + k)))
-          → (k : ℕ) × (get_or (t ∷ ts) k 0 ≡ suc b) × (x ≡ arrive l (j + k))
-      go (inl h) f = (0, eqb-true t (suc b) h.0, h.1 ∙ ap (arrive l) (omega arith))
-      go (inr h) f = let q = f h in (suc q.0, q.1, q.2 ∙ ap (arrive l) (omega arith))
+      go : ((eqb t (suc b) ≡ true) × (x ≡ arrival_over l j)) ⊎ Among x (arrivals_by_door arrival_over b l (suc j) ts)
+          → (Among x (arrivals_by_door arrival_over b l (suc j) ts) → (k : ℕ) × (get_or ts k 0 ≡ suc b) × (x ≡ arrival_over l (suc j + k)))
+          → (k : ℕ) × (get_or (t ∷ ts) k 0 ≡ suc b) × (x ≡ arrival_over l (j + k))
+      go (inl h) f = (0, eqb-true t (suc b) h.0, h.1 ∙ ap (arrival_over l) (omega arith))
+      go (inr h) f = let q = f h in (suc q.0, q.1, q.2 ∙ ap (arrival_over l) (omega arith))
 
-  pub ins-from : (b : ℕ) (labs : List (Option A)) (L : Layer) (x : A) → Among x (ins arrive b labs L) → From arrive b labs L x
-  unfolding ins
+  pub ins-from : (b : ℕ) (labs : List (Option A)) (L : Layer) (x : A) → Among x (arrivals_at arrival_over b labs L) → From arrival_over b labs L x
+  unfolding arrivals_at
   ins-from b [] L x i = absurd i
   ins-from b (o ∷ labs) [] x i = absurd i
   ins-from b (None ∷ labs) (nd ∷ L) x i =
       let q = ins-from b labs L x i in record { source = suc q.source; door = q.door; label = q.label; arc = q.arc; labelled = q.labelled; is = q.is }
-  ins-from b (Some l ∷ labs) (nd ∷ L) x i = go (among-split x (ins_door arrive b l 1 nd) (ins arrive b labs L) i) (λ h. ins-from b labs L x h)
+  ins-from b (Some l ∷ labs) (nd ∷ L) x i = go (among-split x (arrivals_by_door arrival_over b l 1 nd) (arrivals_at arrival_over b labs L) i) (λ h. ins-from b labs L x h)
     where
-      go : Among x (ins_door arrive b l 1 nd) ⊎ Among x (ins arrive b labs L) → (Among x (ins arrive b labs L) → From arrive b labs L x) → From arrive b (Some l ∷ labs) (nd ∷ L) x
+      go : Among x (arrivals_by_door arrival_over b l 1 nd) ⊎ Among x (arrivals_at arrival_over b labs L) → (Among x (arrivals_at arrival_over b labs L) → From arrival_over b labs L x) → From arrival_over b (Some l ∷ labs) (nd ∷ L) x
       go (inl h) f = let q = ins_door-from b l x 1 nd h in
-          record { source = 0; door = suc q.0; label = l; arc = q.1; labelled = refl; is = q.2 ∙ ap (arrive l) (omega arith) }
+          record { source = 0; door = suc q.0; label = l; arc = q.1; labelled = refl; is = q.2 ∙ ap (arrival_over l) (omega arith) }
       go (inr h) f = let q = f h in record { source = suc q.source; door = q.door; label = q.label; arc = q.arc; labelled = q.labelled; is = q.is }
 
 pub table-some : {A : Type 0} (n k : ℕ) (f : ℕ → Option A) (x : A) → get_or (table n f) k None ≡ Some x → f k ≡ Some x
@@ -259,10 +259,10 @@ table-some zero k f x e = absurd cc
 table-some (suc n) zero f x e = e
 table-some (suc n) (suc k) f x e = table-some n k (λ m. f (suc m)) x e
 
-pub next-some : {A : Type 0} (arrive : A → ℕ → A) (merge : A → A → A) (labs : List (Option A)) (L : Layer) (count b : ℕ) (m : A)
-    → get_or (next arrive merge labs L count) b None ≡ Some m → gather merge (ins arrive b labs L) ≡ Some m
+pub next-some : {A : Type 0} (arrival_over : A → ℕ → A) (merge : A → A → A) (labs : List (Option A)) (L : Layer) (count b : ℕ) (m : A)
+    → get_or (next arrival_over merge labs L count) b None ≡ Some m → gather merge (arrivals_at arrival_over b labs L) ≡ Some m
 unfolding next
-next-some arrive merge labs L count b m e = table-some count b (λ c. gather merge (ins arrive c labs L)) m e
+next-some arrival_over merge labs L count b m e = table-some count b (λ c. gather merge (arrivals_at arrival_over c labs L)) m e
 
 -- what each arrival has and merging keeps, the label has
 pub gather-all : {A : Type 0} (merge : A → A → A) (P : A → Type 0) → ((x y : A) → P x → P y → P (merge x y))
@@ -280,10 +280,10 @@ table-within zero k f x e = absurd cc
 table-within (suc n) zero f x e = omega arith
 table-within (suc n) (suc k) f x e = let h = table-within n k (λ m. f (suc m)) x e in omega arith
 
-pub next-within : {A : Type 0} (arrive : A → ℕ → A) (merge : A → A → A) (labs : List (Option A)) (L : Layer) (count b : ℕ) (m : A)
-    → get_or (next arrive merge labs L count) b None ≡ Some m → b < count
+pub next-within : {A : Type 0} (arrival_over : A → ℕ → A) (merge : A → A → A) (labs : List (Option A)) (L : Layer) (count b : ℕ) (m : A)
+    → get_or (next arrival_over merge labs L count) b None ≡ Some m → b < count
 unfolding next
-next-within arrive merge labs L count b m e = table-within count b (λ c. gather merge (ins arrive c labs L)) m e
+next-within arrival_over merge labs L count b m e = table-within count b (λ c. gather merge (arrivals_at arrival_over c labs L)) m e
 
 pub gather-any : {A : Type 0} (merge : A → A → A) (l : List A) (m : A) → gather merge l ≡ Some m → (x : A) × Among x l
 unfolding gather
@@ -299,15 +299,15 @@ pub record Climbs {A : Type 0} (climb : A → ℕ → A) (us : List (Option A)) 
   pub labelled : get_or us to None ≡ Some label
   pub is : x ≡ climb label (j + skip)
 
-pub outs-from : {A : Type 0} (climb : A → ℕ → A) (us : List (Option A)) (x : A) (j : ℕ) (ts : Outs) → Among x (outs climb us j ts) → Climbs climb us j ts x
-unfolding outs
+pub outs-from : {A : Type 0} (climb : A → ℕ → A) (us : List (Option A)) (x : A) (j : ℕ) (ts : Outs) → Among x (climbs_of climb us j ts) → Climbs climb us j ts x
+unfolding climbs_of
 outs-from climb us x j [] i = absurd i
 outs-from {A} climb us x j (t ∷ ts) i = go t (read us t) refl i (λ h. outs-from climb us x (suc j) ts h)
   where
     later : (t : ℕ) → Climbs climb us (suc j) ts x → Climbs climb us j (t ∷ ts) x
     later t c = record { skip = suc c.skip; to = c.to; label = c.label; arc = c.arc; labelled = c.labelled; is = c.is ∙ ap (climb c.label) (omega arith) }
 
-    go : (t : ℕ) (o : Option A) → read us t ≡ o → Among x (cons_if_some climb j o (outs climb us (suc j) ts)) → (Among x (outs climb us (suc j) ts) → Climbs climb us (suc j) ts x) → Climbs climb us j (t ∷ ts) x
+    go : (t : ℕ) (o : Option A) → read us t ≡ o → Among x (cons_if_some climb j o (climbs_of climb us (suc j) ts)) → (Among x (climbs_of climb us (suc j) ts) → Climbs climb us (suc j) ts x) → Climbs climb us j (t ∷ ts) x
     go t None e i f = later t (f i)
     go zero (Some u) e i f = absurd cc
     go (suc b) (Some u) e (inl h) f = record { skip = 0; to = b; label = u; arc = refl; labelled = e; is = h ∙ ap (climb u) (omega arith) }

@@ -4,13 +4,13 @@ use Rattle.std.proofs.lemmas.Bool.Decides.{nat_tests}
 use Rattle.round.specs.declared.table.Round.{Round}
 use Rattle.rules.specs.Rules.{RuleSense}
 use Rattle.tallies.specs.Tallies.{TallySense}
-use Rattle.layers.specs.Flow.{Net, node, width, clash, join_at, count_arcs}
-use Rattle.layers.specs.Labels.{firsts, labels_next}
+use Rattle.layers.specs.Flow.{Net, node, width, clash, joined_arcs, count_arcs}
+use Rattle.layers.specs.Labels.{first_labels, labels_next}
 use Rattle.layers.specs.declared.call.Call.{Call}
 use Rattle.layers.specs.declared.call.Call.TheVariants.{Sweep, Part, Join, Cut, Refine}
-use Rattle.layers.specs.Calls.{EachCut, thinned, trimmed}
+use Rattle.layers.specs.Calls.{EachCut, unbarred_arcs, affordable_arcs}
 use Rattle.layers.proofs.Model.{part_at, one_group, sweeps, sweep, cuts, cut, bad_layer, part, join, swept, parted, refines, refine, unless, act, after}
-use Rattle.layers.specs.Flow.{Mark, marks_next, tidy, tidied}
+use Rattle.layers.specs.Flow.{Mark, marks_next, tidy, tidied_arcs}
 use Rattle.layers.specs.Settings.{Setting}
 use Rattle.layers.specs.declared.node.Down.{Down}
 
@@ -23,8 +23,8 @@ either P false x y f g = g refl
 module _ {S V : Type 0} (by : Setting S V) (Safe : Net → Type 0) (Q : V → Type 0)
     (safe-sweep : (Ls : Net) → Safe Ls → Safe (sweep by Ls))
     (safe-cut : (c : V) (Ls : Net) → Q c → Safe Ls → Safe (cut by c Ls))
-    (safe-partAt : (d a : ℕ) (Ls : Net) → a < length (get_or Ls (suc d) []) → length (get_or Ls (suc d) []) < by.width → one_group by d a (firsts by.rule by.tally) Ls ≡ false → Safe Ls → Safe (part_at by d a (firsts by.rule by.tally) Ls))
-    (safe-join_at : (d lo hi : ℕ) (Ls : Net) → lo < hi → hi < length (get_or Ls (suc d) []) → clash (node (get_or Ls (suc d) []) lo) (node (get_or Ls (suc d) []) hi) ≡ false → Safe Ls → Safe (join_at d lo hi Ls)) where
+    (safe-partAt : (d a : ℕ) (Ls : Net) → a < length (get_or Ls (suc d) []) → length (get_or Ls (suc d) []) < by.width → one_group by d a (first_labels by.rule by.tally) Ls ≡ false → Safe Ls → Safe (part_at by d a (first_labels by.rule by.tally) Ls))
+    (safe-join_at : (d lo hi : ℕ) (Ls : Net) → lo < hi → hi < length (get_or Ls (suc d) []) → clash (node (get_or Ls (suc d) []) lo) (node (get_or Ls (suc d) []) hi) ≡ false → Safe Ls → Safe (joined_arcs d lo hi Ls)) where
   pub safe-part : (i a : ℕ) (Ls : Net) → Safe Ls → Safe (unless by Ls (part by i a Ls))
   unfolding part
   safe-part i a Ls s =
@@ -80,13 +80,13 @@ unfolding tidy
 tidy-length fr [] = refl
 tidy-length fr (L ∷ Ls) = ap suc (tidy-length (marks_next fr L (width Ls)) Ls)
 
-pub tidied-length : (Ls : Net) → length (tidied Ls) ≡ length Ls
-unfolding tidied
+pub tidied-length : (Ls : Net) → length (tidied_arcs Ls) ≡ length Ls
+unfolding tidied_arcs
 tidied-length [] = refl
 tidied-length (L ∷ Ls) = ap suc (tidy-length (marks_next (Some tt ∷ []) L (width Ls)) Ls)
 
-pub join-length : (d lo hi : ℕ) (Ls : Net) → length (join_at d lo hi Ls) ≡ length Ls
-unfolding join_at
+pub join-length : (d lo hi : ℕ) (Ls : Net) → length (joined_arcs d lo hi Ls) ≡ length Ls
+unfolding joined_arcs
 join-length zero lo hi [] = refl
 join-length (suc d) lo hi [] = refl
 join-length zero lo hi (L ∷ []) = refl
@@ -95,12 +95,12 @@ join-length (suc d) lo hi (L ∷ Ls) = ap suc (join-length d lo hi Ls)
 
 module _ {S V : Type 0} (by : Setting S V) where
   pub sweeps-length : (i : ℕ) (labs : List (Option (Down S V))) (Ls : Net) → length (sweeps by i labs Ls) ≡ length Ls
-  unfolding thinned
+  unfolding unbarred_arcs
   sweeps-length i labs [] = refl
   sweeps-length i labs (L ∷ Ls) = ap suc (sweeps-length (suc i) (labels_next by labs L (width Ls)) Ls)
 
   pub cuts-length : (c : V) (labs : List (Option (Down S V))) (Ls : Net) → length (cuts by c labs Ls) ≡ length Ls
-  unfolding trimmed
+  unfolding affordable_arcs
   cuts-length c labs [] = refl
   cuts-length c labs (L ∷ Ls) = ap suc (cuts-length c (labels_next by labs L (width Ls)) Ls)
 

@@ -4,15 +4,15 @@ use Rattle.std.proofs.lemmas.Bool.{false≢true, eqb-true, eq-eqb, ne_eqb, and_p
 use Rattle.round.specs.declared.table.Round.{Round}
 use Rattle.rules.specs.Rules.{RuleLaws, RuleSense}
 use Rattle.tallies.specs.Tallies.{TallySense}
-use Rattle.layers.specs.Flow.{Layer, Net, node, target, width, redirect, ins, Mark, marks_next, marks_up, flags, rank, compress, renumber, tidy, tidied, Tied}
-use Rattle.layers.specs.Labels.{ups, first, firsts, arrive, merge, labels_next, barred, first_arrival, leaves}
+use Rattle.layers.specs.Flow.{Layer, Net, node, target, width, redirect, arrivals_at, Mark, marks_next, marks_up, flags, rank, compress, renumber, tidy, tidied_arcs, IsTied}
+use Rattle.layers.specs.Labels.{ups, first_label, first_labels, arrival_over, merge, labels_next, is_barred, first_arrival, differs_from_first}
 use Rattle.layers.proofs.Flows.{Among, has-arc, ins-from, next-some, gather-all, compress-at}
 use Rattle.layers.proofs.Ways.{length-snoc}
 use Rattle.layers.proofs.Model.{sweeps, sweep, part_at, agrees}
 use Rattle.layers.proofs.Tied.{redirect-back, compress-back, renumber-back}
 use Rattle.layers.proofs.Ties.{more-back}
 use Rattle.layers.proofs.Agreeing.{Agree, agree-self, agree-back, agree-merge, agree-arrive, by-pairs}
-use Rattle.layers.specs.Calls.{agreed_below, thinned, parted_at, agreed_all}
+use Rattle.layers.specs.Calls.{places_agree, unbarred_arcs, parted_arcs, in_arcs_agree}
 use Rattle.layers.specs.Settings.{Setting}
 use Rattle.layers.specs.declared.node.Down.{Down}
 
@@ -62,38 +62,38 @@ sub-tidy fr (L ∷ Ls) =
     let gs = flags fr (marks_up (L ∷ Ls)) in
     (unrank fs, (λ a j b e. was-arc fs L (unrank gs a) j b (was-node gs (redirect (λ a j b. renumber fs b) L) a j b e)), sub-tidy (marks_next fr L (width Ls)) Ls)
 
-sub-tidied : (Ls : Net) → Sub (λ a. a) (tidied Ls) Ls
-unfolding tidied
+sub-tidied : (Ls : Net) → Sub (λ a. a) (tidied_arcs Ls) Ls
+unfolding tidied_arcs
 sub-tidied [] = tt
 sub-tidied (L ∷ Ls) =
     let fr = marks_next (Some tt ∷ []) L (width Ls) in
     let fs = flags fr (marks_up Ls) in
     (unrank fs, (λ a j b e. was-arc fs L a j b e), sub-tidy fr Ls)
 
-tied-tail : (L : Layer) (Ls : Net) → Tied (L ∷ Ls) → Tied Ls
+tied-tail : (L : Layer) (Ls : Net) → IsTied (L ∷ Ls) → IsTied Ls
 tied-tail L [] t = tt
 tied-tail L (M ∷ Ls) t = t.3
 
 module _ {S V : Type 0} (by : Setting S V) where
   -- sweeping, before tidying
   sub-sweeps : (i : ℕ) (labs : List (Option (Down S V))) (Ls : Net) → Sub (λ a. a) (sweeps by i labs Ls) Ls
-  unfolding thinned
+  unfolding unbarred_arcs
   sub-sweeps i labs [] = tt
   sub-sweeps i labs (L ∷ Ls) = (λ b. b, stays, sub-sweeps (suc i) (labels_next by labs L (width Ls)) Ls)
     where
       f : ℕ → ℕ → ℕ → ℕ
-      f a j b = cond (barred by.round by.rule i (suc (length Ls)) j (get_or labs a None) (get_or (ups Ls) b None)) 0 (suc b)
+      f a j b = cond (is_barred by.round by.rule i (suc (length Ls)) j (get_or labs a None) (get_or (ups Ls) b None)) 0 (suc b)
 
       same : (q : Bool) (b c : ℕ) → cond q 0 (suc b) ≡ suc c → b ≡ c
       same true b c e = absurd (omega arith)
       same false b c e = omega arith
 
       stays : (a j b : ℕ) → target (node (redirect f L) a) j ≡ suc b → target (node L a) j ≡ suc b
-      stays a j b e = let s = redirect-back f L a j b e in s.1 ∙ ap suc (same (barred by.round by.rule i (suc (length Ls)) j (get_or labs a None) (get_or (ups Ls) s.0 None)) s.0 b s.2)
+      stays a j b e = let s = redirect-back f L a j b e in s.1 ∙ ap suc (same (is_barred by.round by.rule i (suc (length Ls)) j (get_or labs a None) (get_or (ups Ls) s.0 None)) s.0 b s.2)
 
   -- parting
-  sub_part : (d a : ℕ) (labs : List (Option (Down S V))) (Ls : Net) → Tied Ls → Sub (λ a. a) (part_at by d a labs Ls) Ls
-  unfolding parted_at
+  sub_part : (d a : ℕ) (labs : List (Option (Down S V))) (Ls : Net) → IsTied Ls → Sub (λ a. a) (part_at by d a labs Ls) Ls
+  unfolding parted_arcs
   sub_part zero a labs [] t = tt
   sub_part (suc d) a labs [] t = tt
   sub_part zero a labs (L ∷ []) t = sub_self (L ∷ [])
@@ -110,15 +110,15 @@ module _ {S V : Type 0} (by : Setting S V) where
       g-old c h = ap (λ (q : Bool). cond q a c) (ne_eqb c (length M) (λ e. omega arith))
 
       h : Option (Down S V)
-      h = first_arrival (ins (arrive by) a labs L)
+      h = first_arrival (arrivals_at (arrival_over by) a labs L)
 
       f : ℕ → ℕ → ℕ → ℕ
-      f u j b = cond (eqb b a && leaves by h (get_or labs u None) j) (suc (length M)) (suc b)
+      f u j b = cond (eqb b a && differs_from_first by h (get_or labs u None) j) (suc (length M)) (suc b)
 
       before : (u j c : ℕ) → target (node (redirect f L) u) j ≡ suc c → target (node L u) j ≡ suc (g c)
       before u j c e =
           let s = redirect-back f L u j c e in
-          s.1 ∙ ap suc (go (eqb s.0 a && leaves by h (get_or labs u None) j) refl s.0 (t.0 u j s.0 s.1) (λ q. eqb-true s.0 a (and_parts (eqb s.0 a) (leaves by h (get_or labs u None) j) q).0) s.2)
+          s.1 ∙ ap suc (go (eqb s.0 a && differs_from_first by h (get_or labs u None) j) refl s.0 (t.0 u j s.0 s.1) (λ q. eqb-true s.0 a (and_parts (eqb s.0 a) (differs_from_first by h (get_or labs u None) j) q).0) s.2)
         where
           go : (q : Bool) {p : Bool} → p ≡ q → (b : ℕ) → b < length M → (p ≡ true → b ≡ a) → cond q (suc (length M)) (suc b) ≡ suc c → b ≡ g c
           go true w b k n e = let z : length M ≡ c = omega arith in n w ∙ sym g-new ∙ ap g z
@@ -138,7 +138,7 @@ module _ {S V : Type 0} {Keeps : List ℕ → Type 0} {Stands : S → List ℕ �
   Keyed zero K Ls = Unit {0}
   Keyed (suc i) K [] = Unit {0}
   Keyed (suc i) K (L ∷ []) = Unit {0}
-  Keyed (suc i) K (L ∷ M ∷ Ls) = (K' : ℕ → Down S V) × ((a j b : ℕ) → target (node L a) j ≡ suc b → Agree by ruled (arrive by (K a) j) (K' b)) × Keyed i K' (M ∷ Ls)
+  Keyed (suc i) K (L ∷ M ∷ Ls) = (K' : ℕ → Down S V) × ((a j b : ℕ) → target (node L a) j ≡ suc b → Agree by ruled (arrival_over by (K a) j) (K' b)) × Keyed i K' (M ∷ Ls)
 
   keyed-sub : (i : ℕ) (K : ℕ → Down S V) (f : ℕ → ℕ) (Ms Ls : Net) → Sub f Ms Ls → Keyed i K Ls → Keyed i (λ a. K (f a)) Ms
   keyed-sub zero K f Ms Ls s k = tt
@@ -151,49 +151,49 @@ module _ {S V : Type 0} {Keeps : List ℕ → Type 0} {Stands : S → List ℕ �
 
   -- from the first node on
   abbrev pub KeyedTo : ℕ → Net → Type 0
-  KeyedTo i Ls = Keyed i (λ a. first by.rule by.tally) Ls
+  KeyedTo i Ls = Keyed i (λ a. first_label by.rule by.tally) Ls
 
   pub keyed-sweep : (i : ℕ) (Ls : Net) → KeyedTo i Ls → KeyedTo i (sweep by Ls)
   unfolding sweep
   keyed-sweep i Ls k =
-      let Ms = sweeps by 0 (firsts by.rule by.tally) Ls in
-      keyed-sub i (λ a. first by.rule by.tally) (λ a. a) (tidied Ms) Ms (sub-tidied Ms) (keyed-sub i (λ a. first by.rule by.tally) (λ a. a) Ms Ls (sub-sweeps by 0 (firsts by.rule by.tally) Ls) k)
+      let Ms = sweeps by 0 (first_labels by.rule by.tally) Ls in
+      keyed-sub i (λ a. first_label by.rule by.tally) (λ a. a) (tidied_arcs Ms) Ms (sub-tidied Ms) (keyed-sub i (λ a. first_label by.rule by.tally) (λ a. a) Ms Ls (sub-sweeps by 0 (first_labels by.rule by.tally) Ls) k)
 
-  pub keyed-part : (i d a : ℕ) (Ls : Net) → Tied Ls → KeyedTo i Ls → KeyedTo i (part_at by d a (firsts by.rule by.tally) Ls)
-  keyed-part i d a Ls t k = keyed-sub i (λ a. first by.rule by.tally) (λ a. a) (part_at by d a (firsts by.rule by.tally) Ls) Ls (sub_part by d a (firsts by.rule by.tally) Ls t) k
+  pub keyed-part : (i d a : ℕ) (Ls : Net) → IsTied Ls → KeyedTo i Ls → KeyedTo i (part_at by d a (first_labels by.rule by.tally) Ls)
+  keyed-part i d a Ls t k = keyed-sub i (λ a. first_label by.rule by.tally) (λ a. a) (part_at by d a (first_labels by.rule by.tally) Ls) Ls (sub_part by d a (first_labels by.rule by.tally) Ls t) k
 
   -- ---- the labels worked out agree with the keys
   abbrev pub Fit : List (Option (Down S V)) → (ℕ → Down S V) → Type 0
   Fit labs K = (a : ℕ) (l : Down S V) → get_or labs a None ≡ Some l → Agree by ruled (K a) l
 
-  pub fit-first : Fit (firsts by.rule by.tally) (λ a. first by.rule by.tally)
-  fit-first zero l e = let z : first by.rule by.tally ≡ l = cc in rw (← z) (agree-self by ruled (first by.rule by.tally))
+  pub fit-first : Fit (first_labels by.rule by.tally) (λ a. first_label by.rule by.tally)
+  fit-first zero l e = let z : first_label by.rule by.tally ≡ l = cc in rw (← z) (agree-self by ruled (first_label by.rule by.tally))
   fit-first (suc a) l e = absurd cc
 
-  module _ (labs : List (Option (Down S V))) (K K' : ℕ → Down S V) (fit : Fit labs K) (L : Layer) (on : (a j b : ℕ) → target (node L a) j ≡ suc b → Agree by ruled (arrive by (K a) j) (K' b)) where
+  module _ (labs : List (Option (Down S V))) (K K' : ℕ → Down S V) (fit : Fit labs K) (L : Layer) (on : (a j b : ℕ) → target (node L a) j ≡ suc b → Agree by ruled (arrival_over by (K a) j) (K' b)) where
     -- so does each arrival
-    arrival-fits : (b : ℕ) (x : Down S V) → Among x (ins (arrive by) b labs L) → Agree by ruled (K' b) x
+    arrival-fits : (b : ℕ) (x : Down S V) → Among x (arrivals_at (arrival_over by) b labs L) → Agree by ruled (K' b) x
     arrival-fits b x i =
-        let f = ins-from (arrive by) b labs L x i in
+        let f = ins-from (arrival_over by) b labs L x i in
         let p = agree-arrive by ruled (K f.source) f.label f.door (fit f.source f.label f.labelled) in
-        rw f.is (agree-back by ruled (arrive by (K f.source) f.door) (K' b) (arrive by f.label f.door) (on f.source f.door b f.arc) p)
+        rw f.is (agree-back by ruled (arrival_over by (K f.source) f.door) (K' b) (arrival_over by f.label f.door) (on f.source f.door b f.arc) p)
 
     pub fit_next : (count : ℕ) → Fit (labels_next by labs L count) K'
     unfolding labels_next
-    fit_next count b m e = gather-all (merge by.rule by.tally) (Agree by ruled (K' b)) (agree-merge by ruled (K' b)) (ins (arrive by) b labs L) m (arrival-fits b) (next-some (arrive by) (merge by.rule by.tally) labs L count b m e)
+    fit_next count b m e = gather-all (merge by.rule by.tally) (Agree by ruled (K' b)) (agree-merge by ruled (K' b)) (arrivals_at (arrival_over by) b labs L) m (arrival-fits b) (next-some (arrival_over by) (merge by.rule by.tally) labs L count b m e)
 
-    agreed-keyed : (k : ℕ) → agreed_below by labs L k ≡ true
-    unfolding agreed_below
+    agreed-keyed : (k : ℕ) → places_agree by labs L k ≡ true
+    unfolding places_agree
     agreed-keyed zero = refl
-    agreed-keyed (suc b) = rw (by-pairs by ruled (ins (arrive by) b labs L) (λ y z i k. agree-back by ruled (K' b) y z (arrival-fits b y i) (arrival-fits b z k))) (agreed-keyed b)
+    agreed-keyed (suc b) = rw (by-pairs by ruled (arrivals_at (arrival_over by) b labs L) (λ y z i k. agree-back by ruled (K' b) y z (arrival-fits b y i) (arrival-fits b z k))) (agreed-keyed b)
 
   agrees-keyed : (i : ℕ) (K : ℕ → Down S V) (labs : List (Option (Down S V))) (Ls : Net) → length Ls ≤ suc i → Fit labs K → Keyed i K Ls → agrees by labs Ls ≡ true
-  unfolding agreed_all
+  unfolding in_arcs_agree
   agrees-keyed i K labs [] h fit k = refl
   agrees-keyed i K labs (L ∷ []) h fit k = refl
   agrees-keyed zero K labs (L ∷ M ∷ Ls) h fit k = absurd (omega arith)
   agrees-keyed (suc i) K labs (L ∷ M ∷ Ls) h fit k =
       rw (agreed-keyed labs K k.0 fit L k.1 (length M)) (agrees-keyed i k.0 (labels_next by labs L (length M)) (M ∷ Ls) (omega arith) (fit_next labs K k.0 fit L k.1 (length M)) k.2)
 
-  pub keyed-agrees : (i : ℕ) (Ls : Net) → length Ls ≤ suc i → KeyedTo i Ls → agrees by (firsts by.rule by.tally) Ls ≡ true
-  keyed-agrees i Ls h k = agrees-keyed i (λ a. first by.rule by.tally) (firsts by.rule by.tally) Ls h fit-first k
+  pub keyed-agrees : (i : ℕ) (Ls : Net) → length Ls ≤ suc i → KeyedTo i Ls → agrees by (first_labels by.rule by.tally) Ls ≡ true
+  keyed-agrees i Ls h k = agrees-keyed i (λ a. first_label by.rule by.tally) (first_labels by.rule by.tally) Ls h fit-first k

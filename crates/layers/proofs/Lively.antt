@@ -4,15 +4,15 @@ use Rattle.round.specs.declared.table.Round.{Round}
 use Rattle.rules.specs.Rules.{RuleSense}
 use Rattle.tallies.specs.Tallies.{TallySense}
 use Rattle.layers.specs.declared.node.Up.{Up}
-use Rattle.layers.specs.Flow.{table, Layer, Net, node, width, PathFrom, redirect, up, Mark, marks_next, marks_up, flags, compress, renumber, tidy, tidied, moved, both_out, join_at, Led, Tied, Roomy}
-use Rattle.layers.specs.Labels.{arrive, merge, labels_next, climb, merge_up, no_up, ups, all_doors}
+use Rattle.layers.specs.Flow.{table, Layer, Net, node, width, PathFrom, redirect, up, Mark, marks_next, marks_up, flags, compress, renumber, tidy, tidied_arcs, place_after_join, both_out, joined_arcs, IsLed, IsTied, IsRoomy}
+use Rattle.layers.specs.Labels.{arrival_over, merge, labels_next, climb, merge_up, no_up, ups, all_doors}
 use Rattle.layers.proofs.Flows.{next-at, up_at, has-arc}
 use Rattle.layers.proofs.Model.{sweeps, cuts}
 use Rattle.layers.proofs.Tied.{redirect-length}
 use Rattle.layers.proofs.Ties.{drop-length}
 use Rattle.layers.specs.Settings.{Setting}
 use Rattle.layers.specs.declared.node.Down.{Down}
-use Rattle.layers.specs.Calls.{thinned, trimmed}
+use Rattle.layers.specs.Calls.{unbarred_arcs, affordable_arcs}
 
 compress-short : (fs : List Bool) (L : Layer) (m : ℕ) → length L ≤ m → length (compress fs L) ≤ m
 unfolding compress
@@ -23,7 +23,7 @@ compress-short (true ∷ fs) (x ∷ L) (suc m) h = let z = compress-short fs L m
 compress-short (false ∷ fs) (x ∷ L) m h = compress-short fs L m (omega arith)
 
 module _ (W : ℕ) where
-  roomy-tidy : (fr : List (Option Mark)) (Ls : Net) → Roomy W Ls → Roomy W (tidy fr Ls)
+  roomy-tidy : (fr : List (Option Mark)) (Ls : Net) → IsRoomy W Ls → IsRoomy W (tidy fr Ls)
   unfolding tidy
   roomy-tidy fr [] h = tt
   roomy-tidy fr (L ∷ Ls) h = (
@@ -32,48 +32,48 @@ module _ (W : ℕ) where
     roomy-tidy (marks_next fr L (width Ls)) Ls h.1,
   )
 
-  pub roomy-tidied : (Ls : Net) → Roomy W Ls → Roomy W (tidied Ls)
-  unfolding tidied
+  pub roomy-tidied : (Ls : Net) → IsRoomy W Ls → IsRoomy W (tidied_arcs Ls)
+  unfolding tidied_arcs
   roomy-tidied [] h = tt
   roomy-tidied (L ∷ Ls) h =
       (omega (arith, h.0, redirect-length (λ a j b. renumber (flags (marks_next (Some tt ∷ []) L (width Ls)) (marks_up Ls)) b) L), roomy-tidy (marks_next (Some tt ∷ []) L (width Ls)) Ls h.1)
 
-  pub roomy-join : (d lo hi : ℕ) (Ls : Net) → hi < length (get_or Ls (suc d) []) → Roomy W Ls → Roomy W (join_at d lo hi Ls)
-  unfolding join_at
+  pub roomy-join : (d lo hi : ℕ) (Ls : Net) → hi < length (get_or Ls (suc d) []) → IsRoomy W Ls → IsRoomy W (joined_arcs d lo hi Ls)
+  unfolding joined_arcs
   roomy-join zero lo hi [] k h = h
   roomy-join (suc d) lo hi [] k h = h
   roomy-join zero lo hi (L ∷ []) k h = h
   roomy-join zero lo hi (L ∷ M ∷ Ls) k h =
       let v = both_out (node M lo) (node M hi) in
-      (omega (arith, h.0, redirect-length (λ a j b. suc (moved lo hi b)) L), (omega (arith, h.1.0, drop-length hi (set M lo v) (omega (arith, length-set M lo v)), length-set M lo v), h.1.1))
+      (omega (arith, h.0, redirect-length (λ a j b. suc (place_after_join lo hi b)) L), (omega (arith, h.1.0, drop-length hi (set M lo v) (omega (arith, length-set M lo v)), length-set M lo v), h.1.1))
   roomy-join (suc d) lo hi (L ∷ Ls) k h = (h.0, roomy-join d lo hi Ls k h.1)
 
 module _ {S V : Type 0} (by : Setting S V) (w : 1 ≤ by.width) where
-  pub roomy-sweeps : (i : ℕ) (labs : List (Option (Down S V))) (Ls : Net) → Roomy by.width Ls → Roomy by.width (sweeps by i labs Ls)
-  unfolding thinned
+  pub roomy-sweeps : (i : ℕ) (labs : List (Option (Down S V))) (Ls : Net) → IsRoomy by.width Ls → IsRoomy by.width (sweeps by i labs Ls)
+  unfolding unbarred_arcs
   roomy-sweeps i labs [] h = tt
   roomy-sweeps i labs (L ∷ Ls) h = (simp redirect-length h.0, roomy-sweeps (suc i) (labels_next by labs L (width Ls)) Ls h.1)
 
-  pub roomy-cuts : (c : V) (labs : List (Option (Down S V))) (Ls : Net) → Roomy by.width Ls → Roomy by.width (cuts by c labs Ls)
-  unfolding trimmed
+  pub roomy-cuts : (c : V) (labs : List (Option (Down S V))) (Ls : Net) → IsRoomy by.width Ls → IsRoomy by.width (cuts by c labs Ls)
+  unfolding affordable_arcs
   roomy-cuts c labs [] h = tt
   roomy-cuts c labs (L ∷ Ls) h = (simp redirect-length h.0, roomy-cuts c (labels_next by labs L (width Ls)) Ls h.1)
 
-  pub roomy-open : (k : ℕ) → Roomy by.width (table k (λ i. all_doors by.round.n ∷ []))
+  pub roomy-open : (k : ℕ) → IsRoomy by.width (table k (λ i. all_doors by.round.n ∷ []))
   roomy-open zero = tt
   roomy-open (suc k) = (w, roomy-open k)
 
   -- so every node has a label, from below and from above
-  pub labels_full : (labs : List (Option (Down S V))) (L M : Layer) (Ls : Net) → Tied (L ∷ M ∷ Ls) → ((a : ℕ) → a < length L → (l : Down S V) × (get_or labs a None ≡ Some l))
+  pub labels_full : (labs : List (Option (Down S V))) (L M : Layer) (Ls : Net) → IsTied (L ∷ M ∷ Ls) → ((a : ℕ) → a < length L → (l : Down S V) × (get_or labs a None ≡ Some l))
       → (b : ℕ) → b < length M → (m : Down S V) × (get_or (labels_next by labs L (length M)) b None ≡ Some m)
   unfolding labels_next
   labels_full labs L M Ls t f b h =
       let s = t.1 b h in
       let l = f s.0 (has-arc L s.0 s.1 b s.2) in
-      let n = next-at {A = Down S V} (merge by.rule by.tally) (λ x y. Unit {0}) (λ x. tt) (λ x y z f g. tt) (λ x y. tt) (λ x y. tt) (arrive by) labs L (length M) s.0 s.1 b l.0 s.2 l.1 h in
+      let n = next-at {A = Down S V} (merge by.rule by.tally) (λ x y. Unit {0}) (λ x. tt) (λ x y z f g. tt) (λ x y. tt) (λ x y. tt) (arrival_over by) labs L (length M) s.0 s.1 b l.0 s.2 l.1 h in
       (n.0, n.1)
 
-pub ups-full : (M : Layer) (Ls : Net) → Led M → Tied (M ∷ Ls) → (a : ℕ) → a < length M → (u : Up) × (get_or (ups (M ∷ Ls)) a None ≡ Some u)
+pub ups-full : (M : Layer) (Ls : Net) → IsLed M → IsTied (M ∷ Ls) → (a : ℕ) → a < length M → (u : Up) × (get_or (ups (M ∷ Ls)) a None ≡ Some u)
 unfolding ups
 ups-full M [] led t a h =
     let s = led a h in
@@ -87,7 +87,7 @@ ups-full M (N ∷ Ls) led t a h =
     (q.0, q.1)
 
 -- ---- from each node there is a way on to the end
-pub way_on : (M : Layer) (Ls : Net) → Led M → Tied (M ∷ Ls) → (a : ℕ) → a < length M → (w : List ℕ) × PathFrom (M ∷ Ls) a w
+pub way_on : (M : Layer) (Ls : Net) → IsLed M → IsTied (M ∷ Ls) → (a : ℕ) → a < length M → (w : List ℕ) × PathFrom (M ∷ Ls) a w
 way_on M [] led t a h = let s = led a h in (s.0 ∷ [], (s.1, s.2, omega (arith, t a s.0 s.1 s.2)))
 way_on M (N ∷ Ls) led t a h =
     let s = led a h in let x = way_on N Ls t.2 t.3 s.1 (t.0 a s.0 s.1 s.2) in (s.0 ∷ x.0, (s.1, s.2, x.1))

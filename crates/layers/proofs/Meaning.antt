@@ -5,9 +5,9 @@ use Rattle.round.specs.declared.table.Round.{Round}
 use Rattle.rules.specs.Rules.{RuleLaws, RuleSense}
 use Rattle.tallies.specs.Tallies.{TallyLaws, TallySense}
 use Rattle.layers.specs.declared.node.Node.{Node}
-use Rattle.layers.specs.Flow.{Net, width, PathFrom, up, Tied}
-use Rattle.layers.specs.Labels.{firsts, labels_next, no_up, ups, opened}
-use Rattle.layers.specs.Records.{standing, padded, place}
+use Rattle.layers.specs.Flow.{Net, width, PathFrom, up, IsTied}
+use Rattle.layers.specs.Labels.{first_labels, labels_next, no_up, ups, opening_arcs}
+use Rattle.layers.specs.Records.{nodes_in, padded_targets, record_of_place}
 use Rattle.layers.specs.Calls.{arcs, layer}
 use Rattle.layers.specs.LabelLaws.{LeadsTo, Labelled, LabelsMean}
 use Rattle.layers.proofs.Flows.{table_at}
@@ -22,7 +22,7 @@ use Rattle.layers.specs.Settings.{Setting, setting}
 use Rattle.layers.specs.declared.node.Down.{Down}
 
 -- after the first layer a path leads on from each node
-leads-at : (D : Net) (i a : ℕ) → Tied D → 1 ≤ i → i ≤ length D → a < width (drop i D) → (w : List ℕ) × PathFrom (drop i D) a w
+leads-at : (D : Net) (i a : ℕ) → IsTied D → 1 ≤ i → i ≤ length D → a < width (drop i D) → (w : List ℕ) × PathFrom (drop i D) a w
 leads-at D zero a t lo hi h = absurd (omega arith)
 leads-at [] (suc i) a t lo hi h = absurd (not-suc-le-zero hi)
 leads-at (L ∷ []) (suc zero) a t lo hi h = ([], omega arith)
@@ -44,19 +44,19 @@ module _ {S V : Type 0} {Keeps : List ℕ → Type 0} {Stands : S → List ℕ �
   top-at labs [] a other f h = go (get_or labs 0 None) refl h
     where
       P : Option (Down S V) → Node S V
-      P o = record { arcs = record { to = padded [] }; label = record { down = or_blank by.rule by.tally o; up = no_up } }
+      P o = record { arcs = record { to = padded_targets [] }; label = record { down = or_blank by.rule by.tally o; up = no_up } }
 
       one : (a : ℕ) (l : Down S V) → get_or labs 0 None ≡ Some l → a < 1 → Stands-at labs [] a (get_or (P (Some l) ∷ []) a other)
       one zero l e k = record { inner = k; label = l; labelled = e; down = refl; up = unfold ups up in refl }
       one (suc a) l e k = absurd (not-suc-le-zero (le_of_suc-le-suc k))
 
-      go : (o : Option (Down S V)) → get_or labs 0 None ≡ o → a < length (standing (P o ∷ [])) → Stands-at labs [] a (get_or (standing (P o ∷ [])) a other)
+      go : (o : Option (Down S V)) → get_or labs 0 None ≡ o → a < length (nodes_in (P o ∷ [])) → Stands-at labs [] a (get_or (nodes_in (P o ∷ [])) a other)
       go None e k = absurd (not-suc-le-zero k)
       go (Some l) e k =
-          let s : standing (P (Some l) ∷ []) ≡ P (Some l) ∷ [] = ap (λ (z : Bool). cond (not z) (P (Some l) ∷ []) []) (f 0 l e) in
+          let s : nodes_in (P (Some l) ∷ []) ≡ P (Some l) ∷ [] = ap (λ (z : Bool). cond (not z) (P (Some l) ∷ []) []) (f 0 l e) in
           subst (λ (N : List (Node S V)). Stands-at labs [] a (get_or N a other)) (sym s) (one a l e (subst (λ (N : List (Node S V)). a < length N) s k))
   top-at labs (L ∷ Ls) a other f h =
-      let F = place by L labs (ups (L ∷ Ls)) in
+      let F = record_of_place by L labs (ups (L ∷ Ls)) in
       let k : a < length L = omega (arith, table-long (length L) F) in
       let x = f.0.filled.there a k in
       let e = table_at (length L) a F other k in
@@ -76,7 +76,7 @@ module _ {S V : Type 0} {Keeps : List ℕ → Type 0} {Stands : S → List ℕ �
   module _ {Allows : ℕ → V → Type 0} (tallied : TallyLaws by.round.n by.tally Allows) where
     -- on the arcs
     labelled : (later : List (Node S V)) (D : Net) → Well by ruled.same_self w1 later D → Neat by.round.n D → (i a : ℕ) (x : Node S V) → i ≤ length D
-        → Stands-at (labels_at by i (firsts by.rule by.tally) D) (drop i D) a x → Labelled Allows D i a x
+        → Stands-at (labels_at by i (first_labels by.rule by.tally) D) (drop i D) a x → Labelled Allows D i a x
     labelled later D p neat i a x h s =
         let o = owed-at by ruled w1 D i h a s.label s.labelled in
         let t : (w : List ℕ) → LeadsTo D i a w → Tells s.label.all s.label.some w =
@@ -99,11 +99,11 @@ module _ {S V : Type 0} {Keeps : List ℕ → Type 0} {Stands : S → List ℕ �
         → let Y = X by ruled.same_self w1 later D in a < length (layer by.round.n by.width i Y) → Labelled Allows (arcs by.round.n by.width Y) i a (get_or (layer by.round.n by.width i Y) a other)
     labelled-X later D p neat i a other h k =
         let Y = X by ruled.same_self w1 later D in
-        let labs = labels_at by i (firsts by.rule by.tally) D in
+        let labs = labels_at by i (first_labels by.rule by.tally) D in
         let h' : i ≤ length D = omega (arith, p.deep) in
         let e : layer by.round.n by.width i Y ≡ top by w1 labs (drop i D) =
-        ap (λ (N : List (List (Node S V))). get_or N i []) (nodes-X by ruled.same_self w1 later D p) ∙ stood-top i (firsts by.rule by.tally) D h' in
-        let f = full_at i (firsts by.rule by.tally) D h' (full by ruled.same_self w1 later D p) in
+        ap (λ (N : List (List (Node S V))). get_or N i []) (nodes-X by ruled.same_self w1 later D p) ∙ stood-top i (first_labels by.rule by.tally) D h' in
+        let f = full_at i (first_labels by.rule by.tally) D h' (full by ruled.same_self w1 later D p) in
         let s = top-at labs (drop i D) a other f (rw (← e) k) in
         rw ((arcs-X by ruled.same_self w1 later D p), e) (labelled later D p neat i a (get_or (top by w1 labs (drop i D)) a other) h' s)
 
@@ -112,6 +112,6 @@ pub labels-mean : {S V : Type 0} {Keeps : List ℕ → Type 0} {Stands : S → L
 labels-mean {S} {V} {Allows} A B rule tally ruled tallied r e f W lo hi lent cs =
     let by = setting r rule tally W in
     let x = ruled r.n e in let y = tallied r.n f in let l = drop (r.n * W + 1) lent in
-    let D = after by cs (opened r.n) in
-    let p = proper-after by x.same_self lo cs (opened r.n) (proper-opened by lo) in
+    let D = after by cs (opening_arcs r.n) in
+    let p = proper-after by x.same_self lo cs (opening_arcs r.n) (proper-opened by lo) in
     rw (run-opened by x.same_self lo lent cs) (labelled-X by x lo y l D p (neat-of r.n D p.even))

@@ -9,8 +9,8 @@ use Rattle.round.specs.declared.table.Round.{Round}
 use Rattle.rules.specs.Rules.{RuleLaws, RuleSense}
 use Rattle.tallies.specs.Tallies.{TallyLaws, TallySense}
 use Rattle.layers.specs.declared.node.Up.{Up}
-use Rattle.layers.specs.Flow.{Layer, Net, node, target, width, PathFrom, ins, gather, outs, up, Ranged, Tied}
-use Rattle.layers.specs.Labels.{bit_of, climb, merge_up, no_up, ups, first, arrive, merge, firsts, labels_next}
+use Rattle.layers.specs.Flow.{Layer, Net, node, target, width, PathFrom, arrivals_at, gather, climbs_of, up, IsRanged, IsTied}
+use Rattle.layers.specs.Labels.{bit_of, climb, merge_up, no_up, ups, first_label, arrival_over, merge, first_labels, labels_next}
 use Rattle.layers.specs.LabelLaws.{PathTo, LeadsTo, OnEvery, OnOne, Exactly}
 use Rattle.doors.proofs.Orders.{in_left}
 use Rattle.layers.proofs.Flows.{Climbs, outs-from, map-some, From, ins-from, next-some, next-at, gather-all}
@@ -112,7 +112,7 @@ path-last (L ∷ Ls) x (suc d) b (j ∷ w) q e =
     let s = path-last Ls q.0 d b w q.2 (omega arith) in
     record { before = j ∷ s.before; door = s.door; source = s.source; is = ap (λ (z : List ℕ). j ∷ z) s.is; path = (q.0, q.1, s.path); long = ap suc s.long; arc = s.arc }
 
-ranged-at : (D : Net) (d : ℕ) → Tied D → d < length D → Ranged (get_or D d []) (width (drop (suc d) D))
+ranged-at : (D : Net) (d : ℕ) → IsTied D → d < length D → IsRanged (get_or D d []) (width (drop (suc d) D))
 ranged-at [] d t h = absurd (not-suc-le-zero h)
 ranged-at (L ∷ []) zero t h = t
 ranged-at (L ∷ []) (suc d) t h = absurd (not-suc-le-zero (le_of_suc-le-suc h))
@@ -127,7 +127,7 @@ neat-at n (L ∷ Ls) (suc d) s h = neat-at n Ls d s.1 (le_of_suc-le-suc h)
 -- ---- downward
 module _ {S V : Type 0} {Keeps : List ℕ → Type 0} {Stands : S → List ℕ → Type 0} (by : Setting S V) (ruled : RuleLaws by.round.n by.rule Keeps Stands) (w1 : 1 ≤ by.width) where
   abbrev At : ℕ → Net → Labs by w1
-  At d D = labels_at by d (firsts by.rule by.tally) D
+  At d D = labels_at by d (first_labels by.rule by.tally) D
 
   labs-step : (d : ℕ) (labs : Labs by w1) (Ls : Net) → d < length Ls
       → labels_at by (suc d) labs Ls ≡ labels_next by (labels_at by d labs Ls) (get_or Ls d []) (width (drop (suc d) Ls))
@@ -138,31 +138,31 @@ module _ {S V : Type 0} {Keeps : List ℕ → Type 0} {Stands : S → List ℕ �
   module _ (D : Net) where
     -- a label is owed to the paths to its node
     pub owed-at : (d : ℕ) → d ≤ length D → (a : ℕ) (l : Down S V) → get_or (At d D) a None ≡ Some l → Owed l.all l.some (LeadsTo D d a)
-    unfolding labels_next arrive merge
+    unfolding labels_next arrival_over merge
     owed-at zero h zero l e =
-        let x : first by.rule by.tally ≡ l = cc in
+        let x : first_label by.rule by.tally ≡ l = cc in
         rw (← x) (record { way = ([], (refl, refl)); all-if = λ j f. absurd (f [] (refl, refl)); some-from = λ j g. absurd (none_has j g) })
     owed-at zero h (suc a) l e = absurd cc
     owed-at (suc d) h b m e =
         let L = get_or D d [] in
         let n = width (drop (suc d) D) in
-        let e' : get_or (labels_next by (At d D) L n) b None ≡ Some m = ap (λ (z : Labs by w1). get_or z b None) (sym (labs-step d (firsts by.rule by.tally) D h)) ∙ e in
+        let e' : get_or (labels_next by (At d D) L n) b None ≡ Some m = ap (λ (z : Labs by w1). get_or z b None) (sym (labs-step d (first_labels by.rule by.tally) D h)) ∙ e in
         gather-all (merge by.rule by.tally) (λ x. Owed x.all x.some (LeadsTo D (suc d) b))
         (λ x y p q. owed-merge x.all x.some y.all y.some (LeadsTo D (suc d) b) p q)
-        (ins (arrive by) b (At d D) L) m
-        (λ x i. let f = ins-from (arrive by) b (At d D) L x i in each x f (owed-at d (omega arith) f.source f.label f.labelled))
-        (next-some (arrive by) (merge by.rule by.tally) (At d D) L n b m e')
+        (arrivals_at (arrival_over by) b (At d D) L) m
+        (λ x i. let f = ins-from (arrival_over by) b (At d D) L x i in each x f (owed-at d (omega arith) f.source f.label f.labelled))
+        (next-some (arrival_over by) (merge by.rule by.tally) (At d D) L n b m e')
       where
-        each : (x : Down S V) (f : From (arrive by) b (At d D) (get_or D d []) x) → Owed f.label.all f.label.some (LeadsTo D d f.source) → Owed x.all x.some (LeadsTo D (suc d) b)
+        each : (x : Down S V) (f : From (arrival_over by) b (At d D) (get_or D d []) x) → Owed f.label.all f.label.some (LeadsTo D d f.source) → Owed x.all x.some (LeadsTo D (suc d) b)
         each x f o =
             rw f.is (owed-step f.label.all f.label.some f.door (LeadsTo D d f.source) (LeadsTo D (suc d) b) (λ w. w ++ (f.door ∷ [])) (at_back f.door)
             (λ w q. (path-push D 0 f.source f.door b w q.0 (rw q.1 f.arc), length-snoc w f.door ∙ ap suc q.1))
             o)
 
     -- a path to a node is told by its label
-    pub tells_at : Tied D → (d : ℕ) → d ≤ length D → (a : ℕ) (w : List ℕ) → LeadsTo D d a w → (l : Down S V) × (get_or (At d D) a None ≡ Some l) × Tells l.all l.some w
-    unfolding labels_next arrive merge
-    tells_at t zero h a [] q = (first by.rule by.tally, ap (λ (z : ℕ). get_or (firsts by.rule by.tally) z None) (sym q.0), record { all_in = λ j g. absurd (none_has j g); in_some = λ j i. absurd i })
+    pub tells_at : IsTied D → (d : ℕ) → d ≤ length D → (a : ℕ) (w : List ℕ) → LeadsTo D d a w → (l : Down S V) × (get_or (At d D) a None ≡ Some l) × Tells l.all l.some w
+    unfolding labels_next arrival_over merge
+    tells_at t zero h a [] q = (first_label by.rule by.tally, ap (λ (z : ℕ). get_or (first_labels by.rule by.tally) z None) (sym q.0), record { all_in = λ j g. absurd (none_has j g); in_some = λ j i. absurd i })
     tells_at t zero h a (j ∷ w) q = absurd (omega (arith, q.1))
     tells_at t (suc d) h b w q =
         let L = get_or D d [] in
@@ -172,9 +172,9 @@ module _ {S V : Type 0} {Keeps : List ℕ → Type 0} {Stands : S → List ℕ �
         let y = next-at {A = Down S V} (merge by.rule by.tally) (λ x y. (w : List ℕ) → Tells x.all x.some w → Tells y.all y.some w) (λ x w f. f) (λ x y z f g w h. g w (f w h))
         (λ x y w f. record { all_in = λ j h. f.all_in j (and_left x.all y.all j h); in_some = λ j i. or_left x.some y.some j (f.in_some j i) })
         (λ x y w f. record { all_in = λ j h. f.all_in j (and_right x.all y.all j h); in_some = λ j i. or_right x.some y.some j (f.in_some j i) })
-        (arrive by) (At d D) L n s.source s.door b x.0 s.arc x.1 (ranged-at D d t h s.source s.door b s.arc) in (
+        (arrival_over by) (At d D) L n s.source s.door b x.0 s.arc x.1 (ranged-at D d t h s.source s.door b s.arc) in (
           y.0,
-          rw (labs-step d (firsts by.rule by.tally) D h) y.1,
+          rw (labs-step d (first_labels by.rule by.tally) D h) y.1,
           y.2 w (subst (Tells (bit_or x.0.all (bit_of s.door)) (bit_or x.0.some (bit_of s.door))) (sym s.is) (tells-step x.0.all x.0.some s.door (λ w. w ++ (s.door ∷ [])) s.before (at_back s.door) x.2)),
         )
 
@@ -182,12 +182,12 @@ module _ {S V : Type 0} {Keeps : List ℕ → Type 0} {Stands : S → List ℕ �
     pub good-at : {Allows : ℕ → V → Type 0} (tallied : TallyLaws by.round.n by.tally Allows) → length D ≤ 16 → Neat by.round.n D → (d : ℕ) → d ≤ length D → Good by ruled tallied d (At d D)
     good-at tallied k s zero h = good-first by ruled tallied
     good-at tallied k s (suc d) h =
-        rw (labs-step d (firsts by.rule by.tally) D h) (good-next by ruled tallied d (At d D) (get_or D d []) (width (drop (suc d) D)) (omega arith) (good-at tallied k s d (omega arith)) (neat-at by.round.n D d s h))
+        rw (labs-step d (first_labels by.rule by.tally) D h) (good-next by ruled tallied d (At d D) (get_or D d []) (width (drop (suc d) D)) (omega arith) (good-at tallied k s d (omega arith)) (neat-at by.round.n D d s h))
 
 -- ---- upward
-ups-node : (L : Layer) (Ls : Net) (a : ℕ) (u : Up) → get_or (ups (L ∷ Ls)) a None ≡ Some u → gather merge_up (outs climb (ups Ls) 1 (node L a)) ≡ Some u
+ups-node : (L : Layer) (Ls : Net) (a : ℕ) (u : Up) → get_or (ups (L ∷ Ls)) a None ≡ Some u → gather merge_up (climbs_of climb (ups Ls) 1 (node L a)) ≡ Some u
 unfolding ups up
-ups-node L Ls a u e = map-some (λ nd. gather merge_up (outs climb (ups Ls) 1 nd)) L a u e
+ups-node L Ls a u e = map-some (λ nd. gather merge_up (climbs_of climb (ups Ls) 1 nd)) L a u e
 
 owed-up : (Ls : Net) (a : ℕ) (u : Up) → get_or (ups Ls) a None ≡ Some u → Owed u.allup u.someup (PathFrom Ls a)
 owed-up [] zero u e =
@@ -197,7 +197,7 @@ owed-up [] (suc a) u e = absurd (unfold ups up in cc)
 owed-up (L ∷ Ls) a u e =
     gather-all merge_up (λ x. Owed x.allup x.someup (PathFrom (L ∷ Ls) a))
     (λ x y p q. owed-merge x.allup x.someup y.allup y.someup (PathFrom (L ∷ Ls) a) p q)
-    (outs climb (ups Ls) 1 (node L a)) u
+    (climbs_of climb (ups Ls) 1 (node L a)) u
     (λ x i. let c = outs-from climb (ups Ls) x 1 (node L a) i in each x c (owed-up Ls c.to c.label c.labelled))
     (ups-node L Ls a u e)
   where

@@ -6,9 +6,9 @@ use Rattle.tallies.specs.Tallies.{TallySense}
 use Rattle.layers.specs.declared.refined.Refined.{Refined}
 use Rattle.layers.specs.declared.refined.Refined.TheVariants.{Whole, Full}
 use Rattle.layers.specs.declared.node.Up.{Up}
-use Rattle.layers.specs.Flow.{Net, node, width, count_arcs, ins, final, tidied, clash, join_at, seeks}
-use Rattle.layers.specs.Calls.{LayerLabels, thinned, trimmed, parted_at, agreed_all, quiet_from}
-use Rattle.layers.specs.Labels.{ups, no_up, firsts, blank, arrive, merge, labels_next, agreeing}
+use Rattle.layers.specs.Flow.{Net, node, width, count_arcs, arrivals_at, end_label, tidied_arcs, clash, joined_arcs, has_path_with}
+use Rattle.layers.specs.Calls.{LayerLabels, unbarred_arcs, affordable_arcs, parted_arcs, in_arcs_agree, nothing_barred}
+use Rattle.layers.specs.Labels.{ups, no_up, first_labels, blank_label, arrival_over, merge, labels_next, all_agree}
 use Rattle.layers.specs.declared.call.Call.{Call}
 use Rattle.layers.specs.declared.call.Call.TheVariants.{Sweep, Part, Join, Cut, Refine}
 use Rattle.layers.specs.Settings.{Setting}
@@ -16,7 +16,7 @@ use Rattle.layers.specs.declared.node.Down.{Down}
 
 -- a label, or that of a place that is not in use
 abbrev pub or_blank : {S V : Type 0} → RuleSense S → TallySense V → Option (Down S V) → Down S V
-or_blank rule tally o = unwrap_or o (blank rule tally)
+or_blank rule tally o = unwrap_or o (blank_label rule tally)
 
 abbrev pub or_no_up : Option Up → Up
 or_no_up o = unwrap_or o no_up
@@ -34,27 +34,27 @@ module _ {S V : Type 0} (by : Setting S V) where
   labels_at (suc d) labs (L ∷ Ls) = labels_at d (labels_next by labs L (width Ls)) Ls
 
   abbrev pub sweeps : ℕ → List (Option (Down S V)) → Net → Net
-  sweeps i labs Ls = thinned by.round by.rule i Ls (labels_from labs Ls)
+  sweeps i labs Ls = unbarred_arcs by.round by.rule i Ls (labels_from labs Ls)
 
   unfoldable pub sweep : Net → Net
-  unfolding thinned tidied
-  sweep Ls = tidied (sweeps 0 (firsts by.rule by.tally) Ls)
+  unfolding unbarred_arcs tidied_arcs
+  sweep Ls = tidied_arcs (sweeps 0 (first_labels by.rule by.tally) Ls)
 
   abbrev pub cuts : V → List (Option (Down S V)) → Net → Net
-  cuts c labs Ls = trimmed by.round by.tally c Ls (labels_from labs Ls)
+  cuts c labs Ls = affordable_arcs by.round by.tally c Ls (labels_from labs Ls)
 
   unfoldable pub cut : V → Net → Net
-  unfolding trimmed tidied
-  cut c Ls = tidied (cuts c (firsts by.rule by.tally) Ls)
+  unfolding affordable_arcs tidied_arcs
+  cut c Ls = tidied_arcs (cuts c (first_labels by.rule by.tally) Ls)
 
   -- d is the layer less one, a the place of the node
   abbrev pub part_at : ℕ → ℕ → List (Option (Down S V)) → Net → Net
-  part_at d a labs Ls = parted_at by d a (labels_at d labs Ls) Ls
+  part_at d a labs Ls = parted_arcs by d a (labels_at d labs Ls) Ls
 
   unfoldable pub one_group : ℕ → ℕ → List (Option (Down S V)) → Net → Bool
-  unfolding agreeing ins arrive labels_next
+  unfolding all_agree arrivals_at arrival_over labels_next
   one_group d a labs [] = true
-  one_group zero a labs (L ∷ Ls) = (agreeing by.rule) (ins (arrive by) a labs L)
+  one_group zero a labs (L ∷ Ls) = (all_agree by.rule) (arrivals_at (arrival_over by) a labs L)
   one_group (suc d) a labs (L ∷ Ls) = one_group d a ((labels_next by) labs L (width Ls)) Ls
 
   abbrev pub count : ℕ → Net → ℕ
@@ -72,7 +72,7 @@ module _ {S V : Type 0} (by : Setting S V) where
 
   module _ where
     unfoldable pub part : ℕ → ℕ → Net → Outcome
-    unfolding parted_at one_group
+    unfolding parted_arcs one_group
     part i a Ls =
         elim (bad_layer i) [
           | true ↦ refused 20
@@ -80,16 +80,16 @@ module _ {S V : Type 0} (by : Setting S V) where
               elim (bad_node i a Ls) [
                 | true ↦ refused 21
                 | false ↦
-                    elim (one_group (i - 1) (a - 1) (firsts by.rule by.tally) Ls) [
+                    elim (one_group (i - 1) (a - 1) (first_labels by.rule by.tally) Ls) [
                       | true ↦ refused 23
                       | false ↦
-                          elim (leb by.width (count i Ls)) [ true ↦ refused 24 | false ↦ done (part_at (i - 1) (a - 1) (firsts by.rule by.tally) Ls) ]
+                          elim (leb by.width (count i Ls)) [ true ↦ refused 24 | false ↦ done (part_at (i - 1) (a - 1) (first_labels by.rule by.tally) Ls) ]
                     ]
               ]
         ]
 
     unfoldable pub join : ℕ → ℕ → ℕ → Net → Outcome
-    unfolding clash join_at
+    unfolding clash joined_arcs
     join i a b Ls =
         elim (bad_layer i) [
           | true ↦ refused 20
@@ -103,7 +103,7 @@ module _ {S V : Type 0} (by : Setting S V) where
                           elim (clash (node (get_or Ls i []) (min a b - 1)) (node (get_or Ls i []) (max a b - 1))) [
                             | true ↦ refused 26
                             | false ↦
-                                done (join_at (i - 1) (min a b - 1) (max a b - 1) Ls)
+                                done (joined_arcs (i - 1) (min a b - 1) (max a b - 1) Ls)
                           ]
                     ]
               ]
@@ -117,16 +117,16 @@ module _ {S V : Type 0} (by : Setting S V) where
 
     -- parts of layer i from the node at place a on, k nodes at most; the flag says that the layer was full
     unfoldable pub parted : ℕ → ℕ → ℕ → Net → Bool × Net
-    unfolding parted_at one_group
+    unfolding parted_arcs one_group
     parted zero i a Ls = (false, Ls)
     parted (suc k) i a Ls =
         elim (leb (count i Ls) a) [
           | true ↦ (false, Ls)
           | false ↦
-              elim (one_group (i - 1) a (firsts by.rule by.tally) Ls) [
+              elim (one_group (i - 1) a (first_labels by.rule by.tally) Ls) [
                 | true ↦ parted k i (suc a) Ls
                 | false ↦
-                    elim (leb by.width (count i Ls)) [ true ↦ (true, Ls) | false ↦ parted k i (suc a) (part_at (i - 1) a (firsts by.rule by.tally) Ls) ]
+                    elim (leb by.width (count i Ls)) [ true ↦ (true, Ls) | false ↦ parted k i (suc a) (part_at (i - 1) a (first_labels by.rule by.tally) Ls) ]
               ]
         ]
 
@@ -162,23 +162,23 @@ module _ {S V : Type 0} (by : Setting S V) where
   valueO (Some l) = Some l.value
 
   unfoldable pub bound : Net → Option V
-  unfolding final arrive merge
-  bound Ls = valueO (final (arrive by) (merge by.rule by.tally) (firsts by.rule by.tally) Ls)
+  unfolding end_label arrival_over merge
+  bound Ls = valueO (end_label (arrival_over by) (merge by.rule by.tally) (first_labels by.rule by.tally) Ls)
 
   unfoldable pub must : ℕ → ℕ → Net → Bool
-  unfolding seeks
-  must i j Ls = not (seeks Ls 0 (j ∷ i ∷ []))
+  unfolding has_path_with
+  must i j Ls = not (has_path_with Ls 0 (j ∷ i ∷ []))
 
   abbrev pub agrees : List (Option (Down S V)) → Net → Bool
-  agrees labs Ls = agreed_all by Ls (labels_from labs Ls)
+  agrees labs Ls = in_arcs_agree by Ls (labels_from labs Ls)
 
   abbrev pub quiet : ℕ → List (Option (Down S V)) → Net → Bool
-  quiet i labs Ls = quiet_from by.round by.rule i Ls (labels_from labs Ls)
+  quiet i labs Ls = nothing_barred by.round by.rule i Ls (labels_from labs Ls)
 
   unfoldable pub settles : ℕ → List (Option (Down S V)) → Net → Bool
-  unfolding agreed_all quiet_from
+  unfolding in_arcs_agree nothing_barred
   settles i labs Ls = agrees labs Ls && quiet i labs Ls
 
   unfoldable pub settled : Net → Bool
   unfolding settles
-  settled Ls = settles 0 (firsts by.rule by.tally) Ls
+  settled Ls = settles 0 (first_labels by.rule by.tally) Ls

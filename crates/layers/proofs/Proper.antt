@@ -3,10 +3,10 @@ use Rattle.std.proofs.Common.{◌≡◌, ℕ, zero, suc, ◌<◌, ◌≤◌, Boo
 use Rattle.round.specs.declared.table.Round.{Round}
 use Rattle.rules.specs.Rules.{RuleSense}
 use Rattle.tallies.specs.Tallies.{TallySense}
-use Rattle.layers.specs.Flow.{table, Outs, Layer, Net, node, width, each_node, redirect, ins, Mark, marks_next, marks_up, flags, compress, renumber, tidy, tidied, without_at, moved, both_out, clash, join_at, Tied, Roomy, Lawful}
-use Rattle.layers.specs.Labels.{firsts, arrive, labels_next, agreeing, opened, all_doors}
+use Rattle.layers.specs.Flow.{table, Outs, Layer, Net, node, width, each_node, redirect, arrivals_at, Mark, marks_next, marks_up, flags, compress, renumber, tidy, tidied_arcs, without_place, place_after_join, both_out, clash, joined_arcs, IsTied, IsRoomy, IsLawful}
+use Rattle.layers.specs.Labels.{first_labels, arrival_over, labels_next, all_agree, opening_arcs, all_doors}
 use Rattle.layers.specs.declared.call.Call.{Call}
-use Rattle.layers.specs.Calls.{parted_at, thinned, trimmed}
+use Rattle.layers.specs.Calls.{parted_arcs, unbarred_arcs, affordable_arcs}
 use Rattle.layers.proofs.Ways.{length-snoc}
 use Rattle.layers.proofs.Flows.{Among, among-split}
 use Rattle.layers.proofs.Model.{one_group, parted, refines, sweeps, sweep, cuts, cut, part_at, after, labels_at}
@@ -16,7 +16,7 @@ use Rattle.layers.proofs.Keeping.{safe-after, safe-parted, safe-refines, any-cut
 use Rattle.layers.proofs.Tied.{redirect-length, tidied-tied}
 use Rattle.layers.proofs.Ties.{opened-tied, parted-tied, join_tied}
 use Rattle.layers.proofs.Lively.{roomy-tidied, roomy-join, roomy-sweeps, roomy-cuts, roomy-open}
-use Rattle.layers.proofs.Bridge.{Even, table-long, group_at}
+use Rattle.layers.proofs.Bridge.{IsEven, table-long, group_at}
 use Rattle.layers.specs.Settings.{Setting}
 use Rattle.layers.specs.declared.node.Down.{Down}
 
@@ -33,7 +33,7 @@ neat-of n [] h = tt
 neat-of n (L ∷ Ls) h = (λ nd i. omega (arith, h.0 nd i), neat-of n Ls h.1)
 
 module _ (n : ℕ) where
-  pub even-of : (Ls : Net) → EvenIn n Ls → Even n Ls
+  pub even-of : (Ls : Net) → EvenIn n Ls → IsEven n Ls
   even-of [] h = tt
   even-of (L ∷ Ls) h = (λ a k. h.0 (node L a) (node-among L a k), even-of Ls h.1)
 
@@ -62,8 +62,8 @@ module _ (n : ℕ) where
   even-set (x ∷ L) (suc i) v g h nd (inl e) = h nd (inl e)
   even-set (x ∷ L) (suc i) v g h nd (inr k) = even-set L i v g (λ y m. h y (inr m)) nd k
 
-  even-drop : (i : ℕ) (L : Layer) → EvenLayer n L → EvenLayer n (without_at i L)
-  unfolding without_at
+  even-drop : (i : ℕ) (L : Layer) → EvenLayer n L → EvenLayer n (without_place i L)
+  unfolding without_place
   even-drop zero [] h nd k = absurd k
   even-drop (suc i) [] h nd k = absurd k
   even-drop zero (x ∷ L) h nd k = h nd (inr k)
@@ -79,8 +79,8 @@ module _ (n : ℕ) where
     even-tidy (marks_next fr L (width Ls)) Ls h.1,
   )
 
-  even-tidied : (Ls : Net) → EvenIn n Ls → EvenIn n (tidied Ls)
-  unfolding tidied
+  even-tidied : (Ls : Net) → EvenIn n Ls → EvenIn n (tidied_arcs Ls)
+  unfolding tidied_arcs
   even-tidied [] h = tt
   even-tidied (L ∷ Ls) h = (even-redirect (λ a j b. renumber (flags (marks_next (Some tt ∷ []) L (width Ls)) (marks_up Ls)) b) L h.0, even-tidy (marks_next (Some tt ∷ []) L (width Ls)) Ls h.1)
 
@@ -91,28 +91,28 @@ both-even n (s ∷ x) [] a b = a
 both-even zero (s ∷ x) (t ∷ y) a b = absurd (omega arith)
 both-even (suc n) (s ∷ x) (t ∷ y) a b = ap suc (both-even n x y (omega arith) (omega arith))
 
-even-join : (n d lo hi : ℕ) (Ls : Net) → lo < hi → hi < length (get_or Ls (suc d) []) → EvenIn n Ls → EvenIn n (join_at d lo hi Ls)
-unfolding join_at
+even-join : (n d lo hi : ℕ) (Ls : Net) → lo < hi → hi < length (get_or Ls (suc d) []) → EvenIn n Ls → EvenIn n (joined_arcs d lo hi Ls)
+unfolding joined_arcs
 even-join n zero lo hi [] a b h = h
 even-join n (suc d) lo hi [] a b h = h
 even-join n zero lo hi (L ∷ []) a b h = h
 even-join n zero lo hi (L ∷ M ∷ Ls) a b h =
     let v = both_out (node M lo) (node M hi) in (
-      even-redirect n (λ a j b. suc (moved lo hi b)) L h.0,
+      even-redirect n (λ a j b. suc (place_after_join lo hi b)) L h.0,
       (even-drop n hi (set M lo v) (even-set n M lo v (both-even n (node M lo) (node M hi) (h.1.0 (node M lo) (node-among M lo (omega arith))) (h.1.0 (node M hi) (node-among M hi b))) h.1.0), h.1.1),
     )
 even-join n (suc d) lo hi (L ∷ Ls) a b h = (h.0, even-join n d lo hi Ls a b h.1)
 
-first-join : (d lo hi : ℕ) (Ls : Net) → width (join_at d lo hi Ls) ≡ width Ls
-unfolding join_at
+first-join : (d lo hi : ℕ) (Ls : Net) → width (joined_arcs d lo hi Ls) ≡ width Ls
+unfolding joined_arcs
 first-join zero lo hi [] = refl
 first-join (suc d) lo hi [] = refl
 first-join zero lo hi (L ∷ []) = refl
 first-join zero lo hi (L ∷ M ∷ Ls) = simp redirect-length
 first-join (suc d) lo hi (L ∷ Ls) = refl
 
-first-tidied : (Ls : Net) → width (tidied Ls) ≡ width Ls
-unfolding tidied
+first-tidied : (Ls : Net) → width (tidied_arcs Ls) ≡ width Ls
+unfolding tidied_arcs
 first-tidied [] = refl
 first-tidied (L ∷ Ls) = simp redirect-length
 
@@ -121,29 +121,29 @@ pub record Proper (n W : ℕ) (Ls : Net) : Type 0 where
   pub deep : length Ls ≡ n
   pub one_first : width Ls ≡ 1
   pub even : EvenIn n Ls
-  pub roomy : Roomy W Ls
-  pub tied : Tied Ls
+  pub roomy : IsRoomy W Ls
+  pub tied : IsTied Ls
 
-pub lawful : (n W : ℕ) (Ls : Net) → Proper n W Ls → Lawful n W Ls
+pub lawful : (n W : ℕ) (Ls : Net) → Proper n W Ls → IsLawful n W Ls
 lawful n W Ls p = record { deep = p.deep; one_first = p.one_first; even = even-of n Ls p.even; roomy = p.roomy; tied = p.tied }
 
 module _ {S V : Type 0} (by : Setting S V) (w : 1 ≤ by.width) where
   even-sweeps : (i : ℕ) (labs : List (Option (Down S V))) (Ls : Net) → EvenIn by.round.n Ls → EvenIn by.round.n (sweeps by i labs Ls) × (width (sweeps by i labs Ls) ≡ width Ls)
-  unfolding thinned
+  unfolding unbarred_arcs
   even-sweeps i labs [] h = (tt, refl)
   even-sweeps i labs (L ∷ Ls) h = ((even-redirect by.round.n _ L h.0, (even-sweeps (suc i) (labels_next by labs L (width Ls)) Ls h.1).0), simp redirect-length)
 
   even-cuts : (c : V) (labs : List (Option (Down S V))) (Ls : Net) → EvenIn by.round.n Ls → EvenIn by.round.n (cuts by c labs Ls) × (width (cuts by c labs Ls) ≡ width Ls)
-  unfolding trimmed
+  unfolding affordable_arcs
   even-cuts c labs [] h = (tt, refl)
   even-cuts c labs (L ∷ Ls) h = ((even-redirect by.round.n _ L h.0, (even-cuts c (labels_next by labs L (width Ls)) Ls h.1).0), simp redirect-length)
 
-  pub proper-opened : Proper by.round.n by.width (opened by.round.n)
+  pub proper-opened : Proper by.round.n by.width (opening_arcs by.round.n)
   proper-opened = record {
-    deep = unfold opened in table-long by.round.n (λ i. all_doors by.round.n ∷ []);
-    one_first = unfold opened in wide by.round.n;
-    even = unfold opened in evens by.round.n;
-    roomy = unfold opened in roomy-open by w by.round.n;
+    deep = unfold opening_arcs in table-long by.round.n (λ i. all_doors by.round.n ∷ []);
+    one_first = unfold opening_arcs in wide by.round.n;
+    even = unfold opening_arcs in evens by.round.n;
+    roomy = unfold opening_arcs in roomy-open by w by.round.n;
     tied = opened-tied by;
   }
     where
@@ -155,26 +155,26 @@ module _ {S V : Type 0} (by : Setting S V) (w : 1 ≤ by.width) where
       evens zero = tt
       evens (suc k) = (λ nd i. elim i [ inl e ↦ rw e (table-long by.round.n (λ m. 1)) | inr x ↦ absurd x ], evens k)
 
-  pub proper-tidied : (Ls : Net) → length Ls ≡ by.round.n → width Ls ≡ 1 → EvenIn by.round.n Ls → Roomy by.width Ls → Proper by.round.n by.width (tidied Ls)
+  pub proper-tidied : (Ls : Net) → length Ls ≡ by.round.n → width Ls ≡ 1 → EvenIn by.round.n Ls → IsRoomy by.width Ls → Proper by.round.n by.width (tidied_arcs Ls)
   proper-tidied Ls a b c d = record { deep = tidied-length Ls ∙ a; one_first = first-tidied Ls ∙ b; even = even-tidied by.round.n Ls c; roomy = roomy-tidied by.width Ls d; tied = tidied-tied Ls }
 
   pub proper-sweep : (Ls : Net) → Proper by.round.n by.width Ls → Proper by.round.n by.width (sweep by Ls)
   unfolding sweep
-  proper-sweep Ls p = let e = even-sweeps 0 (firsts by.rule by.tally) Ls p.even in
-      proper-tidied (sweeps by 0 (firsts by.rule by.tally) Ls) (sweeps-length by 0 (firsts by.rule by.tally) Ls ∙ p.deep) (e.1 ∙ p.one_first) e.0 (roomy-sweeps by w 0 (firsts by.rule by.tally) Ls p.roomy)
+  proper-sweep Ls p = let e = even-sweeps 0 (first_labels by.rule by.tally) Ls p.even in
+      proper-tidied (sweeps by 0 (first_labels by.rule by.tally) Ls) (sweeps-length by 0 (first_labels by.rule by.tally) Ls ∙ p.deep) (e.1 ∙ p.one_first) e.0 (roomy-sweeps by w 0 (first_labels by.rule by.tally) Ls p.roomy)
 
   pub proper-cut : (c : V) (Ls : Net) → Unit {0} → Proper by.round.n by.width Ls → Proper by.round.n by.width (cut by c Ls)
   unfolding cut
-  proper-cut c Ls u p = let e = even-cuts c (firsts by.rule by.tally) Ls p.even in
-      proper-tidied (cuts by c (firsts by.rule by.tally) Ls) (cuts-length by c (firsts by.rule by.tally) Ls ∙ p.deep) (e.1 ∙ p.one_first) e.0 (roomy-cuts by w c (firsts by.rule by.tally) Ls p.roomy)
+  proper-cut c Ls u p = let e = even-cuts c (first_labels by.rule by.tally) Ls p.even in
+      proper-tidied (cuts by c (first_labels by.rule by.tally) Ls) (cuts-length by c (first_labels by.rule by.tally) Ls ∙ p.deep) (e.1 ∙ p.one_first) e.0 (roomy-cuts by w c (first_labels by.rule by.tally) Ls p.roomy)
 
-  pub proper-join : (d lo hi : ℕ) (Ls : Net) → lo < hi → hi < length (get_or Ls (suc d) []) → clash (node (get_or Ls (suc d) []) lo) (node (get_or Ls (suc d) []) hi) ≡ false → Proper by.round.n by.width Ls → Proper by.round.n by.width (join_at d lo hi Ls)
+  pub proper-join : (d lo hi : ℕ) (Ls : Net) → lo < hi → hi < length (get_or Ls (suc d) []) → clash (node (get_or Ls (suc d) []) lo) (node (get_or Ls (suc d) []) hi) ≡ false → Proper by.round.n by.width Ls → Proper by.round.n by.width (joined_arcs d lo hi Ls)
   proper-join d lo hi Ls x y z p =
       record { deep = join-length d lo hi Ls ∙ p.deep; one_first = first-join d lo hi Ls ∙ p.one_first; even = even-join by.round.n d lo hi Ls x y p.even; roomy = roomy-join by.width d lo hi Ls y p.roomy; tied = join_tied d lo hi Ls x y z p.tied }
 
   -- parting with any labels of the layer before
-  parted-even : (d a : ℕ) (labs : List (Option (Down S V))) (Ls : Net) → a < length (get_or Ls (suc d) []) → EvenIn by.round.n Ls → EvenIn by.round.n (parted_at by d a labs Ls) × (width (parted_at by d a labs Ls) ≡ width Ls)
-  unfolding parted_at
+  parted-even : (d a : ℕ) (labs : List (Option (Down S V))) (Ls : Net) → a < length (get_or Ls (suc d) []) → EvenIn by.round.n Ls → EvenIn by.round.n (parted_arcs by d a labs Ls) × (width (parted_arcs by d a labs Ls) ≡ width Ls)
+  unfolding parted_arcs
   parted-even zero a labs [] k h = (h, refl)
   parted-even (suc d) a labs [] k h = (h, refl)
   parted-even zero a labs (L ∷ []) k h = (h, refl)
@@ -187,16 +187,16 @@ module _ {S V : Type 0} (by : Setting S V) (w : 1 ≤ by.width) where
   )
   parted-even (suc d) a labs (L ∷ Ls) k h = ((h.0, (parted-even d a labs Ls k h.1).0), refl)
 
-  parted-roomy : (d a : ℕ) (labs : List (Option (Down S V))) (Ls : Net) → length (get_or Ls (suc d) []) < by.width → Roomy by.width Ls → Roomy by.width (parted_at by d a labs Ls)
-  unfolding parted_at
+  parted-roomy : (d a : ℕ) (labs : List (Option (Down S V))) (Ls : Net) → length (get_or Ls (suc d) []) < by.width → IsRoomy by.width Ls → IsRoomy by.width (parted_arcs by d a labs Ls)
+  unfolding parted_arcs
   parted-roomy zero a labs [] k h = h
   parted-roomy (suc d) a labs [] k h = h
   parted-roomy zero a labs (L ∷ []) k h = h
   parted-roomy zero a labs (L ∷ M ∷ Ls) k h = (simp redirect-length h.0, (omega (arith, length-snoc M (node M a)), h.1.1))
   parted-roomy (suc d) a labs (L ∷ Ls) k h = (h.0, parted-roomy d a labs Ls k h.1)
 
-  parted-length : (d a : ℕ) (labs : List (Option (Down S V))) (Ls : Net) → length (parted_at by d a labs Ls) ≡ length Ls
-  unfolding parted_at
+  parted-length : (d a : ℕ) (labs : List (Option (Down S V))) (Ls : Net) → length (parted_arcs by d a labs Ls) ≡ length Ls
+  unfolding parted_arcs
   parted-length zero a labs [] = refl
   parted-length (suc d) a labs [] = refl
   parted-length zero a labs (L ∷ []) = refl
@@ -204,18 +204,18 @@ module _ {S V : Type 0} (by : Setting S V) (w : 1 ≤ by.width) where
   parted-length (suc d) a labs (L ∷ Ls) = ap suc (parted-length d a labs Ls)
 
   pub proper-parted-at : ((s : S) → by.rule.same s s ≡ true) → (d a : ℕ) (labs : List (Option (Down S V))) (Ls : Net) → a < length (get_or Ls (suc d) []) → length (get_or Ls (suc d) []) < by.width
-      → agreeing by.rule (ins (arrive by) a labs (get_or Ls d [])) ≡ false → Proper by.round.n by.width Ls → Proper by.round.n by.width (parted_at by d a labs Ls)
+      → all_agree by.rule (arrivals_at (arrival_over by) a labs (get_or Ls d [])) ≡ false → Proper by.round.n by.width Ls → Proper by.round.n by.width (parted_arcs by d a labs Ls)
   proper-parted-at self d a labs Ls x y z p =
       let e = parted-even d a labs Ls x p.even in
       record { deep = parted-length d a labs Ls ∙ p.deep; one_first = e.1 ∙ p.one_first; even = e.0; roomy = parted-roomy d a labs Ls y p.roomy; tied = parted-tied by self d a labs Ls x z p.tied }
 
 -- parting, and so a list of calls, by the laws of the rule: an arrival agrees with itself
 module _ {S V : Type 0} (by : Setting S V) (self : (s : S) → by.rule.same s s ≡ true) (w : 1 ≤ by.width) where
-  pub proper-part : (d a : ℕ) (Ls : Net) → a < length (get_or Ls (suc d) []) → length (get_or Ls (suc d) []) < by.width → one_group by d a (firsts by.rule by.tally) Ls ≡ false → Proper by.round.n by.width Ls → Proper by.round.n by.width (part_at by d a (firsts by.rule by.tally) Ls)
+  pub proper-part : (d a : ℕ) (Ls : Net) → a < length (get_or Ls (suc d) []) → length (get_or Ls (suc d) []) < by.width → one_group by d a (first_labels by.rule by.tally) Ls ≡ false → Proper by.round.n by.width Ls → Proper by.round.n by.width (part_at by d a (first_labels by.rule by.tally) Ls)
   proper-part d a Ls x y z p =
       let in' = there (suc d) Ls a x in
-      let g = group_at by w d a (firsts by.rule by.tally) Ls (omega arith) in
-      proper-parted-at by w self d a (labels_at by d (firsts by.rule by.tally) Ls) Ls x y (sym g ∙ z) p
+      let g = group_at by w d a (first_labels by.rule by.tally) Ls (omega arith) in
+      proper-parted-at by w self d a (labels_at by d (first_labels by.rule by.tally) Ls) Ls x y (sym g ∙ z) p
     where
       there : (d : ℕ) (Ls : Net) (a : ℕ) → a < length (get_or Ls d []) → d < length Ls
       there d [] a h = absurd (omega arith)

@@ -6,9 +6,9 @@ use Rattle.rules.specs.Rules.{RuleSense}
 use Rattle.tallies.specs.Tallies.{TallySense}
 use Rattle.layers.specs.declared.node.Node.{Node}
 use Rattle.layers.specs.Flow.{Layer, Net, redirect, count_arcs, every_arc}
-use Rattle.layers.specs.Labels.{barred}
-use Rattle.layers.specs.Records.{arcs_in, downs_in, ups_in, drawn}
-use Rattle.layers.specs.Calls.{thinned, quiet_from, LayerLabels}
+use Rattle.layers.specs.Labels.{is_barred}
+use Rattle.layers.specs.Records.{arcs_in, downs_in, ups_in, arcs_of_layers}
+use Rattle.layers.specs.Calls.{unbarred_arcs, nothing_barred, LayerLabels}
 use Rattle.layers.proofs.Counts.{nodes-fewer, redirect-fewer, redirect-same, layer-quiet}
 use Rattle.layers.proofs.Exact.{every_arc-at}
 use Rattle.layers.proofs.Standing.{same_bool}
@@ -22,27 +22,27 @@ kept-all t L e = redirect-same (λ a j b. cond (t a j b) 0 (suc b)) L
 module _ {S V : Type 0} (r : Round) (rule : RuleSense S) where
   -- whether a sweep takes out the arc by j from place a to place b, with the labels x of a layer i that has h layers of arcs from there on
   abbrev gone : ℕ → ℕ → LayerLabels S V → ℕ → ℕ → ℕ → Bool
-  gone i h x a j b = barred r rule i h j (get_or x.downs a None) (get_or x.ups b None)
+  gone i h x a j b = is_barred r rule i h j (get_or x.downs a None) (get_or x.ups b None)
 
-  thinned-fewer : (i : ℕ) (Ls : Net) (labs : List (LayerLabels S V)) → count_arcs (thinned r rule i Ls labs) ≤ count_arcs Ls
-  unfolding count_arcs thinned
+  thinned-fewer : (i : ℕ) (Ls : Net) (labs : List (LayerLabels S V)) → count_arcs (unbarred_arcs r rule i Ls labs) ≤ count_arcs Ls
+  unfolding count_arcs unbarred_arcs
   thinned-fewer i [] labs = omega arith
   thinned-fewer i (L ∷ Ls) [] = omega arith
   thinned-fewer i (L ∷ Ls) (x ∷ labs) = omega (arith, redirect-fewer (λ a j b. cond (gone i (suc (length Ls)) x a j b) 0 (suc b)) L, thinned-fewer (suc i) Ls labs)
 
   -- if no arc is barred, the arcs stay as they are
-  quiet-kept : (i : ℕ) (Ls : Net) (labs : List (LayerLabels S V)) → quiet_from r rule i Ls labs ≡ true → thinned r rule i Ls labs ≡ Ls
-  unfolding thinned quiet_from
+  quiet-kept : (i : ℕ) (Ls : Net) (labs : List (LayerLabels S V)) → nothing_barred r rule i Ls labs ≡ true → unbarred_arcs r rule i Ls labs ≡ Ls
+  unfolding unbarred_arcs nothing_barred
   quiet-kept i [] labs e = refl
   quiet-kept i (L ∷ Ls) [] e = refl
   quiet-kept i (L ∷ Ls) (x ∷ labs) e =
       let t = gone i (suc (length Ls)) x in
-      let q = and_parts (every_arc (λ a j b. not (t a j b)) 0 L) (quiet_from r rule (suc i) Ls labs) e in
+      let q = and_parts (every_arc (λ a j b. not (t a j b)) 0 L) (nothing_barred r rule (suc i) Ls labs) e in
       ap₂ (λ (x : Layer) (y : Net). x ∷ y) (kept-all t L q.0) (quiet-kept (suc i) Ls labs q.1)
 
   -- if as many arcs stay, none is barred
-  count-quiet : (i : ℕ) (Ls : Net) (labs : List (LayerLabels S V)) → count_arcs (thinned r rule i Ls labs) ≡ count_arcs Ls → quiet_from r rule i Ls labs ≡ true
-  unfolding thinned quiet_from count_arcs redirect
+  count-quiet : (i : ℕ) (Ls : Net) (labs : List (LayerLabels S V)) → count_arcs (unbarred_arcs r rule i Ls labs) ≡ count_arcs Ls → nothing_barred r rule i Ls labs ≡ true
+  unfolding unbarred_arcs nothing_barred count_arcs redirect
   count-quiet i [] labs e = refl
   count-quiet i (L ∷ Ls) [] e = refl
   count-quiet i (L ∷ Ls) (l ∷ labs) e =
@@ -53,8 +53,8 @@ module _ {S V : Type 0} (r : Round) (rule : RuleSense S) where
       rw p (count-quiet (suc i) Ls labs (omega arith))
 
   -- as many arcs stay exactly when none is barred
-  pub thinned-quiet : (i : ℕ) (Ls : Net) (labs : List (LayerLabels S V)) → eqb (count_arcs (thinned r rule i Ls labs)) (count_arcs Ls) ≡ quiet_from r rule i Ls labs
+  pub thinned-quiet : (i : ℕ) (Ls : Net) (labs : List (LayerLabels S V)) → eqb (count_arcs (unbarred_arcs r rule i Ls labs)) (count_arcs Ls) ≡ nothing_barred r rule i Ls labs
   thinned-quiet i Ls labs =
-      let a = count_arcs (thinned r rule i Ls labs) in
+      let a = count_arcs (unbarred_arcs r rule i Ls labs) in
       let b = count_arcs Ls in
-      same_bool (eqb a b) (quiet_from r rule i Ls labs) (λ e. count-quiet i Ls labs (eqb-true a b e)) (λ e. eq-eqb a b (ap count_arcs (quiet-kept i Ls labs e)))
+      same_bool (eqb a b) (nothing_barred r rule i Ls labs) (λ e. count-quiet i Ls labs (eqb-true a b e)) (λ e. eq-eqb a b (ap count_arcs (quiet-kept i Ls labs e)))

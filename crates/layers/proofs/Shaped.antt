@@ -7,12 +7,12 @@ use Rattle.round.specs.declared.table.Round.{Round}
 use Rattle.rules.specs.Rules.{RuleSense}
 use Rattle.tallies.specs.Tallies.{TallySense}
 use Rattle.layers.specs.declared.node.Node.{Node}
-use Rattle.layers.specs.Flow.{table, Outs, Layer, Net, node, target, width, redirect, count_doors, count_layer, tidied, Ranged, Tied, Roomy}
+use Rattle.layers.specs.Flow.{table, Outs, Layer, Net, node, target, width, redirect, count_doors, count_layer, tidied_arcs, IsRanged, IsTied, IsRoomy}
 use Rattle.layers.specs.declared.node.Up.{Up}
-use Rattle.layers.specs.Labels.{firsts, labels_next, no_up, barred, dear}
-use Rattle.layers.specs.Records.{used, standing, layers, arcs_in, downs_in, ups_in, drawn, arcs_at, laid_arcs, arcs_read, place}
-use Rattle.layers.specs.Calls.{arcs, layer, thinned, trimmed, relaid, LayerLabels}
-use Rattle.layers.specs.Shape.{targets_of, Ended, Shaped}
+use Rattle.layers.specs.Labels.{first_labels, labels_next, no_up, is_barred, is_above_ceiling}
+use Rattle.layers.specs.Records.{is_used, nodes_in, layers, arcs_in, downs_in, ups_in, arcs_of_layers, arcs_at, laid_arcs, arcs_read, record_of_place}
+use Rattle.layers.specs.Calls.{arcs, layer, unbarred_arcs, affordable_arcs, records_with, LayerLabels}
+use Rattle.layers.specs.Shape.{targets_of, HasEnd, IsShaped}
 use Rattle.layers.proofs.Flows.{Among}
 use Rattle.layers.proofs.Bridge.{ups-end, Full, top, stood, table-long}
 use Rattle.layers.proofs.Counts.{tidied-same}
@@ -24,21 +24,21 @@ use Rattle.layers.specs.Settings.{Setting}
 use Rattle.layers.specs.declared.node.Down.{Down}
 
 -- ---- the nodes that stand are the first of their places
-pub standing-at : {S V : Type 0} (us : List (Node S V)) (a : ℕ) (d : Node S V) → a < length (standing us) → get_or (standing us) a d ≡ get_or us a d
+pub standing-at : {S V : Type 0} (us : List (Node S V)) (a : ℕ) (d : Node S V) → a < length (nodes_in us) → get_or (nodes_in us) a d ≡ get_or us a d
 standing-at [] a d h = refl
-standing-at (u ∷ us) a d h = go (used u) a h (λ b k. standing-at us b d k)
+standing-at (u ∷ us) a d h = go (is_used u) a h (λ b k. standing-at us b d k)
   where
-    go : (q : Bool) (a : ℕ) → a < length (cond q (u ∷ standing us) []) → ((b : ℕ) → b < length (standing us) → get_or (standing us) b d ≡ get_or us b d) → get_or (cond q (u ∷ standing us) []) a d ≡ get_or (u ∷ us) a d
+    go : (q : Bool) (a : ℕ) → a < length (cond q (u ∷ nodes_in us) []) → ((b : ℕ) → b < length (nodes_in us) → get_or (nodes_in us) b d ≡ get_or us b d) → get_or (cond q (u ∷ nodes_in us) []) a d ≡ get_or (u ∷ us) a d
     go true zero h f = refl
     go true (suc a) h f = f a (omega arith)
     go false a h f = absurd (omega arith)
 
 -- ---- depth and room
-pub standing-short : {S V : Type 0} (us : List (Node S V)) → length (standing us) ≤ length us
+pub standing-short : {S V : Type 0} (us : List (Node S V)) → length (nodes_in us) ≤ length us
 standing-short [] = omega arith
-standing-short (u ∷ us) = go (used u) (standing-short us)
+standing-short (u ∷ us) = go (is_used u) (standing-short us)
   where
-    go : (q : Bool) → length (standing us) ≤ length us → length (cond q (u ∷ standing us) []) ≤ suc (length us)
+    go : (q : Bool) → length (nodes_in us) ≤ length us → length (cond q (u ∷ nodes_in us) []) ≤ suc (length us)
     go true h = omega arith
     go false h = omega arith
 
@@ -56,15 +56,15 @@ drop-among (suc w) (suc m) [] x i = absurd i
 drop-among (suc w) m (y ∷ xs) x i = rw (suc-add w m) (inr (drop-among w m xs x i))
 
 module _ {S V : Type 0} (n W : ℕ) where
-  drawn-deep : (k : ℕ) (xs : List (Node S V)) → length (drawn n (layers W k xs)) ≡ k
+  drawn-deep : (k : ℕ) (xs : List (Node S V)) → length (arcs_of_layers n (layers W k xs)) ≡ k
   drawn-deep zero xs = refl
   drawn-deep (suc zero) xs = refl
   drawn-deep (suc (suc k)) xs = ap suc (drawn-deep (suc k) (drop W xs))
 
-  arcs-short : (us : List (Node S V)) → length (arcs_in n (standing (take W us))) ≤ W
-  arcs-short us = omega (arith, length-map (standing (take W us)) (λ (x : Node S V). take n x.arcs.to), standing-short (take W us), length-take W us)
+  arcs-short : (us : List (Node S V)) → length (arcs_in n (nodes_in (take W us))) ≤ W
+  arcs-short us = omega (arith, length-map (nodes_in (take W us)) (λ (x : Node S V). take n x.arcs.to), standing-short (take W us), length-take W us)
 
-  drawn-roomy : (k : ℕ) (xs : List (Node S V)) → Roomy W (drawn n (layers W k xs))
+  drawn-roomy : (k : ℕ) (xs : List (Node S V)) → IsRoomy W (arcs_of_layers n (layers W k xs))
   drawn-roomy zero xs = tt
   drawn-roomy (suc zero) xs = (arcs-short xs, tt)
   drawn-roomy (suc (suc k)) xs = (arcs-short xs, drawn-roomy (suc k) (drop W xs))
@@ -73,11 +73,11 @@ module _ {S V : Type 0} (n W : ℕ) where
   abbrev Long : List (Node S V) → Type 0
   Long us = (x : Node S V) → Among x us → length x.arcs.to ≡ 16
 
-  standing-among : (us : List (Node S V)) (x : Node S V) → Among x (standing us) → Among x us
+  standing-among : (us : List (Node S V)) (x : Node S V) → Among x (nodes_in us) → Among x us
   standing-among [] x i = i
-  standing-among (u ∷ us) x i = go (used u) i (λ h. standing-among us x h)
+  standing-among (u ∷ us) x i = go (is_used u) i (λ h. standing-among us x h)
     where
-      go : (q : Bool) → Among x (cond q (u ∷ standing us) []) → (Among x (standing us) → Among x us) → Among x (u ∷ us)
+      go : (q : Bool) → Among x (cond q (u ∷ nodes_in us) []) → (Among x (nodes_in us) → Among x us) → Among x (u ∷ us)
       go true (inl e) f = inl e
       go true (inr h) f = inr (f h)
       go false h f = absurd h
@@ -87,13 +87,13 @@ module _ {S V : Type 0} (n W : ℕ) where
   arcs-even (u ∷ us) h l nd (inl e) = ap length e ∙ length-take-le n u.arcs.to (omega (arith, l u (inl refl)))
   arcs-even (u ∷ us) h l nd (inr i) = arcs-even us h (λ x j. l x (inr j)) nd i
 
-  drawn-even : (k : ℕ) (xs : List (Node S V)) → n ≤ 16 → Long (take (k * W + 1) xs) → EvenIn n (drawn n (layers W k xs))
+  drawn-even : (k : ℕ) (xs : List (Node S V)) → n ≤ 16 → Long (take (k * W + 1) xs) → EvenIn n (arcs_of_layers n (layers W k xs))
   drawn-even zero xs h l = tt
-  drawn-even (suc zero) xs h l = (arcs-even (standing (take W xs)) h (λ x i. l x (take-among W (suc 0 * W + 1) xs x (omega (arith, suc-mul 0 W)) (standing-among (take W xs) x i))), tt)
+  drawn-even (suc zero) xs h l = (arcs-even (nodes_in (take W xs)) h (λ x i. l x (take-among W (suc 0 * W + 1) xs x (omega (arith, suc-mul 0 W)) (standing-among (take W xs) x i))), tt)
   drawn-even (suc (suc k)) xs h l =
       let m = suc k * W + 1 in
       let e : W + m ≡ suc (suc k) * W + 1 = omega (arith, suc-mul (suc k) W) in (
-        arcs-even (standing (take W xs)) h (λ x i. l x (take-among W (suc (suc k) * W + 1) xs x (omega (arith, e)) (standing-among (take W xs) x i))),
+        arcs-even (nodes_in (take W xs)) h (λ x i. l x (take-among W (suc (suc k) * W + 1) xs x (omega (arith, e)) (standing-among (take W xs) x i))),
         drawn-even (suc k) (drop W xs) h (λ x i. l x (rw (← e) (drop-among W m xs x i))),
       )
 
@@ -115,7 +115,7 @@ targets-among (u ∷ us) x (inr i) = inr (targets-among us x i)
 
 -- ---- the arcs of records of that shape
 module _ {S V : Type 0} (r : Round) (W : ℕ) (xs : List (Node S V)) where
-  pub shaped-proper : Shaped r.n W xs → Proper r.n W (arcs r.n W xs)
+  pub shaped-proper : IsShaped r.n W xs → Proper r.n W (arcs r.n W xs)
   shaped-proper s = record {
     deep = drawn-deep r.n W r.n xs;
     one_first = s.first;
@@ -160,25 +160,25 @@ some-there [] o b u e = absurd cc
 some-there (x ∷ xs) o b u e = omega arith
 
 module _ {S V : Type 0} (by : Setting S V) (w : 1 ≤ by.width) where
-  end-stands : (labs : List (Option (Down S V))) (L : Layer) (Ms : Net) → Tied (L ∷ Ms) → Full by w labs (L ∷ Ms) → (a j b : ℕ) → target (node (get_or (L ∷ Ms) (length Ms) []) a) j ≡ suc b
+  end-stands : (labs : List (Option (Down S V))) (L : Layer) (Ms : Net) → IsTied (L ∷ Ms) → Full by w labs (L ∷ Ms) → (a j b : ℕ) → target (node (get_or (L ∷ Ms) (length Ms) []) a) j ≡ suc b
       → length (get_or (stood by w labs (L ∷ Ms)) (suc (length Ms)) []) ≡ 1
   end-stands labs L [] t f a j b e =
       let E = top by w (labels_next by labs L 1) [] in
       let z : b ≡ 0 = omega (arith, t a j b e) in
       let lo = some-there E (λ x. Some x.label.up) b no_up (f.0.tops a j b e ∙ ups-end b z) in
-      let hi = standing-short (place by [] (labels_next by labs L 1) [] 0 ∷ []) in
+      let hi = standing-short (record_of_place by [] (labels_next by labs L 1) [] 0 ∷ []) in
       omega arith
   end-stands labs L (M ∷ Ms) t f a j b e = end-stands (labels_next by labs L (length M)) M Ms t.3 f.1 a j b e
 
-  end_of : (Ls : Net) (n : ℕ) → length Ls ≡ n → 1 ≤ n → Tied Ls → Full by w (firsts by.rule by.tally) Ls → (a j b : ℕ) → target (node (get_or Ls (n - 1) []) a) j ≡ suc b → length (get_or (stood by w (firsts by.rule by.tally) Ls) n []) ≡ 1
+  end_of : (Ls : Net) (n : ℕ) → length Ls ≡ n → 1 ≤ n → IsTied Ls → Full by w (first_labels by.rule by.tally) Ls → (a j b : ℕ) → target (node (get_or Ls (n - 1) []) a) j ≡ suc b → length (get_or (stood by w (first_labels by.rule by.tally) Ls) n []) ≡ 1
   end_of [] n d h t f a j b e = absurd (omega arith)
   end_of (L ∷ Ms) n d h t f a j b e =
       let z : n - 1 ≡ length Ms = omega arith in
       let y : n ≡ suc (length Ms) = sym d in
-      rw y (end-stands (firsts by.rule by.tally) L Ms t f a j b (rw (← z) e))
+      rw y (end-stands (first_labels by.rule by.tally) L Ms t f a j b (rw (← z) e))
 
 -- ---- the end's place is in use if an arc leads to it
-pub ended-one : {S V : Type 0} (n W : ℕ) (xs : List (Node S V)) → Ended n W xs → (a j b : ℕ) → target (node (get_or (arcs n W xs) (n - 1) []) a) j ≡ suc b → length (layer n W n xs) ≡ 1
+pub ended-one : {S V : Type 0} (n W : ℕ) (xs : List (Node S V)) → HasEnd n W xs → (a j b : ℕ) → target (node (get_or (arcs n W xs) (n - 1) []) a) j ≡ suc b → length (layer n W n xs) ≡ 1
 ended-one n W xs h a j b e =
     let some = arc-counts (get_or (arcs n W xs) (n - 1) []) a j b e in
     let at = ap (λ (N : List (Node _ _)). length N) (end-at W n xs) in
@@ -187,28 +187,28 @@ ended-one n W xs h a j b e =
 
 -- ---- arcs laid out anew
 module _ {S V : Type 0} (by : Setting S V) (w : 1 ≤ by.width) (xs : List (Node S V)) (Ls : Net) (p : Proper by.round.n by.width Ls) where
-  pub arcs-relaid : arcs by.round.n by.width (relaid by xs Ls) ≡ Ls
-  unfolding relaid
+  pub arcs-relaid : arcs by.round.n by.width (records_with by xs Ls) ≡ Ls
+  unfolding records_with
   arcs-relaid = arcs-laid by w (drop (by.round.n * by.width + 1) xs) Ls p
 
-  stands-at-end : (a j b : ℕ) → target (node (get_or (arcs by.round.n by.width (relaid by xs Ls)) (by.round.n - 1) []) a) j ≡ suc b → length (layer by.round.n by.width by.round.n (relaid by xs Ls)) ≡ 1
-  unfolding relaid
+  stands-at-end : (a j b : ℕ) → target (node (get_or (arcs by.round.n by.width (records_with by xs Ls)) (by.round.n - 1) []) a) j ≡ suc b → length (layer by.round.n by.width by.round.n (records_with by xs Ls)) ≡ 1
+  unfolding records_with
   stands-at-end a j b e =
       rw (nodes-laid by w (drop (by.round.n * by.width + 1) xs) Ls p) (end_of by w Ls by.round.n p.deep by.round.one p.tied (full by w (drop (by.round.n * by.width + 1) xs) Ls p) a j b (rw (← arcs-relaid) e))
 
-  ended' : Ended by.round.n by.width (relaid by xs Ls)
+  ended' : HasEnd by.round.n by.width (records_with by xs Ls)
   ended' =
-      let L = get_or (arcs by.round.n by.width (relaid by xs Ls)) (by.round.n - 1) [] in
+      let L = get_or (arcs by.round.n by.width (records_with by xs Ls)) (by.round.n - 1) [] in
       ⊎_elim
       (λ (none : count_layer L < 1). omega arith)
       (λ (some : 1 ≤ count_layer L). let q = counted-arc L some in let z = stands-at-end q.0 q.1 q.2 q.3 in omega arith)
       (cases_lt (count_layer L) 1)
 
-  pub relaid-shaped : Shaped by.round.n by.width (relaid by xs Ls)
-  unfolding relaid
+  pub relaid-shaped : IsShaped by.round.n by.width (records_with by xs Ls)
+  unfolding records_with
   relaid-shaped = record {
     written = ap targets_of (written by w (drop (by.round.n * by.width + 1) xs) Ls p);
-    tidy = ap tidied arcs-relaid ∙ tidied-same Ls p.one_first p.tied ∙ sym arcs-relaid;
+    tidy = ap tidied_arcs arcs-relaid ∙ tidied-same Ls p.one_first p.tied ∙ sym arcs-relaid;
     first = ap width arcs-relaid ∙ p.one_first;
     ended = ended';
   }
@@ -216,9 +216,9 @@ module _ {S V : Type 0} (by : Setting S V) (w : 1 ≤ by.width) (xs : List (Node
 -- ---- no arc leads out of the next layer
 abbrev pub RangedAll : Net → Type 0
 RangedAll [] = Unit {0}
-RangedAll (L ∷ Ls) = Ranged L (width Ls) × RangedAll Ls
+RangedAll (L ∷ Ls) = IsRanged L (width Ls) × RangedAll Ls
 
-pub tied-ranged : (Ls : Net) → Tied Ls → RangedAll Ls
+pub tied-ranged : (Ls : Net) → IsTied Ls → RangedAll Ls
 tied-ranged [] t = tt
 tied-ranged (L ∷ []) t = (t, tt)
 tied-ranged (L ∷ M ∷ Ls) t = (t.0, tied-ranged (M ∷ Ls) t.3)
@@ -228,7 +228,7 @@ either-back : (q : Bool) (b c : ℕ) → cond q 0 (suc b) ≡ suc c → b ≡ c
 either-back true b c e = absurd (omega arith)
 either-back false b c e = omega arith
 
-less-ranged : (t : ℕ → ℕ → ℕ → Bool) (L : Layer) (m : ℕ) → Ranged L m → Ranged (redirect (λ a j b. cond (t a j b) 0 (suc b)) L) m
+less-ranged : (t : ℕ → ℕ → ℕ → Bool) (L : Layer) (m : ℕ) → IsRanged L m → IsRanged (redirect (λ a j b. cond (t a j b) 0 (suc b)) L) m
 less-ranged t L m h a j c e =
     let q = redirect-back (λ a j b. cond (t a j b) 0 (suc b)) L a j c e in
     let same = either-back (t a j q.0) q.0 c q.2 in
@@ -240,7 +240,7 @@ pub record Less (n W : ℕ) (Ls Ms : Net) : Type 0 where
   pub deep : length Ms ≡ length Ls
   pub wide : width Ms ≡ width Ls
   pub even : EvenIn n Ls → EvenIn n Ms
-  pub roomy : Roomy W Ls → Roomy W Ms
+  pub roomy : IsRoomy W Ls → IsRoomy W Ms
   pub ranged : RangedAll Ls → RangedAll Ms
 
 less-layer : (n W : ℕ) (t : ℕ → ℕ → ℕ → Bool) (L : Layer) (Ls Ms : Net) → Less n W Ls Ms → Less n W (L ∷ Ls) (redirect (λ a j b. cond (t a j b) 0 (suc b)) L ∷ Ms)
@@ -256,20 +256,20 @@ less_refl : (n W : ℕ) (Ls : Net) → Less n W Ls Ls
 less_refl n W Ls = record { deep = refl; wide = refl; even = λ h. h; roomy = λ h. h; ranged = λ h. h }
 
 module _ {S V : Type 0} (by : Setting S V) where
-  pub thinned-less : (i : ℕ) (Ls : Net) (labs : List (LayerLabels S V)) → Less by.round.n by.width Ls (thinned by.round by.rule i Ls labs)
-  unfolding thinned
+  pub thinned-less : (i : ℕ) (Ls : Net) (labs : List (LayerLabels S V)) → Less by.round.n by.width Ls (unbarred_arcs by.round by.rule i Ls labs)
+  unfolding unbarred_arcs
   thinned-less i [] labs = less_refl by.round.n by.width []
   thinned-less i (L ∷ Ls) [] = less_refl by.round.n by.width (L ∷ Ls)
   thinned-less i (L ∷ Ls) (x ∷ labs) =
-      less-layer by.round.n by.width (λ a j b. barred by.round by.rule i (suc (length Ls)) j (get_or x.downs a None) (get_or x.ups b None)) L Ls (thinned by.round by.rule (suc i) Ls labs) (thinned-less (suc i) Ls labs)
+      less-layer by.round.n by.width (λ a j b. is_barred by.round by.rule i (suc (length Ls)) j (get_or x.downs a None) (get_or x.ups b None)) L Ls (unbarred_arcs by.round by.rule (suc i) Ls labs) (thinned-less (suc i) Ls labs)
 
-  pub trimmed-less : (c : V) (Ls : Net) (labs : List (LayerLabels S V)) → Less by.round.n by.width Ls (trimmed by.round by.tally c Ls labs)
-  unfolding trimmed
+  pub trimmed-less : (c : V) (Ls : Net) (labs : List (LayerLabels S V)) → Less by.round.n by.width Ls (affordable_arcs by.round by.tally c Ls labs)
+  unfolding affordable_arcs
   trimmed-less c [] labs = less_refl by.round.n by.width []
   trimmed-less c (L ∷ Ls) [] = less_refl by.round.n by.width (L ∷ Ls)
   trimmed-less c (L ∷ Ls) (x ∷ labs) =
-      less-layer by.round.n by.width (λ a j b. dear by.round by.tally c j (get_or x.downs a None)) L Ls (trimmed by.round by.tally c Ls labs) (trimmed-less c Ls labs)
+      less-layer by.round.n by.width (λ a j b. is_above_ceiling by.round by.tally c j (get_or x.downs a None)) L Ls (affordable_arcs by.round by.tally c Ls labs) (trimmed-less c Ls labs)
 
   -- what is left of a proper net, tidied, is proper
-  pub proper-less : 1 ≤ by.width → (Ls Ms : Net) → Less by.round.n by.width Ls Ms → Proper by.round.n by.width Ls → Proper by.round.n by.width (tidied Ms)
+  pub proper-less : 1 ≤ by.width → (Ls Ms : Net) → Less by.round.n by.width Ls Ms → Proper by.round.n by.width Ls → Proper by.round.n by.width (tidied_arcs Ms)
   proper-less w Ls Ms l p = proper-tidied by w Ms (l.deep ∙ p.deep) (l.wide ∙ p.one_first) (l.even p.even) (l.roomy p.roomy)

@@ -5,9 +5,9 @@ use Rattle.round.specs.declared.table.Round.{Round}
 use Rattle.rules.specs.Rules.{RuleLaws, RuleSense}
 use Rattle.tallies.specs.Tallies.{TallySense}
 use Rattle.layers.specs.Flow.{Net, count_arcs}
-use Rattle.layers.specs.Labels.{opened}
+use Rattle.layers.specs.Labels.{opening_arcs}
 use Rattle.layers.specs.declared.call.Call.TheVariants.{Refine}
-use Rattle.layers.specs.Calls.{refined}
+use Rattle.layers.specs.Calls.{refinement}
 use Rattle.layers.specs.SweepLaws.{RefineSweepsOutAlways}
 use Rattle.layers.proofs.Model.{sweep, swept, refines, refine, act, after}
 use Rattle.layers.proofs.Keeping.{either}
@@ -38,9 +38,9 @@ unfolding act
 refine-sweeps-out {S} {V} A rule tally ruled r e W a b lent cs =
     let by = setting r rule tally W in
     let x = ruled r.n e in let l = drop (r.n * W + 1) lent in
-    let D = after by cs (opened r.n) in
-    let p = proper-after by x.same_self a cs (opened r.n) (proper-opened by a) in
+    let D = after by cs (opening_arcs r.n) in
+    let p = proper-after by x.same_self a cs (opening_arcs r.n) (proper-opened by a) in
     let q = proper-after by x.same_self a (Refine ∷ []) D p in
     let E = (refine by D).1 in
     let s = ap count_arcs (refine-still by x.same_self a D p) in
-    rw (ap (refined by) (run-opened by x.same_self a lent cs) ∙ refined-X by x.same_self a l D p) (answer-X by x.same_self a l E q ∙ omega (arith, s))
+    rw (ap (refinement by) (run-opened by x.same_self a lent cs) ∙ refined-X by x.same_self a l D p) (answer-X by x.same_self a l E q ∙ omega (arith, s))

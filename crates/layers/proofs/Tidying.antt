@@ -2,7 +2,7 @@
 use Rattle.std.proofs.Common.{◌≡◌, ℕ, zero, suc, ◌<◌, ◌≤◌, Bool, true, false, ◌⊎◌, List, [], ◌∷◌, length, get_or, drop, Some, None, Option, sym, refl, ap, ◌∙◌, subst, inl, inr, not-suc-le-zero, arith}
 use Rattle.std.proofs.lemmas.Bool.{true≢false, false≢true, cases_eq}
 use Rattle.std.proofs.lemmas.List.{ext_get_or}
-use Rattle.layers.specs.Flow.{Outs, Layer, Net, node, target, width, PathFrom, each_node, redirect, up, Mark, marks_next, marks_up, flags, rank, compress, renumber, tidy, tidied}
+use Rattle.layers.specs.Flow.{Outs, Layer, Net, node, target, width, PathFrom, each_node, redirect, up, Mark, marks_next, marks_up, flags, rank, compress, renumber, tidy, tidied_arcs}
 use Rattle.layers.specs.LabelLaws.{PathTo}
 use Rattle.layers.specs.TidyLaws.{layer_of, IsOnPath, Stays, CountBelow, Becomes, IsRenumbered, IsTidied, TidyMeans, IsTidy, TidyStays}
 use Rattle.layers.proofs.Flows.{has-arc, inside, redirect-arc, mark-next, mark-up, flags-at, compress-at, rank-zero, renumber-at, tidy-keeps}
@@ -133,19 +133,19 @@ module _ (D : Net) where
   counted : (i b : ℕ) → CountBelow (Stays D (suc i)) b (rank (F (suc i)) b)
   counted i b = count-rank (Stays D (suc i)) (F (suc i)) (on-path (suc i)) (flagged (suc i)) b
 
-  first-at : layer_of (tidied D) 0 ≡ redirect (λ a j b. renumber (F 1) b) (layer_of D 0)
-  unfolding tidied redirect each_node
+  first-at : layer_of (tidied_arcs D) 0 ≡ redirect (λ a j b. renumber (F 1) b) (layer_of D 0)
+  unfolding tidied_arcs redirect each_node
   first-at = go D
     where
-      go : (Ls : Net) → layer_of (tidied Ls) 0 ≡ redirect (λ a j b. renumber (flags_of start Ls 1) b) (layer_of Ls 0)
+      go : (Ls : Net) → layer_of (tidied_arcs Ls) 0 ≡ redirect (λ a j b. renumber (flags_of start Ls 1) b) (layer_of Ls 0)
       go [] = refl
       go (L ∷ Ls) = refl
 
-  later-at : (i : ℕ) → layer_of (tidied D) (suc i) ≡ compress (F (suc i)) (redirect (λ a j b. renumber (F (suc (suc i))) b) (layer_of D (suc i)))
-  unfolding tidied compress
+  later-at : (i : ℕ) → layer_of (tidied_arcs D) (suc i) ≡ compress (F (suc i)) (redirect (λ a j b. renumber (F (suc (suc i))) b) (layer_of D (suc i)))
+  unfolding tidied_arcs compress
   later-at i = go D
     where
-      go : (Ls : Net) → layer_of (tidied Ls) (suc i) ≡ compress (flags_of start Ls (suc i)) (redirect (λ a j b. renumber (flags_of start Ls (suc (suc i))) b) (layer_of Ls (suc i)))
+      go : (Ls : Net) → layer_of (tidied_arcs Ls) (suc i) ≡ compress (flags_of start Ls (suc i)) (redirect (λ a j b. renumber (flags_of start Ls (suc (suc i))) b) (layer_of Ls (suc i)))
       go [] = refl
       go (L ∷ Ls) = tidy-at (marks_next start L (width Ls)) Ls i
 
@@ -173,14 +173,14 @@ module _ (D : Net) where
   all-count zero = refl
   all-count (suc n) = inl (tt, all-count n)
 
-  as-many : (i : ℕ) → CountBelow (Stays D i) (length (layer_of D i)) (length (layer_of (tidied D) i))
+  as-many : (i : ℕ) → CountBelow (Stays D i) (length (layer_of D i)) (length (layer_of (tidied_arcs D) i))
   as-many zero = rw (first-at, redirect-length) (all-count (length (layer_of D 0)))
   as-many (suc i) =
       let f : ℕ → ℕ → ℕ → ℕ = λ a j b. renumber (F (suc (suc i))) b in
       let n = redirect-length f (layer_of D (suc i)) in
       rw (later-at i) (subst (CountBelow (Stays D (suc i)) (length (layer_of D (suc i)))) (ap (rank (F (suc i))) (sym n) ∙ sym (compress-long (F (suc i)) (redirect f (layer_of D (suc i))))) (counted i (length (layer_of D (suc i)))))
 
-  place : (i b : ℕ) → b < length (layer_of D i) → Stays D i b → (k : ℕ) × Becomes D i b k × IsRenumbered D i (node (layer_of D i) b) (node (layer_of (tidied D) i) k)
+  place : (i b : ℕ) → b < length (layer_of D i) → Stays D i b → (k : ℕ) × Becomes D i b k × IsRenumbered D i (node (layer_of D i) b) (node (layer_of (tidied_arcs D) i) k)
   place zero b h s = (b, record { stays = tt; before = all-count b }, rw first-at (renumbered 0 (layer_of D 0) b))
   place (suc i) b h s =
       let e = flagged (suc i) b s in
@@ -201,8 +201,8 @@ tidy-back fr (L ∷ Ls) a (j ∷ w) f p =
     let h = renumber-back fs q.0 p.0 q.2 in
     (q.0, q.1, tidy-back fr' Ls q.0 w h.0 (subst (λ (c : ℕ). PathFrom (tidy fr' Ls) c w) (sym h.1) p.2))
 
-pub tidied-back : (Ls : Net) (w : List ℕ) → PathFrom (tidied Ls) 0 w → PathFrom Ls 0 w
-unfolding tidied
+pub tidied-back : (Ls : Net) (w : List ℕ) → PathFrom (tidied_arcs Ls) 0 w → PathFrom Ls 0 w
+unfolding tidied_arcs
 tidied-back [] w p = p
 tidied-back (L ∷ Ls) [] p = absurd p
 tidied-back (L ∷ Ls) (j ∷ w) p =
@@ -217,12 +217,12 @@ unfolding tidy
 tidy-layers fr [] = refl
 tidy-layers fr (L ∷ Ls) = ap suc (tidy-layers (marks_next fr L (width Ls)) Ls)
 
-tidied-layers : (Ls : Net) → length (tidied Ls) ≡ length Ls
-unfolding tidied
+tidied-layers : (Ls : Net) → length (tidied_arcs Ls) ≡ length Ls
+unfolding tidied_arcs
 tidied-layers [] = refl
 tidied-layers (L ∷ Ls) = ap suc (tidy-layers (marks_next start L (width Ls)) Ls)
 
-tidies : (D : Net) → IsTidied D (tidied D)
+tidies : (D : Net) → IsTidied D (tidied_arcs D)
 tidies D = record {
   paths = λ w. (tidied-back D w, tidy-keeps D w);
   layers = tidied-layers D;
@@ -267,7 +267,7 @@ module _ (D E E' : Net) (x : IsTidied D E) (y : IsTidied D E') where
   same-net = ext_get_or [] E E' (x.layers ∙ sym y.layers) (λ i lt. same-layer i)
 
 pub tidy-means : TidyMeans
-tidy-means D E = (λ x. same-net D E (tidied D) x (tidies D), λ e. rw e (tidies D))
+tidy-means D E = (λ x. same-net D E (tidied_arcs D) x (tidies D), λ e. rw e (tidies D))
 
 -- ---- what tidying leaves alone
 count-le : (P : ℕ → Type 0) (m n : ℕ) → CountBelow P m n → n ≤ m

@@ -3,7 +3,7 @@ use Rattle.std.proofs.Common.{◌≡◌, ℕ, zero, suc, ◌+◌, ◌<◌, Bool,
 use lib.ListN.{length-map}
 use Rattle.std.proofs.lemmas.Bool.{false≢true, and_parts}
 use Rattle.std.proofs.lemmas.Option.{none-some}
-use Rattle.layers.specs.Flow.{Outs, Layer, Net, node, target, width, each_door, each_node, redirect, ins, gather, outs, up, Mark, marks_next, marks_up, flags, rank, compress, renumber, tidy, tidied, Ranged, Led, Tied}
+use Rattle.layers.specs.Flow.{Outs, Layer, Net, node, target, width, each_door, each_node, redirect, arrivals_at, gather, climbs_of, up, Mark, marks_next, marks_up, flags, rank, compress, renumber, tidy, tidied_arcs, IsRanged, IsLed, IsTied}
 use Rattle.layers.proofs.Flows.{gather-any, outs-from, map-some, redirect-arc, has-arc, ins-from, next-some, up_at, mark-next, flags-at, compress-at, renumber-at}
 use Rattle.std.specs.Prelude.{is_some}
 
@@ -57,7 +57,7 @@ within (u ∷ us) (suc a) e = let h = within us a e in omega arith
 ups-length : (Ls : Net) → length (marks_up Ls) ≡ width Ls
 unfolding marks_up up
 ups-length [] = refl
-ups-length (L ∷ Ls) = length-map L (λ nd. gather {A = Mark} (λ x y. tt) (outs {A = Mark} (λ m k. tt) (marks_up Ls) 1 nd))
+ups-length (L ∷ Ls) = length-map L (λ nd. gather {A = Mark} (λ x y. tt) (climbs_of {A = Mark} (λ m k. tt) (marks_up Ls) 1 nd))
 
 rank_lt : (fs : List Bool) (X : Layer) (b : ℕ) → get_or fs b false ≡ true → b < length X → rank fs b < length (compress fs X)
 unfolding rank compress
@@ -88,7 +88,7 @@ renumber-back fs b c e = go (get_or fs b false) refl e
 pub marked_from : (fr : List (Option Mark)) (L : Layer) (count b : ℕ) → get_or (marks_next fr L count) b None ≡ Some tt → (a : ℕ) × (j : ℕ) × (target (node L a) j ≡ suc b) × (get_or fr a None ≡ Some tt)
 unfolding marks_next
 marked_from fr L count b e =
-    let x = gather-any {A = Mark} (λ x y. tt) (ins {A = Mark} (λ m j. tt) b fr L) tt (next-some {A = Mark} (λ m j. tt) (λ x y. tt) fr L count b tt e) in
+    let x = gather-any {A = Mark} (λ x y. tt) (arrivals_at {A = Mark} (λ m j. tt) b fr L) tt (next-some {A = Mark} (λ m j. tt) (λ x y. tt) fr L count b tt e) in
     let f = ins-from {A = Mark} (λ m j. tt) b fr L x.0 x.1 in
     (f.source, f.door, f.arc, f.labelled)
 
@@ -96,7 +96,7 @@ pub climbs-from : (L : Layer) (Ls : Net) (a : ℕ) → get_or (marks_up (L ∷ L
 unfolding marks_up up
 climbs-from L Ls a e =
     let us = marks_up Ls in
-    let x = gather-any {A = Mark} (λ x y. tt) (outs {A = Mark} (λ m k. tt) us 1 (node L a)) tt (map-some (λ nd. gather {A = Mark} (λ x y. tt) (outs {A = Mark} (λ m k. tt) us 1 nd)) L a tt e) in
+    let x = gather-any {A = Mark} (λ x y. tt) (climbs_of {A = Mark} (λ m k. tt) us 1 (node L a)) tt (map-some (λ nd. gather {A = Mark} (λ x y. tt) (climbs_of {A = Mark} (λ m k. tt) us 1 nd)) L a tt e) in
     let c = outs-from {A = Mark} (λ m k. tt) us x.0 1 (node L a) x.1 in
     (suc c.skip, c.to, c.arc, c.labelled)
 
@@ -119,7 +119,7 @@ module _ (fr : List (Option Mark)) (L : Layer) (Ls : Net) where
   flag-within b e = let h = within (marks_up Ls) b (flags-back fr' (marks_up Ls) b e).1 in omega (arith, ups-length Ls)
 
   -- every arc that is left leads to a node that is left
-  arcs-lead : (X : Layer) → length X ≡ width Ls → Ranged RL (length (compress fs X))
+  arcs-lead : (X : Layer) → length X ≡ width Ls → IsRanged RL (length (compress fs X))
   arcs-lead X n a j c e =
       let q = redirect-back (λ a j b. renumber fs b) L a j c e in
       let h = renumber-back fs q.0 c q.2 in
@@ -136,7 +136,7 @@ module _ (fr : List (Option Mark)) (L : Layer) (Ls : Net) where
       (s.0, s.1, redirect-arc (λ a j b. renumber fs b) L s.0 s.1 b s.2 ∙ renumber-at fs b q.1 ∙ ap suc q.2, s.3, climbs L Ls s.0 s.1 b s.2 m.1)
 
   -- every node that is left leads on
-  leads-on : Led (compress (flags fr (marks_up (L ∷ Ls))) RL)
+  leads-on : IsLed (compress (flags fr (marks_up (L ∷ Ls))) RL)
   leads-on c h =
       let gs = flags fr (marks_up (L ∷ Ls)) in
       let q = compress-back gs RL c h in
@@ -152,12 +152,12 @@ module _ (fr : List (Option Mark)) (L : Layer) (Ls : Net) where
             ∙ redirect-arc (λ a j b. renumber fs b) L a j b s.2 ∙ renumber-at fs b f,
       )
 
-ranged-compress : (gs : List Bool) (X : Layer) (m : ℕ) → Ranged X m → Ranged (compress gs X) m
+ranged-compress : (gs : List Bool) (X : Layer) (m : ℕ) → IsRanged X m → IsRanged (compress gs X) m
 ranged-compress gs X m h c j b e =
     let q = compress-back gs X c (has-arc (compress gs X) c j b e) in
     h q.0 j b (rw (← (compress-at gs X q.0 q.1), q.2) e)
 
-ranged-end : (fr : List (Option Mark)) (L : Layer) → Ranged (RL fr L []) 1
+ranged-end : (fr : List (Option Mark)) (L : Layer) → IsRanged (RL fr L []) 1
 ranged-end fr L a j c e =
     let q = redirect-back (λ a j b. renumber (fs fr L []) b) L a j c e in
     let h = renumber-back (fs fr L []) q.0 c q.2 in
@@ -171,7 +171,7 @@ ranged-end fr L a j c e =
     zero_rank (true ∷ gs) = unfold rank in refl
     zero_rank (false ∷ gs) = unfold rank in refl
 
-tidy-tied : (fr : List (Option Mark)) (Ls : Net) → Tied (tidy fr Ls)
+tidy-tied : (fr : List (Option Mark)) (Ls : Net) → IsTied (tidy fr Ls)
 unfolding tidy
 tidy-tied fr [] = tt
 tidy-tied fr (L ∷ []) = ranged-compress (flags fr (marks_up (L ∷ []))) (RL fr L []) 1 (ranged-end fr L)
@@ -187,8 +187,8 @@ tidy-tied fr (L ∷ M ∷ Ls) =
       tidy-tied fr2 (M ∷ Ls),
     )
 
-pub tidied-tied : (Ls : Net) → Tied (tidied Ls)
-unfolding tidied tidy
+pub tidied-tied : (Ls : Net) → IsTied (tidied_arcs Ls)
+unfolding tidied_arcs tidy
 tidied-tied [] = tt
 tidied-tied (L ∷ []) = ranged-end (Some tt ∷ []) L
 tidied-tied (L ∷ M ∷ Ls) =

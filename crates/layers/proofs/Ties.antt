@@ -5,9 +5,9 @@ use Rattle.std.proofs.lemmas.List.{get_or_append_left, get_or_push, get_or-set_s
 use Rattle.round.specs.declared.table.Round.{Round}
 use Rattle.rules.specs.Rules.{RuleSense}
 use Rattle.tallies.specs.Tallies.{TallySense}
-use Rattle.layers.specs.Flow.{table, Outs, Layer, Net, node, target, redirect, ins, clash, either_target, both_out, without_at, moved, join_at, Ranged, Fed, Led, Tied}
-use Rattle.layers.specs.Labels.{arrive, agree, agree_all, agreeing, leaves, first_arrival, opened, all_doors}
-use Rattle.layers.specs.Calls.{parted_at}
+use Rattle.layers.specs.Flow.{table, Outs, Layer, Net, node, target, redirect, arrivals_at, clash, either_target, both_out, without_place, place_after_join, joined_arcs, IsRanged, IsFed, IsLed, IsTied}
+use Rattle.layers.specs.Labels.{arrival_over, agree, agrees_with_all, all_agree, differs_from_first, first_arrival, opening_arcs, all_doors}
+use Rattle.layers.specs.Calls.{parted_arcs}
 use Rattle.layers.proofs.Flows.{Among, redirect-arc, has-arc, table_at, From, ins-from}
 use Rattle.layers.proofs.Ways.{length-snoc}
 use Rattle.layers.proofs.Shapes.{drop-below, drop-above, join-node}
@@ -22,7 +22,7 @@ module _ {S V : Type 0} (by : Setting S V) where
   ones-at (suc n) zero b e = omega arith
   ones-at (suc n) (suc k) b e = ones-at n k b e
 
-  open-ranged : Ranged (all_doors by.round.n ∷ []) 1
+  open-ranged : IsRanged (all_doors by.round.n ∷ []) 1
   open-ranged zero zero b e = absurd (omega arith)
   open-ranged zero (suc k) b e = let z = ones-at by.round.n k b e in omega arith
   open-ranged (suc a) zero b e = absurd (omega arith)
@@ -31,18 +31,18 @@ module _ {S V : Type 0} (by : Setting S V) where
   first-door : target (all_doors by.round.n) 1 ≡ 1
   first-door = table_at by.round.n 0 (λ m. 1) 0 by.round.one
 
-  open-fed : Fed (all_doors by.round.n ∷ []) 1
+  open-fed : IsFed (all_doors by.round.n ∷ []) 1
   open-fed b h = let z : b ≡ 0 = omega arith in (0, 1, first-door ∙ ap suc (sym z))
 
-  open-led : Led (all_doors by.round.n ∷ [])
+  open-led : IsLed (all_doors by.round.n ∷ [])
   open-led zero h = (1, 0, first-door)
   open-led (suc a) h = absurd (not-suc-le-zero (le_of_suc-le-suc h))
 
-  pub opened-tied : Tied (opened by.round.n)
-  unfolding opened
+  pub opened-tied : IsTied (opening_arcs by.round.n)
+  unfolding opening_arcs
   opened-tied = go by.round.n
     where
-      go : (k : ℕ) → Tied (table k (λ i. all_doors by.round.n ∷ []))
+      go : (k : ℕ) → IsTied (table k (λ i. all_doors by.round.n ∷ []))
       go zero = tt
       go (suc zero) = open-ranged
       go (suc (suc k)) = (open-ranged, open-fed, open-led, go (suc k))
@@ -58,24 +58,24 @@ more-back M nd c h = go (ltb c (length M)) refl
         inr (k, rw k (get_or_push M nd [] (length M) refl))
 
 module _ (M : Layer) (a : ℕ) (inn : a < length M) where
-  more-ranged : (m : ℕ) → Ranged M m → Ranged (M ++ (node M a ∷ [])) m
+  more-ranged : (m : ℕ) → IsRanged M m → IsRanged (M ++ (node M a ∷ [])) m
   more-ranged m h c j b e =
       elim (more-back M (node M a) c (let z = has-arc (M ++ (node M a ∷ [])) c j b e in omega (arith, length-snoc M (node M a)))) [
         | inl q ↦ h c j b (rw (← q.1) e)
         | inr q ↦ h a j b (rw (← q.1) e)
       ]
 
-  more-led : Led M → Led (M ++ (node M a ∷ []))
+  more-led : IsLed M → IsLed (M ++ (node M a ∷ []))
   more-led h c k =
       elim (more-back M (node M a) c (omega (arith, length-snoc M (node M a)))) [
         | inl q ↦ (let s = h c q.0 in (s.0, s.1, rw q.1 s.2))
         | inr q ↦ (let s = h a inn in (s.0, s.1, rw q.1 s.2))
       ]
 
-  more-fed : (m : ℕ) → Fed M m → Fed (M ++ (node M a ∷ [])) m
+  more-fed : (m : ℕ) → IsFed M m → IsFed (M ++ (node M a ∷ [])) m
   more-fed m h b k = let s = h b k in (s.0, s.1, rw (get_or_append_left M (node M a ∷ []) [] s.0 (has-arc M s.0 s.1 b s.2)) s.2)
 
-  more-tied : (Ls : Net) → Tied (M ∷ Ls) → Tied ((M ++ (node M a ∷ [])) ∷ Ls)
+  more-tied : (Ls : Net) → IsTied (M ∷ Ls) → IsTied ((M ++ (node M a ∷ [])) ∷ Ls)
   more-tied [] t = more-ranged 1 t
   more-tied (N ∷ Ls) t = (more-ranged (length N) t.0, more-fed (length N) t.1, t.2, t.3)
 
@@ -84,11 +84,11 @@ module _ {S V : Type 0} (by : Setting S V) (self : (s : S) → by.rule.same s s 
   unfolding agree
   agree-self x = rw (eq-eqb x.all x.all refl, eq-eqb x.some x.some refl, eq-eqb x.finish x.finish refl, eq-eqb x.lasts x.lasts refl) (self x.state)
 
-  odd-one : (x : Down S V) (l : List (Down S V)) → agree_all by.rule x l ≡ false → (y : Down S V) × Among y l × (agree by.rule x y ≡ false)
-  unfolding agree_all
+  odd-one : (x : Down S V) (l : List (Down S V)) → agrees_with_all by.rule x l ≡ false → (y : Down S V) × Among y l × (agree by.rule x y ≡ false)
+  unfolding agrees_with_all
   odd-one x [] e = absurd (true≢false e)
   odd-one x (y ∷ l) e =
-      elim (and_cases (agree by.rule x y) (agree_all by.rule x l) e) [
+      elim (and_cases (agree by.rule x y) (agrees_with_all by.rule x l) e) [
         | inl h ↦ (y, inl refl, h)
         | inr h ↦ (let q = odd-one x l h in (q.0, inr q.1, q.2))
       ]
@@ -102,65 +102,65 @@ module _ {S V : Type 0} (by : Setting S V) (self : (s : S) → by.rule.same s s 
     other_in : Among other l
     differ : agree by.rule one other ≡ false
 
-  groups : (l : List (Down S V)) → agreeing by.rule l ≡ false → Groups l
-  unfolding agreeing
+  groups : (l : List (Down S V)) → all_agree by.rule l ≡ false → Groups l
+  unfolding all_agree
   groups [] e = absurd (true≢false e)
   groups (x ∷ l) e = let q = odd-one x l e in record { one = x; is_first = refl; one_in = inl refl; other = q.0; other_in = inr q.1; differ = q.2 }
 
-  module _ (a : ℕ) (labs : List (Option (Down S V))) (L M : Layer) (inn : a < length M) (two : agreeing by.rule (ins (arrive by) a labs L) ≡ false) where
+  module _ (a : ℕ) (labs : List (Option (Down S V))) (L M : Layer) (inn : a < length M) (two : all_agree by.rule (arrivals_at (arrival_over by) a labs L) ≡ false) where
     abbrev h : Option (Down S V)
-    h = first_arrival (ins (arrive by) a labs L)
+    h = first_arrival (arrivals_at (arrival_over by) a labs L)
 
     abbrev f : ℕ → ℕ → ℕ → ℕ
-    f u j b = cond (eqb b a && leaves by h (get_or labs u None) j) (suc (length M)) (suc b)
+    f u j b = cond (eqb b a && differs_from_first by h (get_or labs u None) j) (suc (length M)) (suc b)
 
-    part-ranged : Ranged L (length M) → Ranged (redirect f L) (length (M ++ (node M a ∷ [])))
+    part-ranged : IsRanged L (length M) → IsRanged (redirect f L) (length (M ++ (node M a ∷ [])))
     part-ranged g u j c e =
         let q = redirect-back f L u j c e in
         let k = g u j q.0 q.1 in
-        go (eqb q.0 a && leaves by h (get_or labs u None) j) q.0 k q.2
+        go (eqb q.0 a && differs_from_first by h (get_or labs u None) j) q.0 k q.2
       where
         go : (t : Bool) (b : ℕ) → b < length M → cond t (suc (length M)) (suc b) ≡ suc c → c < length (M ++ (node M a ∷ []))
         go true b k e = omega (arith, length-snoc M (node M a))
         go false b k e = omega (arith, length-snoc M (node M a))
 
-    moves-to : (u j b : ℕ) (q : Bool) → target (node L u) j ≡ suc b → (eqb b a && leaves by h (get_or labs u None) j) ≡ q → target (node (redirect f L) u) j ≡ cond q (suc (length M)) (suc b)
+    moves-to : (u j b : ℕ) (q : Bool) → target (node L u) j ≡ suc b → (eqb b a && differs_from_first by h (get_or labs u None) j) ≡ q → target (node (redirect f L) u) j ≡ cond q (suc (length M)) (suc b)
     moves-to u j b q e t = redirect-arc f L u j b e ∙ ap (λ (z : Bool). cond z (suc (length M)) (suc b)) t
 
-    at_a : (x y : Down S V) → h ≡ Some x → (w : From (arrive by) a labs L y) → (eqb a a && leaves by h (get_or labs w.source None) w.door) ≡ not (agree by.rule x y)
+    at_a : (x y : Down S V) → h ≡ Some x → (w : From (arrival_over by) a labs L y) → (eqb a a && differs_from_first by h (get_or labs w.source None) w.door) ≡ not (agree by.rule x y)
     at_a x y e w = rw (eq-eqb a a refl, e, w.labelled) (ap (λ (z : Down S V). not (agree by.rule x z)) (sym w.is))
 
-    part-fed : Fed L (length M) → Fed (redirect f L) (length (M ++ (node M a ∷ [])))
+    part-fed : IsFed L (length M) → IsFed (redirect f L) (length (M ++ (node M a ∷ [])))
     part-fed g c k = new (ltb c (length M)) refl (eqb c a) refl
       where
-        two' : Groups (ins (arrive by) a labs L)
-        two' = groups (ins (arrive by) a labs L) two
+        two' : Groups (arrivals_at (arrival_over by) a labs L)
+        two' = groups (arrivals_at (arrival_over by) a labs L) two
 
         new : (p : Bool) → ltb c (length M) ≡ p → (q : Bool) → eqb c a ≡ q → (u : ℕ) × (j : ℕ) × (target (node (redirect f L) u) j ≡ suc c)
         new true e true d =
             let x = two'.one in
-            let w = ins-from (arrive by) a labs L x two'.one_in in
+            let w = ins-from (arrival_over by) a labs L x two'.one_in in
             (w.source, w.door, moves-to w.source w.door a false w.arc (at_a x x two'.is_first w ∙ ap not (agree-self x)) ∙ ap suc (sym (eqb-true c a d)))
         new true e false d =
             let s = g c (ltb-true c (length M) e) in
-            (s.0, s.1, moves-to s.0 s.1 c false s.2 (ap (λ (z : Bool). z && leaves by h (get_or labs s.0 None) s.1) d))
+            (s.0, s.1, moves-to s.0 s.1 c false s.2 (ap (λ (z : Bool). z && differs_from_first by h (get_or labs s.0 None) s.1) d))
         new false e q d =
-            let w = ins-from (arrive by) a labs L two'.other two'.other_in in
+            let w = ins-from (arrival_over by) a labs L two'.other two'.other_in in
             let z : c ≡ length M = omega (arith, length-snoc M (node M a), ltb-false c (length M) e) in
             (w.source, w.door, moves-to w.source w.door a true w.arc (at_a two'.one two'.other two'.is_first w ∙ ap not two'.differ) ∙ ap suc (sym z))
 
-    part-led : Led L → Led (redirect f L)
+    part-led : IsLed L → IsLed (redirect f L)
     part-led g u k =
         let s = g u (omega (arith, redirect-length f L)) in
-        go s.0 s.1 s.2 (eqb s.1 a && leaves by h (get_or labs u None) s.0) refl
+        go s.0 s.1 s.2 (eqb s.1 a && differs_from_first by h (get_or labs u None) s.0) refl
       where
-        go : (j b : ℕ) → target (node L u) j ≡ suc b → (q : Bool) → (eqb b a && leaves by h (get_or labs u None) j) ≡ q → (j : ℕ) × (b : ℕ) × (target (node (redirect f L) u) j ≡ suc b)
+        go : (j b : ℕ) → target (node L u) j ≡ suc b → (q : Bool) → (eqb b a && differs_from_first by h (get_or labs u None) j) ≡ q → (j : ℕ) × (b : ℕ) × (target (node (redirect f L) u) j ≡ suc b)
         go j b e true t = (j, length M, moves-to u j b true e t)
         go j b e false t = (j, b, moves-to u j b false e t)
 
   -- with any labels of the layer before, as they may stand in records
-  pub parted-tied : (d a : ℕ) (labs : List (Option (Down S V))) (Ls : Net) → a < length (get_or Ls (suc d) []) → agreeing by.rule (ins (arrive by) a labs (get_or Ls d [])) ≡ false → Tied Ls → Tied (parted_at by d a labs Ls)
-  unfolding parted_at
+  pub parted-tied : (d a : ℕ) (labs : List (Option (Down S V))) (Ls : Net) → a < length (get_or Ls (suc d) []) → all_agree by.rule (arrivals_at (arrival_over by) a labs (get_or Ls d [])) ≡ false → IsTied Ls → IsTied (parted_arcs by d a labs Ls)
+  unfolding parted_arcs
   parted-tied zero a labs [] k e t = tt
   parted-tied (suc d) a labs [] k e t = tt
   parted-tied zero a labs (L ∷ []) k e t = t
@@ -178,8 +178,8 @@ module _ {S V : Type 0} (by : Setting S V) (self : (s : S) → by.rule.same s s 
   parted-tied (suc (suc d)) a labs (L ∷ M ∷ Ls) k e t = (t.0, t.1, t.2, parted-tied (suc d) a labs (M ∷ Ls) k e t.3)
 
 -- ---- join
-pub drop-length : (i : ℕ) (M : Layer) → i < length M → suc (length (without_at i M)) ≡ length M
-unfolding without_at
+pub drop-length : (i : ℕ) (M : Layer) → i < length M → suc (length (without_place i M)) ≡ length M
+unfolding without_place
 drop-length zero [] h = absurd (not-suc-le-zero h)
 drop-length (suc i) [] h = absurd (not-suc-le-zero h)
 drop-length zero (x ∷ M) h = refl
@@ -200,20 +200,20 @@ target-back : (x y : Outs) (j b : ℕ) → target (both_out x y) j ≡ suc b →
 target-back x y zero b e = inl e
 target-back x y (suc k) b e = both-back x y k b e
 
-moved-below : (lo hi c : ℕ) → c < hi → moved lo hi c ≡ c
-unfolding moved
+moved-below : (lo hi c : ℕ) → c < hi → place_after_join lo hi c ≡ c
+unfolding place_after_join
 moved-below lo hi c h = rw (ne_eqb c hi (omega arith)) (go (ltb hi c) refl)
   where
     go : (q : Bool) → ltb hi c ≡ q → cond q (c - 1) c ≡ c
     go true e = let z = ltb-true hi c e in absurd (omega arith)
     go false e = refl
 
-moved-above : (lo hi c : ℕ) → hi ≤ c → moved lo hi (suc c) ≡ c
-unfolding moved
+moved-above : (lo hi c : ℕ) → hi ≤ c → place_after_join lo hi (suc c) ≡ c
+unfolding place_after_join
 moved-above lo hi c h = rw ((ne_eqb (suc c) hi (omega arith)), (lt-ltb hi (suc c) (omega arith))) (omega arith)
 
-moved_at : (lo hi : ℕ) → moved lo hi hi ≡ lo
-unfolding moved
+moved_at : (lo hi : ℕ) → place_after_join lo hi hi ≡ lo
+unfolding place_after_join
 moved_at lo hi = ap (λ (q : Bool). cond q lo (cond (ltb hi hi) (hi - 1) hi)) (eq-eqb hi hi refl)
 
 module _ (M : Layer) (lo hi : ℕ) (lt : lo < hi) (inn : hi < length M) (nc : clash (node M lo) (node M hi) ≡ false) where
@@ -221,7 +221,7 @@ module _ (M : Layer) (lo hi : ℕ) (lt : lo < hi) (inn : hi < length M) (nc : cl
   X = set M lo (both_out (node M lo) (node M hi))
 
   abbrev M' : Layer
-  M' = without_at hi X
+  M' = without_place hi X
 
   long : suc (length M') ≡ length M
   long = drop-length hi X (omega (arith, length-set M lo (both_out (node M lo) (node M hi)))) ∙ length-set M lo (both_out (node M lo) (node M hi))
@@ -238,48 +238,48 @@ module _ (M : Layer) (lo hi : ℕ) (lt : lo < hi) (inn : hi < length M) (nc : cl
       go (inl k) (inr s) = (c, rw (← (drop-below hi c X k ∙ get_or-set_other M lo c (both_out (node M lo) (node M hi)) [] s)) e)
       go (inr k) s = (suc c, rw (← (drop-above hi c X k ∙ get_or-set_other M lo (suc c) (both_out (node M lo) (node M hi)) [] (omega arith))) e)
 
-  join-ranged : (m : ℕ) → Ranged M m → Ranged M' m
+  join-ranged : (m : ℕ) → IsRanged M m → IsRanged M' m
   join-ranged m h c j b e = let q = back c j b e in h q.0 j b q.1
 
-  join-fed : (m : ℕ) → Fed M m → Fed M' m
-  join-fed m h b k = let s = h b k in (moved lo hi s.0, s.1, join-node M lo hi s.0 s.1 b lt inn nc s.2)
+  join-fed : (m : ℕ) → IsFed M m → IsFed M' m
+  join-fed m h b k = let s = h b k in (place_after_join lo hi s.0, s.1, join-node M lo hi s.0 s.1 b lt inn nc s.2)
 
   -- a place of the new layer comes from a place of the old
-  from : (c : ℕ) → c < length M' → (b : ℕ) × (b < length M) × (moved lo hi b ≡ c)
+  from : (c : ℕ) → c < length M' → (b : ℕ) × (b < length M) × (place_after_join lo hi b ≡ c)
   from c k = elim (cases_lt c hi) [ inl h ↦ (c, omega (arith, long), moved-below lo hi c h) | inr h ↦ (suc c, omega (arith, long), moved-above lo hi c h) ]
 
-  to : (b : ℕ) → b < length M → moved lo hi b < length M'
+  to : (b : ℕ) → b < length M → place_after_join lo hi b < length M'
   to b k = go (cases_lt b hi) (cases_eq b hi)
     where
-      go : (b < hi) ⊎ (hi ≤ b) → (b ≡ hi) ⊎ (¬ (b ≡ hi)) → moved lo hi b < length M'
+      go : (b < hi) ⊎ (hi ≤ b) → (b ≡ hi) ⊎ (¬ (b ≡ hi)) → place_after_join lo hi b < length M'
       go (inl h) s = omega (arith, long, moved-below lo hi b h)
-      go (inr h) (inl s) = omega (arith, long, ap (moved lo hi) s ∙ moved_at lo hi)
-      go (inr h) (inr s) = let z : suc (b - 1) ≡ b = omega arith in omega (arith, long, ap (moved lo hi) (sym z) ∙ moved-above lo hi (b - 1) (omega arith))
+      go (inr h) (inl s) = omega (arith, long, ap (place_after_join lo hi) s ∙ moved_at lo hi)
+      go (inr h) (inr s) = let z : suc (b - 1) ≡ b = omega arith in omega (arith, long, ap (place_after_join lo hi) (sym z) ∙ moved-above lo hi (b - 1) (omega arith))
 
-  join-led : Led M → Led M'
+  join-led : IsLed M → IsLed M'
   join-led h c k = let q = from c k in let s = h q.0 q.1 in
       (s.0, s.1, ap (λ (z : ℕ). target (node M' z) s.0) (sym q.2) ∙ join-node M lo hi q.0 s.0 s.1 lt inn nc s.2)
 
-  join-tail : (Ls : Net) → Tied (M ∷ Ls) → Tied (M' ∷ Ls)
+  join-tail : (Ls : Net) → IsTied (M ∷ Ls) → IsTied (M' ∷ Ls)
   join-tail [] t = join-ranged 1 t
   join-tail (N ∷ Ls) t = (join-ranged (length N) t.0, join-fed (length N) t.1, t.2, t.3)
 
   abbrev L' : Layer → Layer
-  L' L = redirect (λ a j b. suc (moved lo hi b)) L
+  L' L = redirect (λ a j b. suc (place_after_join lo hi b)) L
 
-  in-ranged : (L : Layer) → Ranged L (length M) → Ranged (L' L) (length M')
-  in-ranged L h a j c e = let q = redirect-back (λ a j b. suc (moved lo hi b)) L a j c e in let k = to q.0 (h a j q.0 q.1) in omega (arith, q.2)
+  in-ranged : (L : Layer) → IsRanged L (length M) → IsRanged (L' L) (length M')
+  in-ranged L h a j c e = let q = redirect-back (λ a j b. suc (place_after_join lo hi b)) L a j c e in let k = to q.0 (h a j q.0 q.1) in omega (arith, q.2)
 
-  in-fed : (L : Layer) → Fed L (length M) → Fed (L' L) (length M')
+  in-fed : (L : Layer) → IsFed L (length M) → IsFed (L' L) (length M')
   in-fed L h c k = let q = from c k in let s = h q.0 q.1 in
-      (s.0, s.1, redirect-arc (λ a j b. suc (moved lo hi b)) L s.0 s.1 q.0 s.2 ∙ ap suc q.2)
+      (s.0, s.1, redirect-arc (λ a j b. suc (place_after_join lo hi b)) L s.0 s.1 q.0 s.2 ∙ ap suc q.2)
 
-in-led : (lo hi : ℕ) (L : Layer) → Led L → Led (redirect (λ a j b. suc (moved lo hi b)) L)
-in-led lo hi L h a k = let s = h a (omega (arith, redirect-length (λ a j b. suc (moved lo hi b)) L)) in
-    (s.0, moved lo hi s.1, redirect-arc (λ a j b. suc (moved lo hi b)) L a s.0 s.1 s.2)
+in-led : (lo hi : ℕ) (L : Layer) → IsLed L → IsLed (redirect (λ a j b. suc (place_after_join lo hi b)) L)
+in-led lo hi L h a k = let s = h a (omega (arith, redirect-length (λ a j b. suc (place_after_join lo hi b)) L)) in
+    (s.0, place_after_join lo hi s.1, redirect-arc (λ a j b. suc (place_after_join lo hi b)) L a s.0 s.1 s.2)
 
-pub join_tied : (d lo hi : ℕ) (Ls : Net) → lo < hi → hi < length (get_or Ls (suc d) []) → clash (node (get_or Ls (suc d) []) lo) (node (get_or Ls (suc d) []) hi) ≡ false → Tied Ls → Tied (join_at d lo hi Ls)
-unfolding join_at
+pub join_tied : (d lo hi : ℕ) (Ls : Net) → lo < hi → hi < length (get_or Ls (suc d) []) → clash (node (get_or Ls (suc d) []) lo) (node (get_or Ls (suc d) []) hi) ≡ false → IsTied Ls → IsTied (joined_arcs d lo hi Ls)
+unfolding joined_arcs
 join_tied zero lo hi [] a b n t = tt
 join_tied (suc d) lo hi [] a b n t = tt
 join_tied zero lo hi (L ∷ []) a b n t = t
@@ -287,6 +287,6 @@ join_tied zero lo hi (L ∷ M ∷ Ls) a b n t = (in-ranged M lo hi a b n L t.0, 
 join_tied (suc d) lo hi (L ∷ []) a b n t = absurd (not-suc-le-zero b)
 join_tied (suc zero) lo hi (L ∷ M ∷ []) a b n t = t
 join_tied (suc zero) lo hi (L ∷ M ∷ N ∷ Ls) a b n t =
-    let z = redirect-length (λ a j b. suc (moved lo hi b)) M in
+    let z = redirect-length (λ a j b. suc (place_after_join lo hi b)) M in
     (rw z t.0, rw z t.1, in-led lo hi M t.2, join_tied zero lo hi (M ∷ N ∷ Ls) a b n t.3)
 join_tied (suc (suc d)) lo hi (L ∷ M ∷ Ls) a b n t = (t.0, t.1, t.2, join_tied (suc d) lo hi (M ∷ Ls) a b n t.3)

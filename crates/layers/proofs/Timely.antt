@@ -8,11 +8,11 @@ use Rattle.round.specs.declared.table.Round.{Round}
 use Rattle.rules.specs.Rules.{RuleSense}
 use Rattle.tallies.specs.Tallies.{TallySense}
 use Rattle.layers.specs.declared.node.Node.{Node}
-use Rattle.layers.specs.Flow.{table, Layer, Net, width, ins}
-use Rattle.layers.specs.Labels.{leg, ups, first, arrive, merge, firsts, labels_next}
-use Rattle.layers.specs.Records.{place, laid_from, laid}
-use Rattle.layers.specs.Calls.{relaid}
-use Rattle.layers.specs.Shape.{Timely}
+use Rattle.layers.specs.Flow.{table, Layer, Net, width, arrivals_at}
+use Rattle.layers.specs.Labels.{leg, ups, first_label, arrival_over, merge, first_labels, labels_next}
+use Rattle.layers.specs.Records.{record_of_place, labelled_from, labelled_records}
+use Rattle.layers.specs.Calls.{records_with}
+use Rattle.layers.specs.Shape.{IsTimely}
 use Rattle.layers.proofs.Flows.{From, ins-from, next-some, gather-all}
 use Rattle.layers.proofs.Ways.{leg-bound}
 use Rattle.layers.proofs.Model.{or_blank}
@@ -38,18 +38,18 @@ module _ {S V : Type 0} (by : Setting S V) where
   unfoldable Soon : ℕ → List (Option (Down S V)) → Type 0
   Soon i labs = (a : ℕ) (l : Down S V) → get_or labs a None ≡ Some l → l.finish ≤ latest i
 
-  soon-first : Soon 0 (firsts by.rule by.tally)
+  soon-first : Soon 0 (first_labels by.rule by.tally)
   unfolding Soon
-  soon-first zero l e = let x : first by.rule by.tally ≡ l = cc in rw (← x) (omega arith)
+  soon-first zero l e = let x : first_label by.rule by.tally ≡ l = cc in rw (← x) (omega arith)
   soon-first (suc a) l e = absurd cc
 
   soon-next : (i : ℕ) (labs : List (Option (Down S V))) (L : Layer) (count : ℕ) → Soon i labs → Soon (suc i) (labels_next by labs L count)
-  unfolding Soon labels_next arrive merge
+  unfolding Soon labels_next arrival_over merge
   soon-next i labs L count soon b m e =
-      gather-all (merge by.rule by.tally) (λ x. x.finish ≤ latest (suc i)) (λ x y p q. omega arith) (ins (arrive by) b labs L) m
-      (λ x h. each x (ins-from (arrive by) b labs L x h)) (next-some (arrive by) (merge by.rule by.tally) labs L count b m e)
+      gather-all (merge by.rule by.tally) (λ x. x.finish ≤ latest (suc i)) (λ x y p q. omega arith) (arrivals_at (arrival_over by) b labs L) m
+      (λ x h. each x (ins-from (arrival_over by) b labs L x h)) (next-some (arrival_over by) (merge by.rule by.tally) labs L count b m e)
     where
-      each : (x : Down S V) → From (arrive by) b labs L x → x.finish ≤ latest (suc i)
+      each : (x : Down S V) → From (arrival_over by) b labs L x → x.finish ≤ latest (suc i)
       each x f =
           let l = f.label in
           rw f.is ((clock-laws by.round).bound i l.finish (leg by.round l.lasts f.door) f.door (soon f.source l f.labelled) (leg-bound by.round l.lasts f.door))
@@ -68,12 +68,12 @@ module _ {S V : Type 0} (by : Setting S V) where
   Early x = x.label.down.finish ≤ latest 15
 
   laid-early : (i : ℕ) (labs : List (Option (Down S V))) (Ls : Net) (later : List (Node S V)) → i + length Ls ≤ 16 → Soon i labs
-      → All Early (take (length Ls * by.width) (laid_from by labs Ls ++ later))
-  unfolding laid_from
+      → All Early (take (length Ls * by.width) (labelled_from by labs Ls ++ later))
+  unfolding labelled_from
   laid-early i labs [] later h soon = rw (zero-mul by.width) tt
   laid-early i labs (L ∷ Ls) later h soon =
-      let f = place by L labs (ups (L ∷ Ls)) in
-      let X = laid_from by (labels_next by labs L (width Ls)) Ls in
+      let f = record_of_place by L labs (ups (L ∷ Ls)) in
+      let X = labelled_from by (labels_next by labs L (width Ls)) Ls in
       let m = length Ls * by.width in
       let both : suc (length Ls) * by.width ≡ by.width + m = omega (arith, suc-mul (length Ls) by.width) in
       let split : take (suc (length Ls) * by.width) ((table by.width f ++ X) ++ later) ≡ table by.width f ++ take m (X ++ later) =
@@ -82,10 +82,10 @@ module _ {S V : Type 0} (by : Setting S V) where
       (laid-early (suc i) (labels_next by labs L (width Ls)) Ls later (omega arith) (soon-next i labs L (width Ls) soon)))
 
 -- the finishes of records that are laid out anew are in time
-pub relaid-timely : {S V : Type 0} (by : Setting S V) (xs : List (Node S V)) (Ls : Net) → length Ls ≡ by.round.n → Timely by.round.n by.width (relaid by xs Ls)
-unfolding relaid laid
+pub relaid-timely : {S V : Type 0} (by : Setting S V) (xs : List (Node S V)) (Ls : Net) → length Ls ≡ by.round.n → IsTimely by.round.n by.width (records_with by xs Ls)
+unfolding records_with labelled_records
 relaid-timely {S} {V} by xs Ls e =
-    let ys = laid_from by (firsts by.rule by.tally) Ls ++ drop (by.round.n * by.width + 1) xs in
+    let ys = labelled_from by (first_labels by.rule by.tally) Ls ++ drop (by.round.n * by.width + 1) xs in
     most-at (λ (x : Node S V). x.label.down.finish) (latest 15) (take (by.round.n * by.width) ys)
     (subst (λ (n : ℕ). All (Early by) (take (n * by.width) ys)) e
-    (laid-early by 0 (firsts by.rule by.tally) Ls (drop (by.round.n * by.width + 1) xs) (omega (arith, by.round.most)) (soon-first by)))
+    (laid-early by 0 (first_labels by.rule by.tally) Ls (drop (by.round.n * by.width + 1) xs) (omega (arith, by.round.most)) (soon-first by)))

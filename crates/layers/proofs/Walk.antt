@@ -16,15 +16,15 @@ use Rattle.orders.specs.Allowed.{Allowed}
 use Rattle.orders.specs.Costs.{Trip, cost, rides, trip_after}
 use Rattle.orders.specs.Times.{van_after}
 use Rattle.layers.specs.declared.node.Up.{Up}
-use Rattle.layers.specs.Flow.{Outs, Layer, Net, node, target, width, PathFrom, ins, up}
-use Rattle.layers.specs.Labels.{bit_of, leg, climb, merge_up, no_up, ups, first, arrive, merge, firsts, labels_next, barred}
+use Rattle.layers.specs.Flow.{Outs, Layer, Net, node, target, width, PathFrom, arrivals_at, up}
+use Rattle.layers.specs.Labels.{bit_of, leg, climb, merge_up, no_up, ups, first_label, arrival_over, merge, first_labels, labels_next, is_barred}
 use Rattle.layers.proofs.Flows.{Among, redirect-arc, inside, has-arc, next-at, up_at, tidy-keeps, From, ins-from, next-some, gather-all}
 use Rattle.layers.proofs.Sets.{or_left, or_right, or_split, and_left, and_right, one-self, one_only, none_has, ones_in}
 use Rattle.layers.proofs.Ways.{in_split, in-snd, part-tail, trip-snoc, van-snoc, length-snoc, snoc-assoc, TimelyFrom, timely-from, leg-le, leg-bound}
 use Rattle.layers.proofs.Model.{sweeps, sweep}
 use Rattle.layers.specs.Settings.{Setting}
 use Rattle.layers.specs.declared.node.Down.{Down}
-use Rattle.layers.specs.Calls.{thinned}
+use Rattle.layers.specs.Calls.{unbarred_arcs}
 
 -- each node has no more targets than there are doors
 abbrev pub NeatLayer : ℕ → Layer → Type 0
@@ -90,7 +90,7 @@ module _ {S V : Type 0} {Keeps : List ℕ → Type 0} {Stands : S → List ℕ �
     pub state : Stands l.state p
     pub value : by.tally.not_above l.value (cost by.round by.tally p) ≡ true
 
-  fits-first : Fits (first by.rule by.tally) []
+  fits-first : Fits (first_label by.rule by.tally) []
   fits-first = record { part = tt; all = λ j h. absurd (none_has j h); some = λ j i. absurd i; finish = omega arith; lasts = refl; state = ruled.start_stands; value = tallied.order_self by.tally.start }
 
   lesser-left : (a b : V) → by.tally.not_above (by.tally.lesser a b) a ≡ true
@@ -149,8 +149,8 @@ module _ {S V : Type 0} {Keeps : List ℕ → Type 0} {Stands : S → List ℕ �
         last = λ i g h x. g (in-snd i p (j ∷ []) (inl (sym x ∙ ap (λ (z : Trip V). z.van.last) e)));
       }
 
-  pub arrive-fits : (l : Down S V) (p : List ℕ) (j : ℕ) → Fits l p → Told p → Allows (length p) l.value → Door by.round.n j → length p < 16 → ¬ In j p → Fits (arrive by l j) (p ++ (j ∷ []))
-  unfolding arrive
+  pub arrive-fits : (l : Down S V) (p : List ℕ) (j : ℕ) → Fits l p → Told p → Allows (length p) l.value → Door by.round.n j → length p < 16 → ¬ In j p → Fits (arrival_over by l j) (p ++ (j ∷ []))
+  unfolding arrival_over
   arrive-fits l p j f t fine d k n =
       let e = trip-snoc by.round by.tally p j in
       let g : leg by.round l.lasts j ≤ drive by.round (trip_after by.round by.tally p).van.last j =
@@ -177,9 +177,9 @@ module _ {S V : Type 0} {Keeps : List ℕ → Type 0} {Stands : S → List ℕ �
   unfoldable pub Good : ℕ → List (Option (Down S V)) → Type 0
   Good k labs = (a : ℕ) (l : Down S V) → get_or labs a None ≡ Some l → (Allows k l.value) × (l.finish ≤ latest k)
 
-  pub good-first : Good 0 (firsts by.rule by.tally)
+  pub good-first : Good 0 (first_labels by.rule by.tally)
   unfolding Good
-  good-first zero l e = let x : first by.rule by.tally ≡ l = cc in rw (← x) (tallied.start_allowed, omega arith)
+  good-first zero l e = let x : first_label by.rule by.tally ≡ l = cc in rw (← x) (tallied.start_allowed, omega arith)
   good-first (suc a) l e = absurd cc
 
   lesser-fine : (k : ℕ) (a b : V) → Allows k a → Allows k b → Allows k (by.tally.lesser a b)
@@ -190,15 +190,15 @@ module _ {S V : Type 0} {Keeps : List ℕ → Type 0} {Stands : S → List ℕ �
       go false = y
 
   pub good-next : (k : ℕ) (labs : List (Option (Down S V))) (L : Layer) (count : ℕ) → k < 16 → Good k labs → NeatLayer by.round.n L → Good (suc k) (labels_next by labs L count)
-  unfolding Good labels_next arrive merge
+  unfolding Good labels_next arrival_over merge
   good-next k labs L count h good neat b m e =
       gather-all (merge by.rule by.tally) (λ x. (Allows (suc k) x.value) × (x.finish ≤ latest (suc k)))
       (λ x y p q. (lesser-fine (suc k) x.value y.value p.0 q.0, omega arith))
-      (ins (arrive by) b labs L) m
-      (λ x i. each x (ins-from (arrive by) b labs L x i))
-      (next-some (arrive by) (merge by.rule by.tally) labs L count b m e)
+      (arrivals_at (arrival_over by) b labs L) m
+      (λ x i. each x (ins-from (arrival_over by) b labs L x i))
+      (next-some (arrival_over by) (merge by.rule by.tally) labs L count b m e)
     where
-      each : (x : Down S V) → From (arrive by) b labs L x → (Allows (suc k) x.value) × (x.finish ≤ latest (suc k))
+      each : (x : Down S V) → From (arrival_over by) b labs L x → (Allows (suc k) x.value) × (x.finish ≤ latest (suc k))
       each x f =
           let d = neat-door by.round L neat f.source f.door b f.arc in
           let g = good f.source f.label f.labelled in
@@ -211,15 +211,15 @@ module _ {S V : Type 0} {Keeps : List ℕ → Type 0} {Stands : S → List ℕ �
   unfoldable pub At : List (Option (Down S V)) → ℕ → List ℕ → Type 0
   At labs a p = (l : Down S V) × (get_or labs a None ≡ Some l) × Fits l p
 
-  pub at_first : At (firsts by.rule by.tally) 0 []
+  pub at_first : At (first_labels by.rule by.tally) 0 []
   unfolding At
-  at_first = (first by.rule by.tally, refl, fits-first)
+  at_first = (first_label by.rule by.tally, refl, fits-first)
 
   pub at_next : (labs : List (Option (Down S V))) (L : Layer) (count a j b : ℕ) (p : List ℕ) → target (node L a) j ≡ suc b → b < count
       → At labs a p → Told p → Good (length p) labs → Door by.round.n j → length p < 16 → ¬ In j p → At (labels_next by labs L count) b (p ++ (j ∷ []))
   unfolding At Good labels_next Less
   at_next labs L count a j b p e h x t good d k n =
-      let q = next-at {A = Down S V} (merge by.rule by.tally) Less (λ x p f. f) (λ x y z f g p h. g p (f p h)) less-left less-right (arrive by) labs L count a j b x.0 e x.1 h in
+      let q = next-at {A = Down S V} (merge by.rule by.tally) Less (λ x p f. f) (λ x y z f g p h. g p (f p h)) less-left less-right (arrival_over by) labs L count a j b x.0 e x.1 h in
       (q.0, q.1, q.2 (p ++ (j ∷ [])) (arrive-fits x.0 p j x.2 t (good a x.0 x.1).0 d k n))
 
 -- ---- upward
@@ -264,9 +264,9 @@ module _ {S V : Type 0} {Keeps : List ℕ → Type 0} {Stands : S → List ℕ �
       let x = part-next by.round.n p j w g.part in
       (x.door, x.new, omega (arith, g.total, by.round.most))
 
-  pub not-barred : (p w : List ℕ) (j : ℕ) (l : Down S V) (u : Up) → Going by ruled tallied p (j ∷ w) → Told by ruled tallied p → Fits by ruled tallied l p → Fits by ruled tallied (arrive by l j) (p ++ (j ∷ []))
-      → FitsUp u w → barred by.round by.rule (length p) (suc (length w)) j (Some l) (Some u) ≡ false
-  unfolding arrive
+  pub not-barred : (p w : List ℕ) (j : ℕ) (l : Down S V) (u : Up) → Going by ruled tallied p (j ∷ w) → Told by ruled tallied p → Fits by ruled tallied l p → Fits by ruled tallied (arrival_over by l j) (p ++ (j ∷ []))
+      → FitsUp u w → is_barred by.round by.rule (length p) (suc (length w)) j (Some l) (Some u) ≡ false
+  unfolding arrival_over
   not-barred p w j l u g t f a fu =
       let facts = going-facts p w j g in
       or-none (has l.all j) (ltb (ones (bit_or l.some (bit_of j))) (suc (length p))) (ltb (door by.round j).closes (finish by.round l.finish (leg by.round l.lasts j) j))
@@ -286,7 +286,7 @@ module _ {S V : Type 0} {Keeps : List ℕ → Type 0} {Stands : S → List ℕ �
 
   pub sweeps-keep : (p w : List ℕ) (labs : List (Option (Down S V))) (Ls : Net) (a : ℕ) → Going by ruled tallied p w → Told by ruled tallied p → At by ruled tallied labs a p
       → Good by ruled tallied (length p) labs → Neat by.round.n Ls → PathFrom Ls a w → PathFrom (sweeps by (length p) labs Ls) a w
-  unfolding thinned At
+  unfolding unbarred_arcs At
   sweeps-keep p [] labs [] a g t at good neat q = q
   sweeps-keep p (j ∷ w) labs [] a g t at good neat q = absurd q
   sweeps-keep p [] labs (L ∷ Ls) a g t at good neat q = absurd q
@@ -296,7 +296,7 @@ module _ {S V : Type 0} {Keeps : List ℕ → Type 0} {Stands : S → List ℕ �
       let x = path-up Ls b w q.2 in
       let fits = arrive-fits by ruled tallied at.0 p j at.2 t (unfold Good in (good a at.0 at.1).0) facts.0 facts.2 facts.1 in
       let nb = not-barred p w j at.0 x.0 g t at.2 fits x.2 in
-      let nb' : barred by.round by.rule (length p) (suc (length Ls)) j (get_or labs a None) (get_or (ups Ls) b None) ≡ false =
+      let nb' : is_barred by.round by.rule (length p) (suc (length Ls)) j (get_or labs a None) (get_or (ups Ls) b None) ≡ false =
       rw (at.1, x.1, ← path-length Ls b w q.2) nb in
       let next' = at_next by ruled tallied labs L (width Ls) a j b p q.1 (inside Ls b w q.2) at t good facts.0 facts.2 facts.1 in
       let good' = good-next by ruled tallied (length p) labs L (width Ls) facts.2 good neat.0 in
@@ -304,7 +304,7 @@ module _ {S V : Type 0} {Keeps : List ℕ → Type 0} {Stands : S → List ℕ �
       (told-next by ruled tallied p j t facts.0 facts.2 facts.1) next'
       (rw (length-snoc p j) good') neat.1 q.2 in (
         b,
-        redirect-arc (λ a j b. cond (barred by.round by.rule (length p) (suc (length Ls)) j (get_or labs a None) (get_or (ups Ls) b None)) 0 (suc b)) L a j b q.1 ∙ ap (λ (z : Bool). cond z 0 (suc b)) nb',
+        redirect-arc (λ a j b. cond (is_barred by.round by.rule (length p) (suc (length Ls)) j (get_or labs a None) (get_or (ups Ls) b None)) 0 (suc b)) L a j b q.1 ∙ ap (λ (z : Bool). cond z 0 (suc b)) nb',
         rw (← (length-snoc p j)) rest,
       )
 
@@ -314,5 +314,5 @@ module _ {S V : Type 0} {Keeps : List ℕ → Type 0} {Stands : S → List ℕ �
 
   pub sweep-keeps : (w : List ℕ) (Ls : Net) → Allowed by.round Keeps w → Neat by.round.n Ls → PathFrom Ls 0 w → PathFrom (sweep by Ls) 0 w
   unfolding sweep
-  sweep-keeps w Ls o neat q = tidy-keeps (sweeps by 0 (firsts by.rule by.tally) Ls) w
-      (sweeps-keep [] w (firsts by.rule by.tally) Ls 0 (setting-out w o) (told_none by ruled tallied) (at_first by ruled tallied) (good-first by ruled tallied) neat q)
+  sweep-keeps w Ls o neat q = tidy-keeps (sweeps by 0 (first_labels by.rule by.tally) Ls) w
+      (sweeps-keep [] w (first_labels by.rule by.tally) Ls 0 (setting-out w o) (told_none by ruled tallied) (at_first by ruled tallied) (good-first by ruled tallied) neat q)

@@ -15,11 +15,11 @@ use Rattle.layers.specs.declared.refined.Refined.{Refined}
 use Rattle.layers.specs.declared.refined.Refined.TheVariants.{Whole, Full}
 use Rattle.layers.specs.declared.refusal.Refusal.{Refusal}
 use Rattle.layers.specs.declared.refusal.Refusal.TheVariants.{Width, Short, NoLayer, NoNode, NoDoor, OneGroup, LayerFull, SameNode, Clash, SameDoor}
-use Rattle.layers.specs.Flow.{Layer, Net, node, redirect, count_arcs, every_arc, ins, tidied, clash, join_at, seeks}
+use Rattle.layers.specs.Flow.{Layer, Net, node, redirect, count_arcs, every_arc, arrivals_at, tidied_arcs, clash, joined_arcs, has_path_with}
 use Rattle.layers.specs.Settings.{Setting}
 use Rattle.round.specs.Clock.{finish}
-use Rattle.layers.specs.Labels.{leg, arrive, opened, barred, dear, agree, agreeing, first_arrival, leaves}
-use Rattle.layers.specs.Records.{layers, arcs_in, downs_in, ups_in, drawn, laid}
+use Rattle.layers.specs.Labels.{leg, arrival_over, opening_arcs, is_barred, is_above_ceiling, agree, all_agree, first_arrival, differs_from_first}
+use Rattle.layers.specs.Records.{layers, arcs_in, downs_in, ups_in, arcs_of_layers, labelled_records}
 
 -- Q holds of each ceiling that the calls cut at
 abbrev pub EachCut : {V : Type 0} → (V → Type 0) → List (Call V) → Type 0
@@ -47,11 +47,11 @@ value_in [] = None
 value_in (x ∷ xs) = Some x.label.down.value
 
 -- ---- answers: a call that is done, or why it is refused
-abbrev pub Answer : Type 0
-Answer = Result (Unit {0}) Refusal
+abbrev pub Outcome : Type 0
+Outcome = Result (Unit {0}) Refusal
 
 -- opening a diagram of n doors and width W on so many records: refused for a width other than 1 to 128, and for too few records
-abbrev pub open_answer : ℕ → ℕ → ℕ → Answer
+abbrev pub open_answer : ℕ → ℕ → ℕ → Outcome
 open_answer n W long = if nat_lt W 1 || nat_lt 128 W then Err Width else if nat_lt long (n * W + 1) then Err Short else Ok tt
 
 -- i or j is no door of a round of n doors
@@ -70,16 +70,16 @@ module _ {S V : Type 0} (n W : ℕ) where
 
   -- the arcs of all layers
   abbrev pub arcs : List (Node S V) → Net
-  arcs xs = drawn n (nodes xs)
+  arcs xs = arcs_of_layers n (nodes xs)
 
   -- the labels at each layer of arcs, as they stand
   abbrev pub labels : List (Node S V) → List (LayerLabels S V)
   labels xs = labels_in (nodes xs)
 
   -- how many arcs fewer there are in ys than in xs
-  unfoldable pub fewer : List (Node S V) → List (Node S V) → ℕ
+  unfoldable pub arcs_lost : List (Node S V) → List (Node S V) → ℕ
   unfolding count_arcs
-  fewer xs ys = count_arcs (arcs xs) - count_arcs (arcs ys)
+  arcs_lost xs ys = count_arcs (arcs xs) - count_arcs (arcs ys)
 
   -- bound: the end's value, or none if no path leads to the end
   unfoldable pub bound : List (Node S V) → Option V
@@ -87,8 +87,8 @@ module _ {S V : Type 0} (n W : ℕ) where
 
   -- must i j: yes if no path has j at an earlier place than i
   unfoldable pub must : ℕ → ℕ → List (Node S V) → Bool
-  unfolding seeks
-  must i j xs = not (seeks (arcs xs) 0 (j ∷ i ∷ []))
+  unfolding has_path_with
+  must i j xs = not (has_path_with (arcs xs) 0 (j ∷ i ∷ []))
 
   -- what must(i, j) answers: refused if either is no door, and if they are one
   abbrev pub must_answer : ℕ → ℕ → List (Node S V) → Result Bool Refusal
@@ -97,60 +97,60 @@ module _ {S V : Type 0} (n W : ℕ) where
 -- ---- arcs, with the labels that are given: layer by layer from layer i on
 module _ {S V : Type 0} (r : Round) where
   -- the arcs that a sweep leaves, before tidying
-  unfoldable pub thinned : RuleSense S → ℕ → Net → List (LayerLabels S V) → Net
+  unfoldable pub unbarred_arcs : RuleSense S → ℕ → Net → List (LayerLabels S V) → Net
   unfolding redirect leg finish
-  thinned rule i [] labs = []
-  thinned rule i (L ∷ Ls) [] = L ∷ Ls
-  thinned rule i (L ∷ Ls) (x ∷ labs) =
-      redirect (λ a j b. if barred r rule i (suc (length Ls)) j (slice_index_or x.downs a None) (slice_index_or x.ups b None) then 0 else suc b) L
-      ∷ thinned rule (suc i) Ls labs
+  unbarred_arcs rule i [] labs = []
+  unbarred_arcs rule i (L ∷ Ls) [] = L ∷ Ls
+  unbarred_arcs rule i (L ∷ Ls) (x ∷ labs) =
+      redirect (λ a j b. if is_barred r rule i (suc (length Ls)) j (slice_index_or x.downs a None) (slice_index_or x.ups b None) then 0 else suc b) L
+      ∷ unbarred_arcs rule (suc i) Ls labs
 
   -- no arc is one that a sweep takes out
-  unfoldable pub quiet_from : RuleSense S → ℕ → Net → List (LayerLabels S V) → Bool
+  unfoldable pub nothing_barred : RuleSense S → ℕ → Net → List (LayerLabels S V) → Bool
   unfolding every_arc leg finish
-  quiet_from rule i [] labs = true
-  quiet_from rule i (L ∷ Ls) [] = true
-  quiet_from rule i (L ∷ Ls) (x ∷ labs) =
-      every_arc (λ a j b. not (barred r rule i (suc (length Ls)) j (slice_index_or x.downs a None) (slice_index_or x.ups b None))) 0 L
-      && quiet_from rule (suc i) Ls labs
+  nothing_barred rule i [] labs = true
+  nothing_barred rule i (L ∷ Ls) [] = true
+  nothing_barred rule i (L ∷ Ls) (x ∷ labs) =
+      every_arc (λ a j b. not (is_barred r rule i (suc (length Ls)) j (slice_index_or x.downs a None) (slice_index_or x.ups b None))) 0 L
+      && nothing_barred rule (suc i) Ls labs
 
   -- the arcs that a cut at the ceiling c leaves, before tidying
-  unfoldable pub trimmed : TallySense V → V → Net → List (LayerLabels S V) → Net
+  unfoldable pub affordable_arcs : TallySense V → V → Net → List (LayerLabels S V) → Net
   unfolding redirect leg finish
-  trimmed tally c [] labs = []
-  trimmed tally c (L ∷ Ls) [] = L ∷ Ls
-  trimmed tally c (L ∷ Ls) (x ∷ labs) =
-      redirect (λ a j b. if dear r tally c j (slice_index_or x.downs a None) then 0 else suc b) L ∷ trimmed tally c Ls labs
+  affordable_arcs tally c [] labs = []
+  affordable_arcs tally c (L ∷ Ls) [] = L ∷ Ls
+  affordable_arcs tally c (L ∷ Ls) (x ∷ labs) =
+      redirect (λ a j b. if is_above_ceiling r tally c j (slice_index_or x.downs a None) then 0 else suc b) L ∷ affordable_arcs tally c Ls labs
 
 module _ {S V : Type 0} (by : Setting S V) where
   -- what arrives at the node at place a of the next layer, from a layer with the labels labs
   abbrev pub arrivals : List (Option (Down S V)) → Layer → ℕ → List (Down S V)
-  arrivals labs L a = ins (arrive by) a labs L
+  arrivals labs L a = arrivals_at (arrival_over by) a labs L
 
   -- the arcs of the layers d, d + 1, .. after parting the node at place a of layer d + 1, where labs are the labels of layer d:
   -- the in-arcs that differ from the first go to a new last node of that layer, with the same out-arcs
-  unfoldable pub parted_at : ℕ → ℕ → List (Option (Down S V)) → Net → Net
-  unfolding redirect agree arrive ins
-  parted_at d a labs [] = []
-  parted_at zero a labs (L ∷ []) = L ∷ []
-  parted_at zero a labs (L ∷ M ∷ Ls) =
+  unfoldable pub parted_arcs : ℕ → ℕ → List (Option (Down S V)) → Net → Net
+  unfolding redirect agree arrival_over arrivals_at
+  parted_arcs d a labs [] = []
+  parted_arcs zero a labs (L ∷ []) = L ∷ []
+  parted_arcs zero a labs (L ∷ M ∷ Ls) =
       let x = first_arrival (arrivals labs L a) in
-      redirect (λ u j b. if b == a && leaves by x (slice_index_or labs u None) j then suc (length M) else suc b) L ∷ (M ++ (node M a ∷ [])) ∷ Ls
-  parted_at (suc d) a labs (L ∷ Ls) = L ∷ parted_at d a labs Ls
+      redirect (λ u j b. if b == a && differs_from_first by x (slice_index_or labs u None) j then suc (length M) else suc b) L ∷ (M ++ (node M a ∷ [])) ∷ Ls
+  parted_arcs (suc d) a labs (L ∷ Ls) = L ∷ parted_arcs d a labs Ls
 
   -- the in-arcs of the nodes at places below b of the next layer agree
-  unfoldable pub agreed_below : List (Option (Down S V)) → Layer → ℕ → Bool
-  unfolding agreeing arrive ins
-  agreed_below labs L zero = true
-  agreed_below labs L (suc b) = agreeing by.rule (arrivals labs L b) && agreed_below labs L b
+  unfoldable pub places_agree : List (Option (Down S V)) → Layer → ℕ → Bool
+  unfolding all_agree arrival_over arrivals_at
+  places_agree labs L zero = true
+  places_agree labs L (suc b) = all_agree by.rule (arrivals labs L b) && places_agree labs L b
 
   -- the in-arcs of each node agree, the end apart
-  unfoldable pub agreed_all : Net → List (LayerLabels S V) → Bool
-  unfolding agreed_below
-  agreed_all [] labs = true
-  agreed_all (L ∷ []) labs = true
-  agreed_all (L ∷ M ∷ Ls) [] = true
-  agreed_all (L ∷ M ∷ Ls) (x ∷ labs) = agreed_below x.downs L (length M) && agreed_all (M ∷ Ls) labs
+  unfoldable pub in_arcs_agree : Net → List (LayerLabels S V) → Bool
+  unfolding places_agree
+  in_arcs_agree [] labs = true
+  in_arcs_agree (L ∷ []) labs = true
+  in_arcs_agree (L ∷ M ∷ Ls) [] = true
+  in_arcs_agree (L ∷ M ∷ Ls) (x ∷ labs) = places_agree x.downs L (length M) && in_arcs_agree (M ∷ Ls) labs
 
 -- ---- on the lent list
 module _ {S V : Type 0} (by : Setting S V) where
@@ -159,32 +159,32 @@ module _ {S V : Type 0} (by : Setting S V) where
   Recs = List (Node S V)
 
   -- the records of these arcs, labelled anew; what stands after the end stays
-  unfoldable pub relaid : Recs → Net → Recs
-  unfolding laid
-  relaid xs Ls = laid by Ls ++ drop (by.round.n * by.width + 1) xs
+  unfoldable pub records_with : Recs → Net → Recs
+  unfolding labelled_records
+  records_with xs Ls = labelled_records by Ls ++ drop (by.round.n * by.width + 1) xs
 
   -- open
-  unfoldable pub opened_on : Recs → Recs
-  unfolding relaid opened
-  opened_on xs = relaid xs (opened by.round.n)
+  unfoldable pub after_open : Recs → Recs
+  unfolding records_with opening_arcs
+  after_open xs = records_with xs (opening_arcs by.round.n)
 
   -- sweep
-  unfoldable pub swept : Recs → Recs
-  unfolding relaid tidied thinned
-  swept xs = relaid xs (tidied (thinned by.round by.rule 0 (arcs by.round.n by.width xs) (labels by.round.n by.width xs)))
+  unfoldable pub after_sweep : Recs → Recs
+  unfolding records_with tidied_arcs unbarred_arcs
+  after_sweep xs = records_with xs (tidied_arcs (unbarred_arcs by.round by.rule 0 (arcs by.round.n by.width xs) (labels by.round.n by.width xs)))
 
   -- how many arcs it took out
   abbrev pub sweep_answer : Recs → ℕ
-  sweep_answer xs = fewer by.round.n by.width xs (swept xs)
+  sweep_answer xs = arcs_lost by.round.n by.width xs (after_sweep xs)
 
   -- cut at the ceiling c
-  unfoldable pub cut_at : V → Recs → Recs
-  unfolding relaid tidied trimmed
-  cut_at c xs = relaid xs (tidied (trimmed by.round by.tally c (arcs by.round.n by.width xs) (labels by.round.n by.width xs)))
+  unfoldable pub after_cut : V → Recs → Recs
+  unfolding records_with tidied_arcs affordable_arcs
+  after_cut c xs = records_with xs (tidied_arcs (affordable_arcs by.round by.tally c (arcs by.round.n by.width xs) (labels by.round.n by.width xs)))
 
   -- how many arcs it took out
   abbrev pub cut_answer : V → Recs → ℕ
-  cut_answer c xs = fewer by.round.n by.width xs (cut_at c xs)
+  cut_answer c xs = arcs_lost by.round.n by.width xs (after_cut c xs)
 
   -- how many nodes layer i has
   abbrev pub count_of : ℕ → Recs → ℕ
@@ -211,11 +211,11 @@ module _ {S V : Type 0} (by : Setting S V) where
 
   -- the in-arcs of node a of layer i agree: parting it would leave one group empty
   unfoldable pub one_group : ℕ → ℕ → Recs → Bool
-  unfolding agreeing arrive ins
-  one_group i a xs = agreeing by.rule (arrivals by (downs_before i xs) (arcs_before i xs) (a - 1))
+  unfolding all_agree arrival_over arrivals_at
+  one_group i a xs = all_agree by.rule (arrivals by (downs_before i xs) (arcs_before i xs) (a - 1))
 
   -- part node a of layer i: done, or refused, which leaves the records as they are
-  unfoldable pub part_answer : ℕ → ℕ → Recs → Answer
+  unfoldable pub part_answer : ℕ → ℕ → Recs → Outcome
   unfolding one_group
   part_answer i a xs =
       if bad_layer i then Err NoLayer
@@ -225,17 +225,17 @@ module _ {S V : Type 0} (by : Setting S V) where
       else Ok tt
 
   -- what it does if it is not refused
-  unfoldable pub split : ℕ → ℕ → Recs → Recs
-  unfolding relaid parted_at
-  split i a xs = relaid xs (parted_at by (i - 1) (a - 1) (downs_before i xs) (arcs by.round.n by.width xs))
+  unfoldable pub parted_records : ℕ → ℕ → Recs → Recs
+  unfolding records_with parted_arcs
+  parted_records i a xs = records_with xs (parted_arcs by (i - 1) (a - 1) (downs_before i xs) (arcs by.round.n by.width xs))
 
   -- part
-  unfoldable pub parted : ℕ → ℕ → Recs → Recs
-  unfolding part_answer split
-  parted i a xs = if is_ok (part_answer i a xs) then split i a xs else xs
+  unfoldable pub after_part : ℕ → ℕ → Recs → Recs
+  unfolding part_answer parted_records
+  after_part i a xs = if is_ok (part_answer i a xs) then parted_records i a xs else xs
 
   -- join nodes a and b of layer i: likewise; refused if they are one node, and if by some door they have arcs to two nodes
-  unfoldable pub join_answer : ℕ → ℕ → ℕ → Recs → Answer
+  unfoldable pub join_answer : ℕ → ℕ → ℕ → Recs → Outcome
   unfolding clash
   join_answer i a b xs =
       let L = slice_index_or (arcs by.round.n by.width xs) i [] in
@@ -246,66 +246,66 @@ module _ {S V : Type 0} (by : Setting S V) where
       else Ok tt
 
   -- join: the out-arcs of both, at the lower of the two places
-  unfoldable pub joined : ℕ → ℕ → ℕ → Recs → Recs
-  unfolding join_answer relaid join_at
-  joined i a b xs =
-      if is_ok (join_answer i a b xs) then relaid xs (join_at (i - 1) (min a b - 1) (max a b - 1) (arcs by.round.n by.width xs)) else xs
+  unfoldable pub after_join : ℕ → ℕ → ℕ → Recs → Recs
+  unfolding join_answer records_with joined_arcs
+  after_join i a b xs =
+      if is_ok (join_answer i a b xs) then records_with xs (joined_arcs (i - 1) (min a b - 1) (max a b - 1) (arcs by.round.n by.width xs)) else xs
 
   -- refine, in one layer: parts nodes a, a + 1, .. of layer i, k at most, each that is not of one group; yes if one is left since the
   -- layer is full
-  unfoldable pub splits : ℕ → ℕ → ℕ → Recs → Bool × Recs
-  unfolding one_group split
-  splits zero i a xs = (false, xs)
-  splits (suc k) i a xs =
+  unfoldable pub parts_of_layer : ℕ → ℕ → ℕ → Recs → Bool × Recs
+  unfolding one_group parted_records
+  parts_of_layer zero i a xs = (false, xs)
+  parts_of_layer (suc k) i a xs =
       if nat_lt (count_of i xs) a then (false, xs)
-      else if one_group i a xs then splits k i (suc a) xs
+      else if one_group i a xs then parts_of_layer k i (suc a) xs
       else if is_full i xs then (true, xs)
-      else splits k i (suc a) (split i a xs)
+      else parts_of_layer k i (suc a) (parted_records i a xs)
 
   -- refine, in k layers from i on: a sweep, then the parts of the layer; up to a layer that is full, or whole if none is
-  unfoldable pub splits_all : ℕ → ℕ → Recs → Refined × Recs
-  unfolding swept splits
-  splits_all zero i xs = (Whole, xs)
-  splits_all (suc k) i xs = let p = splits by.width i 1 (swept xs) in if p.0 then (Full i, p.1) else splits_all k (suc i) p.1
+  unfoldable pub refinement_from : ℕ → ℕ → Recs → Refined × Recs
+  unfolding after_sweep parts_of_layer
+  refinement_from zero i xs = (Whole, xs)
+  refinement_from (suc k) i xs = let p = parts_of_layer by.width i 1 (after_sweep xs) in if p.0 then (Full i, p.1) else refinement_from k (suc i) p.1
 
   -- sweeps until one answers 0, k at most
-  unfoldable pub swept_out : ℕ → Recs → Recs
-  unfolding swept fewer
-  swept_out zero xs = xs
-  swept_out (suc k) xs = if sweep_answer xs == 0 then swept xs else swept_out k (swept xs)
+  unfoldable pub after_sweeps : ℕ → Recs → Recs
+  unfolding after_sweep arcs_lost
+  after_sweeps zero xs = xs
+  after_sweeps (suc k) xs = if sweep_answer xs == 0 then after_sweep xs else after_sweeps k (after_sweep xs)
 
   -- refine: its answer, and what it leaves. Each of the sweeps at its end but the last takes out an arc, so there are enough of them
-  unfoldable pub refined : Recs → Refined × Recs
-  unfolding splits_all swept_out count_arcs
-  refined xs = let p = splits_all (by.round.n - 1) 1 xs in (p.0, swept_out (suc (count_arcs (arcs by.round.n by.width p.1))) p.1)
+  unfoldable pub refinement : Recs → Refined × Recs
+  unfolding refinement_from after_sweeps count_arcs
+  refinement xs = let p = refinement_from (by.round.n - 1) 1 xs in (p.0, after_sweeps (suc (count_arcs (arcs by.round.n by.width p.1))) p.1)
 
   -- ---- a list of calls
   -- what a call leaves of the records
-  unfoldable pub does : Call V → Recs → Recs
-  unfolding swept parted joined cut_at refined
-  does Sweep xs = swept xs
-  does (Part i a) xs = parted i a xs
-  does (Join i a b) xs = joined i a b xs
-  does (Cut c) xs = cut_at c xs
-  does Refine xs = (refined xs).1
+  unfoldable pub after_call : Call V → Recs → Recs
+  unfolding after_sweep after_part after_join after_cut refinement
+  after_call Sweep xs = after_sweep xs
+  after_call (Part i a) xs = after_part i a xs
+  after_call (Join i a b) xs = after_join i a b xs
+  after_call (Cut c) xs = after_cut c xs
+  after_call Refine xs = (refinement xs).1
 
   -- what it answers
   unfoldable pub answer_of : Call V → Recs → calls.Answer
-  unfolding swept part_answer join_answer cut_at refined fewer
+  unfolding after_sweep part_answer join_answer after_cut refinement arcs_lost
   answer_of Sweep xs = answer.Removed (sweep_answer xs)
   answer_of (Part i a) xs = answer.Done (part_answer i a xs)
   answer_of (Join i a b) xs = answer.Done (join_answer i a b xs)
   answer_of (Cut c) xs = answer.Removed (cut_answer c xs)
-  answer_of Refine xs = answer.Refined (refined xs).0
+  answer_of Refine xs = answer.Refined (refinement xs).0
 
   -- call after call
-  abbrev pub run : List (Call V) → Recs → Recs
-  run [] xs = xs
-  run (c ∷ cs) xs = run cs (does c xs)
+  abbrev pub after_calls : List (Call V) → Recs → Recs
+  after_calls [] xs = xs
+  after_calls (c ∷ cs) xs = after_calls cs (after_call c xs)
 
   -- settled: the in-arcs of each node agree, and no arc is one that a sweep takes out
-  unfoldable pub settled : Recs → Bool
-  unfolding agreed_all quiet_from
-  settled xs =
-      agreed_all by (arcs by.round.n by.width xs) (labels by.round.n by.width xs)
-      && quiet_from by.round by.rule 0 (arcs by.round.n by.width xs) (labels by.round.n by.width xs)
+  unfoldable pub is_settled : Recs → Bool
+  unfolding in_arcs_agree nothing_barred
+  is_settled xs =
+      in_arcs_agree by (arcs by.round.n by.width xs) (labels by.round.n by.width xs)
+      && nothing_barred by.round by.rule 0 (arcs by.round.n by.width xs) (labels by.round.n by.width xs)

@@ -11,12 +11,12 @@ use Rattle.layers.specs.declared.refined.Refined.TheVariants.{Whole}
 use Rattle.layers.specs.Flow.{PathFrom}
 use Rattle.layers.specs.declared.call.Call.{Call}
 use Rattle.layers.specs.Settings.{Setting, setting}
-use Rattle.layers.specs.Calls.{EachCut, arcs, labels, relaid, agreed_all, sweep_answer, opened_on, refined, run, bound, must, settled}
+use Rattle.layers.specs.Calls.{EachCut, arcs, labels, records_with, in_arcs_agree, sweep_answer, after_open, refinement, after_calls, bound, must, is_settled}
 
 -- i stands ahead of j in w
-abbrev pub Ahead : ℕ → ℕ → List ℕ → Type 0
-Ahead i j [] = ⊥
-Ahead i j (k ∷ w) = ((i ≡ k) × In j w) ⊎ Ahead i j w
+abbrev pub StandsAhead : ℕ → ℕ → List ℕ → Type 0
+StandsAhead i j [] = ⊥
+StandsAhead i j (k ∷ w) = ((i ≡ k) × In j w) ⊎ StandsAhead i j w
 
 -- w is read along a path from the first node to the end, in the diagram of n doors and width W in these records
 abbrev pub IsPath : {S V : Type 0} → ℕ → ℕ → List (Node S V) → List ℕ → Type 0
@@ -24,8 +24,8 @@ IsPath n W xs w = PathFrom (arcs n W xs) 0 w
 
 -- what the answer b to must(i, j) says of the paths: j stands at an earlier place than i on none, or on this one
 pub record MustMeans {S V : Type 0} (n W i j : ℕ) (xs : List (Node S V)) (b : Bool) : Type 0 where
-  pub yes : b ≡ true → (w : List ℕ) → IsPath n W xs w → Ahead j i w → ⊥
-  pub no' : b ≡ false → (w : List ℕ) × IsPath n W xs w × Ahead j i w
+  pub yes : b ≡ true → (w : List ℕ) → IsPath n W xs w → StandsAhead j i w → ⊥
+  pub no' : b ≡ false → (w : List ℕ) × IsPath n W xs w × StandsAhead j i w
 
 -- of the records xs, which the calls cs left
 module _ {S V : Type 0} (by : Setting S V) (Keeps : List ℕ → Type 0) (cs : List (Call V)) where
@@ -42,7 +42,7 @@ module _ {S V : Type 0} (by : Setting S V) (Keeps : List ℕ → Type 0) (cs : L
     -- if there is none, no order is wanted
     pub low_none : bound by.round.n by.width xs ≡ None → (w : List ℕ) → Wanted w → ⊥
     -- if i must be ahead of j, it is so in every wanted order
-    pub must_yes : (i j : ℕ) → Door by.round.n i → Door by.round.n j → (i ≢ j) → must by.round.n by.width i j xs ≡ true → (w : List ℕ) → Wanted w → Ahead i j w
+    pub must_yes : (i j : ℕ) → Door by.round.n i → Door by.round.n j → (i ≢ j) → must by.round.n by.width i j xs ≡ true → (w : List ℕ) → Wanted w → StandsAhead i j w
 
   -- what holds of a settled diagram
   pub record NothingFalse (xs : List (Node S V)) : Type 0 where
@@ -54,38 +54,38 @@ module _ {S V : Type 0} (by : Setting S V) (Keeps : List ℕ → Type 0) (cs : L
     -- there is none only if there is no path
     pub least_none : bound by.round.n by.width xs ≡ None → (w : List ℕ) → IsPath by.round.n by.width xs w → ⊥
     -- if i need not be ahead of j, some path has j ahead of i
-    pub must_no : (i j : ℕ) → must by.round.n by.width i j xs ≡ false → (w : List ℕ) × IsPath by.round.n by.width xs w × Ahead j i w
+    pub must_no : (i j : ℕ) → must by.round.n by.width i j xs ≡ false → (w : List ℕ) × IsPath by.round.n by.width xs w × StandsAhead j i w
 
   -- nothing is lost at any time, and nothing is false once the diagram is settled
-  pub record Sure (xs : List (Node S V)) : Type 0 where
+  pub record ClaimHolds (xs : List (Node S V)) : Type 0 where
     pub nothing_lost : NothingLost xs
-    pub nothing_false : settled by xs ≡ true → NothingFalse xs
+    pub nothing_false : is_settled by xs ≡ true → NothingFalse xs
 
 -- for one rule and one tally: every round that both serve, every width from 1 to 128, every lent list, every list of calls after opening
-abbrev pub Kept : {S V : Type 0} → (ℕ → Type 0) → RuleSense S → (List ℕ → Type 0) → (ℕ → Type 0) → TallySense V → Type 0
-Kept {S} {V} RuleServes rule Keeps TallyServes tally =
+abbrev pub ClaimAlwaysHolds : {S V : Type 0} → (ℕ → Type 0) → RuleSense S → (List ℕ → Type 0) → (ℕ → Type 0) → TallySense V → Type 0
+ClaimAlwaysHolds {S} {V} RuleServes rule Keeps TallyServes tally =
     (r : Round) → RuleServes r.n → TallyServes r.n → (W : ℕ) → 1 ≤ W → W ≤ 128 → (lent : List (Node S V)) (cs : List (Call V))
-    → let by = setting r rule tally W in Sure by Keeps cs (run by cs (opened_on by lent))
+    → let by = setting r rule tally W in ClaimHolds by Keeps cs (after_calls by cs (after_open by lent))
 
 -- the labels that stand: after every list of calls the records are the arcs read off them, labelled anew, and later places are those lent
-abbrev pub WorkedOut : {S V : Type 0} → (ℕ → Type 0) → RuleSense S → TallySense V → Type 0
-WorkedOut {S} {V} RuleServes rule tally =
+abbrev pub LabelsStand : {S V : Type 0} → (ℕ → Type 0) → RuleSense S → TallySense V → Type 0
+LabelsStand {S} {V} RuleServes rule tally =
     (r : Round) → RuleServes r.n → (W : ℕ) → 1 ≤ W → W ≤ 128 → (lent : List (Node S V)) (cs : List (Call V))
-    → let by = setting r rule tally W in let xs = run by cs (opened_on by lent) in xs ≡ relaid by lent (arcs r.n W xs)
+    → let by = setting r rule tally W in let xs = after_calls by cs (after_open by lent) in xs ≡ records_with by lent (arcs r.n W xs)
 
 -- settled is yes exactly when the in-arcs of each node agree and a sweep would take out nothing
 abbrev pub SettledMeans : {S V : Type 0} → (ℕ → Type 0) → RuleSense S → TallySense V → Type 0
 SettledMeans {S} {V} RuleServes rule tally =
     (r : Round) → RuleServes r.n → (W : ℕ) → 1 ≤ W → W ≤ 128 → (lent : List (Node S V)) (cs : List (Call V))
-    → let by = setting r rule tally W in let xs = run by cs (opened_on by lent) in
-    settled by xs ≡ (agreed_all by (arcs r.n W xs) (labels r.n W xs) && sweep_answer by xs == 0)
+    → let by = setting r rule tally W in let xs = after_calls by cs (after_open by lent) in
+    is_settled by xs ≡ (in_arcs_agree by (arcs r.n W xs) (labels r.n W xs) && sweep_answer by xs == 0)
 
 -- refine of these records that answers whole leaves the diagram settled
 abbrev pub WholeSettles : {S V : Type 0} → Setting S V → List (Node S V) → Type 0
-WholeSettles by xs = (refined by xs).0 ≡ Whole → settled by (refined by xs).1 ≡ true
+WholeSettles by xs = (refinement by xs).0 ≡ Whole → is_settled by (refinement by xs).1 ≡ true
 
 -- so after every list of calls
 abbrev pub WholeSettlesAlways : {S V : Type 0} → (ℕ → Type 0) → RuleSense S → TallySense V → Type 0
 WholeSettlesAlways {S} {V} RuleServes rule tally =
     (r : Round) → RuleServes r.n → (W : ℕ) → 1 ≤ W → W ≤ 128 → (lent : List (Node S V)) (cs : List (Call V))
-    → let by = setting r rule tally W in WholeSettles by (run by cs (opened_on by lent))
+    → let by = setting r rule tally W in WholeSettles by (after_calls by cs (after_open by lent))

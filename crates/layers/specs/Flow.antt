@@ -92,17 +92,17 @@ module _ {A : Type 0} where
   put false x r = r
 
   -- those from one source with the label l, by the doors from j on
-  unfoldable pub ins_door : (A → ℕ → A) → ℕ → A → ℕ → Outs → List A
-  ins_door arrive b l j [] = []
-  ins_door arrive b l j (t ∷ ts) = put (t == suc b) (arrive l j) (ins_door arrive b l (suc j) ts)
+  unfoldable pub arrivals_by_door : (A → ℕ → A) → ℕ → A → ℕ → Outs → List A
+  arrivals_by_door arrive b l j [] = []
+  arrivals_by_door arrive b l j (t ∷ ts) = put (t == suc b) (arrive l j) (arrivals_by_door arrive b l (suc j) ts)
 
   -- those from all sources, by their labels; a source with none sends nothing
-  unfoldable pub ins : (A → ℕ → A) → ℕ → List (Option A) → Layer → List A
-  unfolding ins_door
-  ins arrive b [] L = []
-  ins arrive b (o ∷ labs) [] = []
-  ins arrive b (None ∷ labs) (nd ∷ L) = ins arrive b labs L
-  ins arrive b (Some l ∷ labs) (nd ∷ L) = ins_door arrive b l 1 nd ++ ins arrive b labs L
+  unfoldable pub arrivals_at : (A → ℕ → A) → ℕ → List (Option A) → Layer → List A
+  unfolding arrivals_by_door
+  arrivals_at arrive b [] L = []
+  arrivals_at arrive b (o ∷ labs) [] = []
+  arrivals_at arrive b (None ∷ labs) (nd ∷ L) = arrivals_at arrive b labs L
+  arrivals_at arrive b (Some l ∷ labs) (nd ∷ L) = arrivals_by_door arrive b l 1 nd ++ arrivals_at arrive b labs L
 
   -- what arrives, merged in this order; none where nothing arrives
   unfoldable pub gather : (A → A → A) → List A → Option A
@@ -111,8 +111,8 @@ module _ {A : Type 0} where
 
   -- the labels of the next layer, of `count` nodes
   unfoldable pub next : (A → ℕ → A) → (A → A → A) → List (Option A) → Layer → ℕ → List (Option A)
-  unfolding ins gather
-  next arrive merge labs L count = table count (λ b. gather merge (ins arrive b labs L))
+  unfolding arrivals_at gather
+  next arrive merge labs L count = table count (λ b. gather merge (arrivals_at arrive b labs L))
 
   -- upward: what climbs to a node from its targets, by door
   -- the label of the target, if there is one
@@ -126,21 +126,21 @@ module _ {A : Type 0} where
   cons_if_some climb j (Some l) r = climb l j ∷ r
 
   -- what climbs to a node over its arcs, by the doors from j on
-  unfoldable pub outs : (A → ℕ → A) → List (Option A) → ℕ → Outs → List A
-  outs climb us j [] = []
-  outs climb us j (t ∷ ts) = cons_if_some climb j (read us t) (outs climb us (suc j) ts)
+  unfoldable pub climbs_of : (A → ℕ → A) → List (Option A) → ℕ → Outs → List A
+  climbs_of climb us j [] = []
+  climbs_of climb us j (t ∷ ts) = cons_if_some climb j (read us t) (climbs_of climb us (suc j) ts)
 
   -- the labels of the first of these layers, worked out from the end, whose label is top
   unfoldable pub up : (A → ℕ → A) → (A → A → A) → A → Net → List (Option A)
-  unfolding outs gather
+  unfolding climbs_of gather
   up climb merge top [] = Some top ∷ []
-  up climb merge top (L ∷ Ls) = let us = up climb merge top Ls in map (λ nd. gather merge (outs climb us 1 nd)) L
+  up climb merge top (L ∷ Ls) = let us = up climb merge top Ls in map (λ nd. gather merge (climbs_of climb us 1 nd)) L
 
   -- the label at the end
-  unfoldable pub final : (A → ℕ → A) → (A → A → A) → List (Option A) → Net → Option A
+  unfoldable pub end_label : (A → ℕ → A) → (A → A → A) → List (Option A) → Net → Option A
   unfolding next
-  final arrive merge labs [] = slice_index_or labs 0 None
-  final arrive merge labs (L ∷ Ls) = final arrive merge (next arrive merge labs L (width Ls)) Ls
+  end_label arrive merge labs [] = slice_index_or labs 0 None
+  end_label arrive merge labs (L ∷ Ls) = end_label arrive merge (next arrive merge labs L (width Ls)) Ls
 
 -- ---- tidying: nodes on no path go, the rest renumber in order
 -- a node that is reached has a mark, one that is not has none: it flows like a label that says nothing else
@@ -192,10 +192,10 @@ tidy fr (L ∷ Ls) =
     compress (flags fr (marks_up (L ∷ Ls))) (redirect (λ a j b. renumber fs b) L) ∷ tidy fr' Ls
 
 -- the whole diagram: the first node stays, also in an empty diagram
-unfoldable pub tidied : Net → Net
+unfoldable pub tidied_arcs : Net → Net
 unfolding redirect marks_next marks_up flags renumber tidy
-tidied [] = []
-tidied (L ∷ Ls) =
+tidied_arcs [] = []
+tidied_arcs (L ∷ Ls) =
     let fr = marks_next (Some tt ∷ []) L (width Ls) in
     let fs = flags fr (marks_up Ls) in
     redirect (λ a j b. renumber fs b) L ∷ tidy fr Ls
@@ -213,40 +213,40 @@ both_out (s ∷ ss) [] = s ∷ ss
 both_out (s ∷ ss) (t ∷ ts) = either_target s t ∷ both_out ss ts
 
 -- two arcs by one door lead to two nodes
-abbrev pub apart_t : ℕ → ℕ → Bool
-apart_t zero t = false
-apart_t (suc s) zero = false
-apart_t (suc s) (suc t) = not (s == t)
+abbrev pub targets_differ : ℕ → ℕ → Bool
+targets_differ zero t = false
+targets_differ (suc s) zero = false
+targets_differ (suc s) (suc t) = not (s == t)
 
 -- by some door they do
 unfoldable pub clash : Outs → Outs → Bool
 clash [] ts = false
 clash (s ∷ ss) [] = false
-clash (s ∷ ss) (t ∷ ts) = apart_t s t || clash ss ts
+clash (s ∷ ss) (t ∷ ts) = targets_differ s t || clash ss ts
 
 -- a list without the item at place i
-unfoldable pub without_at : {A : Type 0} → ℕ → List A → List A
-without_at i [] = []
-without_at zero (x ∷ xs) = xs
-without_at (suc i) (x ∷ xs) = x ∷ without_at i xs
+unfoldable pub without_place : {A : Type 0} → ℕ → List A → List A
+without_place i [] = []
+without_place zero (x ∷ xs) = xs
+without_place (suc i) (x ∷ xs) = x ∷ without_place i xs
 
 -- the place that b becomes when hi goes into lo
-unfoldable pub moved : ℕ → ℕ → ℕ → ℕ
-moved lo hi b = if b == hi then lo else if nat_lt hi b then b - 1 else b
+unfoldable pub place_after_join : ℕ → ℕ → ℕ → ℕ
+place_after_join lo hi b = if b == hi then lo else if nat_lt hi b then b - 1 else b
 
 -- the nodes at places lo and hi of layer d + 1 are one, at lo
-unfoldable pub join_at : ℕ → ℕ → ℕ → Net → Net
-unfolding redirect moved both_out without_at
-join_at d lo hi [] = []
-join_at zero lo hi (L ∷ []) = L ∷ []
-join_at zero lo hi (L ∷ M ∷ Ls) = redirect (λ a j b. suc (moved lo hi b)) L ∷ without_at hi (slice_set M lo (both_out (node M lo) (node M hi))) ∷ Ls
-join_at (suc d) lo hi (L ∷ Ls) = L ∷ join_at d lo hi Ls
+unfoldable pub joined_arcs : ℕ → ℕ → ℕ → Net → Net
+unfolding redirect place_after_join both_out without_place
+joined_arcs d lo hi [] = []
+joined_arcs zero lo hi (L ∷ []) = L ∷ []
+joined_arcs zero lo hi (L ∷ M ∷ Ls) = redirect (λ a j b. suc (place_after_join lo hi b)) L ∷ without_place hi (slice_set M lo (both_out (node M lo) (node M hi))) ∷ Ls
+joined_arcs (suc d) lo hi (L ∷ Ls) = L ∷ joined_arcs d lo hi Ls
 
 -- ---- must: some path has the doors of gs, in this order, among its doors
 -- what is left to find of gs after door j
-abbrev pub hit : List ℕ → ℕ → List ℕ
-hit [] j = []
-hit (g ∷ gs) j = if g == j then gs else g ∷ gs
+abbrev pub still_sought : List ℕ → ℕ → List ℕ
+still_sought [] j = []
+still_sought (g ∷ gs) j = if g == j then gs else g ∷ gs
 
 abbrev pub is_nil : List ℕ → Bool
 is_nil [] = true
@@ -259,44 +259,44 @@ any_door f j (zero ∷ ts) = any_door f (suc j) ts
 any_door f j (suc b ∷ ts) = f j b || any_door f (suc j) ts
 
 -- so from the node at place a of the first of these layers
-unfoldable pub seeks : Net → ℕ → List ℕ → Bool
+unfoldable pub has_path_with : Net → ℕ → List ℕ → Bool
 unfolding any_door
-seeks [] a gs = a == 0 && is_nil gs
-seeks (L ∷ Ls) a gs = any_door (λ j b. seeks Ls b (hit gs j)) 1 (node L a)
+has_path_with [] a gs = a == 0 && is_nil gs
+has_path_with (L ∷ Ls) a gs = any_door (λ j b. has_path_with Ls b (still_sought gs j)) 1 (node L a)
 
 -- ---- every node lies on a path: it has an in-arc and an out-arc, and no arc leads out of the next layer
 -- no arc of the layer leads past the m nodes of the next
-abbrev pub Ranged : Layer → ℕ → Type 0
-Ranged L m = (a j b : ℕ) → target (node L a) j ≡ suc b → b < m
+abbrev pub IsRanged : Layer → ℕ → Type 0
+IsRanged L m = (a j b : ℕ) → target (node L a) j ≡ suc b → b < m
 
 -- each of those has an in-arc
-abbrev pub Fed : Layer → ℕ → Type 0
-Fed L m = (b : ℕ) → b < m → (a : ℕ) × (j : ℕ) × (target (node L a) j ≡ suc b)
+abbrev pub IsFed : Layer → ℕ → Type 0
+IsFed L m = (b : ℕ) → b < m → (a : ℕ) × (j : ℕ) × (target (node L a) j ≡ suc b)
 
 -- each node of the layer has an out-arc
-abbrev pub Led : Layer → Type 0
-Led L = (a : ℕ) → a < length L → (j : ℕ) × (b : ℕ) × (target (node L a) j ≡ suc b)
+abbrev pub IsLed : Layer → Type 0
+IsLed L = (a : ℕ) → a < length L → (j : ℕ) × (b : ℕ) × (target (node L a) j ≡ suc b)
 
 -- all three, layer by layer; the first node may have no arc
-abbrev pub Tied : Net → Type 0
-Tied [] = Unit {0}
-Tied (L ∷ []) = Ranged L 1
-Tied (L ∷ M ∷ Ls) = Ranged L (length M) × Fed L (length M) × Led M × Tied (M ∷ Ls)
+abbrev pub IsTied : Net → Type 0
+IsTied [] = Unit {0}
+IsTied (L ∷ []) = IsRanged L 1
+IsTied (L ∷ M ∷ Ls) = IsRanged L (length M) × IsFed L (length M) × IsLed M × IsTied (M ∷ Ls)
 
 -- layers 1 and on have at most W nodes
-abbrev pub Roomy : ℕ → Net → Type 0
-Roomy W [] = Unit {0}
-Roomy W (L ∷ Ls) = (length L ≤ W) × Roomy W Ls
+abbrev pub IsRoomy : ℕ → Net → Type 0
+IsRoomy W [] = Unit {0}
+IsRoomy W (L ∷ Ls) = (length L ≤ W) × IsRoomy W Ls
 
 -- each node has n targets, one for each door
-abbrev pub Even : ℕ → Net → Type 0
-Even n [] = Unit {0}
-Even n (L ∷ Ls) = ((a : ℕ) → a < length L → length (node L a) ≡ n) × Even n Ls
+abbrev pub IsEven : ℕ → Net → Type 0
+IsEven n [] = Unit {0}
+IsEven n (L ∷ Ls) = ((a : ℕ) → a < length L → length (node L a) ≡ n) × IsEven n Ls
 
 -- the arcs that a diagram of n doors and width W may have: n layers, one first node, at most W nodes to a layer, each on a path
-pub record Lawful (n W : ℕ) (Ls : Net) : Type 0 where
+pub record IsLawful (n W : ℕ) (Ls : Net) : Type 0 where
   pub deep : length Ls ≡ n
   pub one_first : width Ls ≡ 1
-  pub even : Even n Ls
-  pub roomy : Roomy W Ls
-  pub tied : Tied Ls
+  pub even : IsEven n Ls
+  pub roomy : IsRoomy W Ls
+  pub tied : IsTied Ls

@@ -10,7 +10,7 @@ use Rattle.layers.specs.declared.node.Node.{Node}
 use Rattle.layers.specs.Flow.{Net, node, target, PathFrom}
 use Rattle.layers.specs.declared.call.Call.{Call}
 use Rattle.layers.specs.Settings.{setting}
-use Rattle.layers.specs.Calls.{arcs, layer, opened_on, run}
+use Rattle.layers.specs.Calls.{arcs, layer, after_open, after_calls}
 
 -- w is read along arcs from the node at place a of the first of these layers to place b of the layer that w reaches
 abbrev pub PathTo : Net → ℕ → List ℕ → ℕ → Type 0
@@ -58,5 +58,5 @@ pub record Labelled {S V : Type 0} (Allows : ℕ → V → Type 0) (D : Net) (i 
 abbrev pub LabelsMean : {S V : Type 0} → (ℕ → Type 0) → RuleSense S → (ℕ → Type 0) → TallySense V → (ℕ → V → Type 0) → Type 0
 LabelsMean {S} {V} RuleServes rule TallyServes tally Allows =
     (r : Round) → RuleServes r.n → TallyServes r.n → (W : ℕ) → 1 ≤ W → W ≤ 128 → (lent : List (Node S V)) (cs : List (Call V))
-    → let by = setting r rule tally W in let xs = run by cs (opened_on by lent) in
+    → let by = setting r rule tally W in let xs = after_calls by cs (after_open by lent) in
     (i a : ℕ) (other : Node S V) → i ≤ r.n → a < length (layer r.n W i xs) → Labelled Allows (arcs r.n W xs) i a (slice_index_or (layer r.n W i xs) a other)

@@ -51,15 +51,15 @@ leg r m j = unwrap_or (fold (leg_step r m j) None (range_with_len 0 (r.n + 1))) 
 -- ---- downward: what stands at a node
 module _ {S V : Type 0} (rule : RuleSense S) (tally : TallySense V) where
   -- the first node
-  abbrev pub first : Down S V
-  first = record { all = 0; some = 0; finish = 0; lasts = 1; state = rule.start; value = tally.start }
+  abbrev pub first_label : Down S V
+  first_label = record { all = 0; some = 0; finish = 0; lasts = 1; state = rule.start; value = tally.start }
 
-  abbrev pub firsts : List (Option (Down S V))
-  firsts = Some first ∷ []
+  abbrev pub first_labels : List (Option (Down S V))
+  first_labels = Some first_label ∷ []
 
   -- a place that is not in use
-  abbrev pub blank : Down S V
-  blank = record { all = 0; some = 0; finish = 0; lasts = 0; state = rule.start; value = tally.start }
+  abbrev pub blank_label : Down S V
+  blank_label = record { all = 0; some = 0; finish = 0; lasts = 0; state = rule.start; value = tally.start }
 
   -- what two arrivals, or what is gathered and one more, have together
   unfoldable pub merge : Down S V → Down S V → Down S V
@@ -82,9 +82,9 @@ abbrev pub arrival_value : {S V : Type 0} → Round → TallySense V → Down S 
 arrival_value r tally l j = tally.step l.value j (leg r l.lasts j) (arrival_finish r l j)
 
 -- what it brings to its target
-unfoldable pub arrive : {S V : Type 0} → Setting S V → Down S V → ℕ → Down S V
+unfoldable pub arrival_over : {S V : Type 0} → Setting S V → Down S V → ℕ → Down S V
 unfolding leg finish
-arrive by l j = record {
+arrival_over by l j = record {
   all = bit_or l.all (bit_of j);
   some = bit_or l.some (bit_of j);
   finish = arrival_finish by.round l j;
@@ -95,23 +95,23 @@ arrive by l j = record {
 
 -- the labels of the next layer, of which there are so many nodes; None for a node to which no path leads
 unfoldable pub labels_next : {S V : Type 0} → Setting S V → List (Option (Down S V)) → Layer → ℕ → List (Option (Down S V))
-unfolding next arrive merge
-labels_next by = next (arrive by) (merge by.rule by.tally)
+unfolding next arrival_over merge
+labels_next by = next (arrival_over by) (merge by.rule by.tally)
 
 -- ---- open: each of n layers has one node, and each node an arc for every door
 abbrev pub all_doors : ℕ → Outs
 all_doors n = table n (λ k. 1)
 
-unfoldable pub opened : ℕ → Net
-opened n = table n (λ i. all_doors n ∷ [])
+unfoldable pub opening_arcs : ℕ → Net
+opening_arcs n = table n (λ i. all_doors n ∷ [])
 
 -- ---- sweep: the arc by j from layer i, with h layers of arcs from there to the end, goes if one of six tests bars it:
 --   1 j is in all of the source, 2 some with j has fewer than i + 1 doors, 3 the arrival's finish is above j's closes,
 --   4 the rule bars j, 5 j is in allup of the target, 6 someup with j has fewer than h doors
-abbrev pub barred : {S V : Type 0} → Round → RuleSense S → ℕ → ℕ → ℕ → Option (Down S V) → Option Up → Bool
-barred r rule i h j None u = true
-barred r rule i h j (Some l) None = true
-barred r rule i h j (Some l) (Some u) =
+abbrev pub is_barred : {S V : Type 0} → Round → RuleSense S → ℕ → ℕ → ℕ → Option (Down S V) → Option Up → Bool
+is_barred r rule i h j None u = true
+is_barred r rule i h j (Some l) None = true
+is_barred r rule i h j (Some l) (Some u) =
     has l.all j
     || (nat_lt (count_ones (bit_or l.some (bit_of j))) (suc i)
     || (nat_lt (door r j).closes (arrival_finish r l j)
@@ -120,9 +120,9 @@ barred r rule i h j (Some l) (Some u) =
     || nat_lt (count_ones (bit_or u.someup (bit_of j))) h))))
 
 -- ---- cut: the arrival's value is above the ceiling c
-abbrev pub dear : {S V : Type 0} → Round → TallySense V → V → ℕ → Option (Down S V) → Bool
-dear r tally c j None = true
-dear r tally c j (Some l) = not (tally.not_above (arrival_value r tally l j) c)
+abbrev pub is_above_ceiling : {S V : Type 0} → Round → TallySense V → V → ℕ → Option (Down S V) → Bool
+is_above_ceiling r tally c j None = true
+is_above_ceiling r tally c j (Some l) = not (tally.not_above (arrival_value r tally l j) c)
 
 -- ---- part: which in-arcs stay
 module _ {S V : Type 0} (rule : RuleSense S) where
@@ -131,16 +131,16 @@ module _ {S V : Type 0} (rule : RuleSense S) where
   agree x y = x.all == y.all && (x.some == y.some && (x.finish == y.finish && (x.lasts == y.lasts && rule.same x.state y.state)))
 
   -- x agrees with each of them
-  unfoldable pub agree_all : Down S V → List (Down S V) → Bool
+  unfoldable pub agrees_with_all : Down S V → List (Down S V) → Bool
   unfolding agree
-  agree_all x [] = true
-  agree_all x (y ∷ ys) = agree x y && agree_all x ys
+  agrees_with_all x [] = true
+  agrees_with_all x (y ∷ ys) = agree x y && agrees_with_all x ys
 
   -- the first agrees with all others
-  unfoldable pub agreeing : List (Down S V) → Bool
-  unfolding agree_all
-  agreeing [] = true
-  agreeing (x ∷ xs) = agree_all x xs
+  unfoldable pub all_agree : List (Down S V) → Bool
+  unfolding agrees_with_all
+  all_agree [] = true
+  all_agree (x ∷ xs) = agrees_with_all x xs
 
 -- the first, if there is one
 abbrev pub first_arrival : {S V : Type 0} → List (Down S V) → Option (Down S V)
@@ -148,7 +148,7 @@ first_arrival [] = None
 first_arrival (x ∷ xs) = Some x
 
 -- what the arc by door j from the label l brings differs from x, the first arrival
-abbrev pub leaves : {S V : Type 0} → Setting S V → Option (Down S V) → Option (Down S V) → ℕ → Bool
-leaves by None o j = false
-leaves by (Some x) None j = false
-leaves by (Some x) (Some l) j = not (agree by.rule x (arrive by l j))
+abbrev pub differs_from_first : {S V : Type 0} → Setting S V → Option (Down S V) → Option (Down S V) → ℕ → Bool
+differs_from_first by None o j = false
+differs_from_first by (Some x) None j = false
+differs_from_first by (Some x) (Some l) j = not (agree by.rule x (arrival_over by l j))

@@ -8,23 +8,23 @@ use Rattle.layers.specs.declared.node.Down.{Down}
 use Rattle.layers.specs.declared.node.Up.{Up}
 use Rattle.layers.specs.Flow.{table, Outs, Layer, Net, width}
 use Rattle.layers.specs.Settings.{Setting}
-use Rattle.layers.specs.Labels.{no_up, firsts, blank, labels_next, ups}
+use Rattle.layers.specs.Labels.{no_up, first_labels, blank_label, labels_next, ups}
 
 -- ---- reading: what stands in the records
 module _ {S V : Type 0} where
   -- a place is used if its label has a last door
-  abbrev pub used : Node S V → Bool
-  used x = not (x.label.down.lasts == 0)
+  abbrev pub is_used : Node S V → Bool
+  is_used x = not (x.label.down.lasts == 0)
 
   -- the nodes of a layer: they stand first
-  abbrev pub standing : List (Node S V) → List (Node S V)
-  standing [] = []
-  standing (x ∷ xs) = if used x then x ∷ standing xs else []
+  abbrev pub nodes_in : List (Node S V) → List (Node S V)
+  nodes_in [] = []
+  nodes_in (x ∷ xs) = if is_used x then x ∷ nodes_in xs else []
 
   -- the nodes, layer by layer: k layers of W places, and the end
   abbrev pub layers : ℕ → ℕ → List (Node S V) → List (List (Node S V))
-  layers W zero xs = standing (take 1 xs) ∷ []
-  layers W (suc k) xs = standing (take W xs) ∷ layers W k (drop W xs)
+  layers W zero xs = nodes_in (take 1 xs) ∷ []
+  layers W (suc k) xs = nodes_in (take W xs) ∷ layers W k (drop W xs)
 
   -- the arcs of a layer, by the n doors; the labels as they stand
   abbrev pub arcs_in : ℕ → List (Node S V) → Layer
@@ -37,10 +37,10 @@ module _ {S V : Type 0} where
   ups_in = map (λ x. Some x.label.up)
 
   -- the arcs of all layers; the end has none
-  abbrev pub drawn : ℕ → List (List (Node S V)) → Net
-  drawn n [] = []
-  drawn n (N ∷ []) = []
-  drawn n (N ∷ M ∷ Ns) = arcs_in n N ∷ drawn n (M ∷ Ns)
+  abbrev pub arcs_of_layers : ℕ → List (List (Node S V)) → Net
+  arcs_of_layers n [] = []
+  arcs_of_layers n (N ∷ []) = []
+  arcs_of_layers n (N ∷ M ∷ Ns) = arcs_in n N ∷ arcs_of_layers n (M ∷ Ns)
 
   -- the arcs of each place, as they stand
   abbrev pub arcs_read : List (Node S V) → List Arcs
@@ -48,12 +48,12 @@ module _ {S V : Type 0} where
 
 -- ---- writing: arcs, with all labels worked out anew from them; an unused place has no arcs, empty sets, finish 0 and the starts
 -- the targets by all sixteen doors: 0 past the last of the round
-abbrev pub padded : Outs → List ℕ
-padded nd = table 16 (λ k. slice_index nd k)
+abbrev pub padded_targets : Outs → List ℕ
+padded_targets nd = table 16 (λ k. slice_index nd k)
 
 -- the arcs of place k of a layer
 abbrev pub arcs_at : Layer → ℕ → Arcs
-arcs_at L k = record { to = padded (slice_index_or L k []) }
+arcs_at L k = record { to = padded_targets (slice_index_or L k []) }
 
 -- the arcs of all places, W to a layer, and of the end
 abbrev pub laid_arcs : ℕ → Net → List Arcs
@@ -62,19 +62,19 @@ laid_arcs W (L ∷ Ls) = table W (arcs_at L) ++ laid_arcs W Ls
 
 module _ {S V : Type 0} (by : Setting S V) where
   -- the record at place k of a layer
-  abbrev pub place : Layer → List (Option (Down S V)) → List (Option Up) → ℕ → Node S V
-  place L labs us k = record {
+  abbrev pub record_of_place : Layer → List (Option (Down S V)) → List (Option Up) → ℕ → Node S V
+  record_of_place L labs us k = record {
     arcs = arcs_at L k;
-    label = record { down = unwrap_or (slice_index_or labs k None) (blank by.rule by.tally); up = unwrap_or (slice_index_or us k None) no_up };
+    label = record { down = unwrap_or (slice_index_or labs k None) (blank_label by.rule by.tally); up = unwrap_or (slice_index_or us k None) no_up };
   }
 
   -- from the layer with the labels labs on
-  unfoldable pub laid_from : List (Option (Down S V)) → Net → List (Node S V)
+  unfoldable pub labelled_from : List (Option (Down S V)) → Net → List (Node S V)
   unfolding ups labels_next
-  laid_from labs [] = place [] labs [] 0 ∷ []
-  laid_from labs (L ∷ Ls) = table by.width (place L labs (ups (L ∷ Ls))) ++ laid_from (labels_next by labs L (width Ls)) Ls
+  labelled_from labs [] = record_of_place [] labs [] 0 ∷ []
+  labelled_from labs (L ∷ Ls) = table by.width (record_of_place L labs (ups (L ∷ Ls))) ++ labelled_from (labels_next by labs L (width Ls)) Ls
 
   -- all of them
-  unfoldable pub laid : Net → List (Node S V)
-  unfolding laid_from
-  laid Ls = laid_from (firsts by.rule by.tally) Ls
+  unfoldable pub labelled_records : Net → List (Node S V)
+  unfolding labelled_from
+  labelled_records Ls = labelled_from (first_labels by.rule by.tally) Ls

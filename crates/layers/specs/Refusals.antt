@@ -16,5 +16,5 @@ number_of Clash = 26
 number_of SameDoor = 27
 
 -- its number, then line 0 and field 0, with tabs between: no line of a text is at fault
-abbrev pub told : Refusal → List ℕ
-told r = codes "refused" ++ (9 ∷ decimal (number_of r)) ++ codes "\t0\t0"
+abbrev pub text_of : Refusal → List ℕ
+text_of r = codes "refused" ++ (9 ∷ decimal (number_of r)) ++ codes "\t0\t0"

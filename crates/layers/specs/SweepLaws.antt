@@ -6,18 +6,18 @@ use Rattle.tallies.specs.Tallies.{TallySense}
 use Rattle.layers.specs.declared.node.Node.{Node}
 use Rattle.layers.specs.declared.call.Call.{Call}
 use Rattle.layers.specs.Settings.{Setting, setting}
-use Rattle.layers.specs.Calls.{sweep_answer, opened_on, refined, run}
+use Rattle.layers.specs.Calls.{sweep_answer, after_open, refinement, after_calls}
 
 -- once these records are refined, whole or full, a sweep answers 0
 abbrev pub RefineSweepsOut : {S V : Type 0} → Setting S V → List (Node S V) → Type 0
-RefineSweepsOut by xs = sweep_answer by (refined by xs).1 ≡ 0
+RefineSweepsOut by xs = sweep_answer by (refinement by xs).1 ≡ 0
 
 -- so it is after every list of calls on these records
 abbrev pub RefineSweepsOutFrom : {S V : Type 0} → Setting S V → List (Node S V) → Type 0
-RefineSweepsOutFrom {S} {V} by xs = (cs : List (Call V)) → RefineSweepsOut by (run by cs xs)
+RefineSweepsOutFrom {S} {V} by xs = (cs : List (Call V)) → RefineSweepsOut by (after_calls by cs xs)
 
 -- for one rule and one tally: every round that the rule serves, every width from 1 to 128, every lent list, once opened
 abbrev pub RefineSweepsOutAlways : {S V : Type 0} → (ℕ → Type 0) → RuleSense S → TallySense V → Type 0
 RefineSweepsOutAlways {S} {V} RuleServes rule tally =
     (r : Round) → RuleServes r.n → (W : ℕ) → 1 ≤ W → W ≤ 128 → (lent : List (Node S V))
-    → let by = setting r rule tally W in RefineSweepsOutFrom by (opened_on by lent)
+    → let by = setting r rule tally W in RefineSweepsOutFrom by (after_open by lent)

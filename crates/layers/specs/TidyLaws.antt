@@ -1,7 +1,7 @@
 -- What tidying leaves of any layers of arcs: the same paths, and exactly the nodes on a path, in their order.
 -- Layers and places in a layer count from 0.
 use Rattle.std.specs.Prelude.{◌≡◌, ℕ, zero, suc, ◌<◌, ◌⊎◌, ◌↔◌, List, [], length, slice_index_or, ⊤}
-use Rattle.layers.specs.Flow.{Outs, Layer, Net, node, target, PathFrom, tidied}
+use Rattle.layers.specs.Flow.{Outs, Layer, Net, node, target, PathFrom, tidied_arcs}
 use Rattle.layers.specs.LabelLaws.{LeadsTo, LeadsOn}
 
 -- the nodes of layer i
@@ -49,7 +49,7 @@ pub record IsTidied (D E : Net) : Type 0 where
 
 -- this is what tidying leaves of any layers of arcs, and these facts are so of nothing else
 abbrev pub TidyMeans : Type 0
-TidyMeans = (D E : Net) → IsTidied D E ↔ (E ≡ tidied D)
+TidyMeans = (D E : Net) → IsTidied D E ↔ (E ≡ tidied_arcs D)
 
 -- nothing in D is to go: in every layer but layer 0 each node lies on a path, and each arc leads to a place on a path
 pub record IsTidy (D : Net) : Type 0 where
@@ -58,4 +58,4 @@ pub record IsTidy (D : Net) : Type 0 where
 
 -- exactly then tidying alters nothing
 abbrev pub TidyStays : Type 0
-TidyStays = (D : Net) → IsTidy D ↔ (tidied D ≡ D)
+TidyStays = (D : Net) → IsTidy D ↔ (tidied_arcs D ≡ D)

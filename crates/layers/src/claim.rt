@@ -1,5 +1,5 @@
 //! What is claimed of every diagram, as contracts for any rule and any tally.
-ghost use Rattle.layers.specs.Claim.{Kept, WorkedOut, SettledMeans, WholeSettlesAlways};
+ghost use Rattle.layers.specs.Claim.{ClaimAlwaysHolds, LabelsStand, SettledMeans, WholeSettlesAlways};
 ghost use Rattle.layers.specs.LabelLaws.{LabelsMean};
 ghost use Rattle.layers.specs.SweepLaws.{RefineSweepsOutAlways};
 ghost use Rattle.layers.specs.TidyLaws.{TidyMeans, TidyStays};
@@ -10,13 +10,13 @@ use tallies::tally::Tally;
 /// Only what a ceiling rules out can go missing, and nothing false is left once the diagram is settled: for every round that
 /// the rule and the tally serve, every width, every lent list and every list of calls after opening.
 pub fn nothing_lost<R: Rule, T: Tally>(rule: &R, tally: &T)
-    ensures { Kept (R.Rule.serves rule.now) (R.Rule.sense rule.now) (R.Rule.keeps rule.now)
+    ensures { ClaimAlwaysHolds (R.Rule.serves rule.now) (R.Rule.sense rule.now) (R.Rule.keeps rule.now)
         (T.Tally.serves tally.now) (T.Tally.sense tally.now) }
 {}
 
 /// In a run with one rule and one tally the labels that stand are those worked out from the arcs, and no later place is altered.
 pub fn labels_stand<R: Rule, T: Tally>(rule: &R, tally: &T)
-    ensures { WorkedOut (R.Rule.serves rule.now) (R.Rule.sense rule.now) (T.Tally.sense tally.now) }
+    ensures { LabelsStand (R.Rule.serves rule.now) (R.Rule.sense rule.now) (T.Tally.sense tally.now) }
 {}
 
 /// In such a run the diagram is settled exactly when the in-arcs of each node agree and a sweep would take out nothing.

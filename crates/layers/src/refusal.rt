@@ -52,9 +52,9 @@ impl Refusal {
 /// As the programs print it: no line and no field of a text is at fault.
 impl fmt::Display for Refusal {
     ghost use Rattle.std.specs.Prelude.{Some};
-    ghost use Rattle.layers.specs.Refusals.{told};
+    ghost use Rattle.layers.specs.Refusals.{text_of};
 
-    ghost output = { λ refusal. Some (told refusal) };
+    ghost output = { λ refusal. Some (text_of refusal) };
 
     fn fmt<W: fmt::Write>(&self, f: &mut fmt::Formatter<W>) -> fmt::Result {
         let number = self.number();

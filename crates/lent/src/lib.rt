@@ -2,7 +2,7 @@
 #![tactic(auto)]
 
 ghost use Rattle.std.specs.Prelude.{true, false, ◌≡◌, ◌+◌, ◌*◌, ◌≤◌, length, is_ok, IsErr, IsOk};
-ghost use Rattle.layers.specs.Calls.{does, open_answer, opened_on, run};
+ghost use Rattle.layers.specs.Calls.{after_call, open_answer, after_open, after_calls};
 ghost use Rattle.lent.specs.Called.{call_of, calls_of};
 
 use call::Call;
@@ -36,7 +36,7 @@ fn opened<R: Rule, T: Tally>(
     requires { room.round.now.n * room.width + 1 ≤ length records.old }
     ensures { let by = R.Rule.sense rule.now in
         let cost = T.Tally.sense tally.now in
-        records.new ≡ opened_on room.entry.round.now by cost room.entry.width records.old }
+        records.new ≡ after_open room.entry.round.now by cost room.entry.width records.old }
 {
     let _diagram = Diagram::open(room, rule, tally, records);
 }
@@ -53,7 +53,7 @@ pub fn opened_or_left<R: Rule, T: Tally>(
     ensures left { result ≡ false → records.new ≡ records.old }
     ensures opened { let by = R.Rule.sense rule.now in
         let cost = T.Tally.sense tally.now in
-        result ≡ true → records.new ≡ opened_on round.now by cost width records.old }
+        result ≡ true → records.new ≡ after_open round.now by cost width records.old }
 {
     match Room::check(round, width, records.len()) {
         Ok(room) => {
@@ -64,7 +64,7 @@ pub fn opened_or_left<R: Rule, T: Tally>(
     }
 }
 
-#[tactic(auto, unfolding(layers::specs::Calls::does))]
+#[tactic(auto, unfolding(layers::specs::Calls::after_call))]
 fn do_call<R: Rule, T: Tally>(
     diagram: &mut Diagram<'_, '_, R::State, T::Value>,
     rule: &R,
@@ -77,7 +77,7 @@ fn do_call<R: Rule, T: Tally>(
         let cost = T.Tally.sense tally.now in
         let room = diagram.old.room in
         diagram.new.nodes.now
-        ≡ does room.round.now by cost room.width (call_of call) diagram.old.nodes.now }
+        ≡ after_call room.round.now by cost room.width (call_of call) diagram.old.nodes.now }
 {
     match call {
         Call::Sweep => {
@@ -114,7 +114,7 @@ fn do_calls<R: Rule, T: Tally>(
         let cost = T.Tally.sense tally.now in
         let room = diagram.old.room in
         diagram.new.nodes.now
-        ≡ run room.round.now by cost room.width (calls_of calls.now) diagram.old.nodes.now }
+        ≡ after_calls room.round.now by cost room.width (calls_of calls.now) diagram.old.nodes.now }
 {
     for call in calls {
         do_call(diagram, rule, tally, *call);
@@ -133,8 +133,8 @@ fn done_in<R: Rule, T: Tally>(
         let cost = T.Tally.sense tally.now in
         let round = room.entry.round.now in
         let width = room.entry.width in
-        let opened = opened_on round by cost width records.old in
-        records.new ≡ run round by cost width (calls_of calls.now) opened }
+        let opened = after_open round by cost width records.old in
+        records.new ≡ after_calls round by cost width (calls_of calls.now) opened }
 {
     let mut diagram = Diagram::open(room, rule, tally, records);
     do_calls(&mut diagram, rule, tally, calls);
@@ -154,8 +154,8 @@ pub fn worked_on<R: Rule, T: Tally>(
         let cost = T.Tally.sense setting.now.tally.now in
         let round = setting.now.round.now in
         let width = setting.now.width in
-        let opened = opened_on round by cost width records.old in
-        IsOk result → records.new ≡ run round by cost width (calls_of calls.now) opened }
+        let opened = after_open round by cost width records.old in
+        IsOk result → records.new ≡ after_calls round by cost width (calls_of calls.now) opened }
 {
     let room = Room::check(setting.round, setting.width, records.len())?;
     done_in(room, setting.rule, setting.tally, records, calls);

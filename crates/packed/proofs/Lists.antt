@@ -5,7 +5,7 @@ use Rattle.round.specs.declared.table.Round.{Round}
 use Rattle.rules.specs.declared.load.Interval.{Interval}
 use Rattle.rules.specs.Rules.{RuleSense}
 use Rattle.tallies.specs.Tallies.{TallySense}
-use Rattle.layers.specs.Calls.{does, run}
+use Rattle.layers.specs.Calls.{after_call, after_calls}
 use Rattle.packed.specs.declared.call.Call.{Call as PackedCall}
 use Rattle.packed.specs.Answers.{answer, answers}
 use Rattle.packed.specs.Requests.{Request, request_at, request_of, with_last, first_requests, requests_of}
@@ -114,17 +114,17 @@ not-none None q e h = cc
 not-none (Some x) q e h = h x refl
 
 module _ (r : Round) (rule : RuleSense (ℕ × Interval)) (tally : TallySense (ℕ × ℕ)) (W : ℕ) where
-  pub run-more : (cs : List Request) (c : Request) (xs : Recs) → run r rule tally W (cs ++ c ∷ []) xs ≡ does r rule tally W c (run r rule tally W cs xs)
+  pub run-more : (cs : List Request) (c : Request) (xs : Recs) → after_calls r rule tally W (cs ++ c ∷ []) xs ≡ after_call r rule tally W c (after_calls r rule tally W cs xs)
   run-more [] c xs = refl
-  run-more (b ∷ cs) c xs = run-more cs c (does r rule tally W b xs)
+  run-more (b ∷ cs) c xs = run-more cs c (after_call r rule tally W b xs)
 
   pub answers-more : (cs : List Request) (c : Request) (xs : Recs)
-      → answers r rule tally W (cs ++ c ∷ []) xs ≡ answers r rule tally W cs xs ++ answer r rule tally W c (run r rule tally W cs xs) ∷ []
+      → answers r rule tally W (cs ++ c ∷ []) xs ≡ answers r rule tally W cs xs ++ answer r rule tally W c (after_calls r rule tally W cs xs) ∷ []
   unfolding answers
   answers-more [] c xs = refl
-  answers-more (b ∷ cs) c xs = ap (λ ws. answer r rule tally W b xs ∷ ws) (answers-more cs c (does r rule tally W b xs))
+  answers-more (b ∷ cs) c xs = ap (λ ws. answer r rule tally W b xs ∷ ws) (answers-more cs c (after_call r rule tally W b xs))
 
   pub length-answers : (cs : List Request) (xs : Recs) → length (answers r rule tally W cs xs) ≡ length cs
   unfolding answers
   length-answers [] xs = refl
-  length-answers (c ∷ cs) xs = grind (arith, length-answers cs (does r rule tally W c xs))
+  length-answers (c ∷ cs) xs = grind (arith, length-answers cs (after_call r rule tally W c xs))

@@ -4,7 +4,7 @@ use Rattle.std.proofs.lemmas.Bool.{lt-ltb, le-ltb, eqb-true}
 use Rattle.std.proofs.lemmas.List.FromFn.{length-map-range_with_len}
 use Rattle.std.specs.Int.{from_bool}
 use Rattle.round.specs.declared.table.Round.{Round}
-use Rattle.layers.specs.Calls.{bound, run, settled}
+use Rattle.layers.specs.Calls.{bound, after_calls, is_settled}
 use Rattle.packed.specs.declared.refusal.Refusal.TheVariants.{Short}
 use Rattle.packed.specs.Answers.{answers}
 use Rattle.packed.specs.Requests.{Request, first_requests, requests_of, requests_in}
@@ -25,7 +25,7 @@ length-bound_words (Some v) = refl
 pub length-first_words : (r : Round) (W k : ℕ) (xs : Recs) → length (first_words r W k xs) ≡ 6
 unfolding first_words
 length-first_words r W k xs =
-    let h = r.n ∷ k ∷ from_bool (settled r (side_of r) (late_of r) W xs) ∷ [] in
+    let h = r.n ∷ k ∷ from_bool (is_settled r (side_of r) (late_of r) W xs) ∷ [] in
     let three : length h ≡ 3 = refl in
     omega (arith, length-append h (bound_words (bound r.n W xs)), length-bound_words (bound r.n W xs), three)
 
@@ -38,9 +38,9 @@ length-sheet_words : (r : Round) (W : ℕ) (cs : List Request) → length (sheet
 unfolding sheet_words
 length-sheet_words r W cs =
     let D = opened_diagram r W in
-    let h = head_words r W (count_word (length cs)) (run r (side_of r) (late_of r) W cs D) in
+    let h = head_words r W (count_word (length cs)) (after_calls r (side_of r) (late_of r) W cs D) in
     let t = answers r (side_of r) (late_of r) W cs D in
-    omega (arith, length-append h t, length-head_words r W (count_word (length cs)) (run r (side_of r) (late_of r) W cs D), length-answers r (side_of r) (late_of r) W cs D)
+    omega (arith, length-append h t, length-head_words r W (count_word (length cs)) (after_calls r (side_of r) (late_of r) W cs D), length-answers r (side_of r) (late_of r) W cs D)
 
 -- the calls are 16 bytes each
 pub length-requests : (bs : List ℕ) (cs : List Request) → requests_of bs ≡ Some cs → (length bs % 16 ≡ 0) × (length cs ≡ length bs / 16)

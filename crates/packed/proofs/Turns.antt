@@ -3,7 +3,7 @@ use Rattle.std.proofs.Common.{◌≡◌, ℕ, ◌+◌, replicate, refl, ap, add-
 use Rattle.round.specs.declared.table.Round.{Round}
 use Rattle.rules.specs.declared.load.Interval.{Interval}
 use Rattle.layers.specs.declared.node.Node.{Node}
-use Rattle.layers.specs.Calls.{opened_on, refined}
+use Rattle.layers.specs.Calls.{after_open, refinement}
 use Rattle.labels.specs.Passes.{blank_node}
 use Rattle.packed.specs.Answers.{word_of_refined}
 use Rattle.packed.specs.Often.{turns}
@@ -19,6 +19,6 @@ unfolding turns
 turns-none r W = refl
 
 pub turns-more : (r : Round) (W k : ℕ) → turns r W (k + 1)
-    ≡ (let p = refined r (side_of r) (late_of r) W (opened_on r (side_of r) (late_of r) W (turns r W k).1) in (word_of_refined p.0, p.1))
+    ≡ (let p = refinement r (side_of r) (late_of r) W (after_open r (side_of r) (late_of r) W (turns r W k).1) in (word_of_refined p.0, p.1))
 unfolding turns
 turns-more r W k = ap (turns r W) (add-one k)

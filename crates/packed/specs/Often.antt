@@ -1,7 +1,7 @@
 -- A diagram that is opened and refined so many times over.
 use Rattle.std.specs.Prelude.{ℕ, zero, suc, Ok, Err, Result}
 use Rattle.round.specs.declared.table.Round.{Round}
-use Rattle.layers.specs.Calls.{open_answer, opened_on, refined}
+use Rattle.layers.specs.Calls.{open_answer, after_open, refinement}
 use Rattle.text.specs.declared.refusal.Refusal.{Refusal as TextRefusal}
 use Rattle.packed.specs.declared.refusal.Refusal.{Refusal}
 use Rattle.packed.specs.declared.refusal.Refusal.TheVariants.{Text}
@@ -13,10 +13,10 @@ use Rattle.packed.specs.Sheets.{blank_records, if_opened}
 -- the answer of the last of k refines as a word, 0 if there is none, and the records that it leaves: each opens the diagram anew
 -- on the records that the one before leaves
 unfoldable pub turns : Round → ℕ → ℕ → ℕ × Recs
-unfolding opened_on refined blank_records
+unfolding after_open refinement blank_records
 turns r W zero = (0, blank_records r)
 turns r W (suc k) =
-    let p = refined r (side_of r) (late_of r) W (opened_on r (side_of r) (late_of r) W (turns r W k).1) in
+    let p = refinement r (side_of r) (late_of r) W (after_open r (side_of r) (late_of r) W (turns r W k).1) in
     (word_of_refined p.0, p.1)
 
 -- the answer on a round that is read, or on a text that is refused

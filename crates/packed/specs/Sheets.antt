@@ -5,7 +5,7 @@ use Rattle.std.specs.List.{range_with_len}
 use Rattle.std.specs.Result.{result_unwrap_or}
 use Rattle.round.specs.declared.table.Round.{Round}
 use Rattle.labels.specs.Passes.{blank_node}
-use Rattle.layers.specs.Calls.{Answer, bound, must_answer, open_answer, opened_on, run, settled}
+use Rattle.layers.specs.Calls.{Outcome, bound, must_answer, open_answer, after_open, after_calls, is_settled}
 use Rattle.text.specs.declared.refusal.Refusal.{Refusal as TextRefusal}
 use Rattle.text.specs.declared.refusal.Refusal.TheVariants.{TooLong}
 use Rattle.text.specs.Reading.{read_text}
@@ -45,9 +45,9 @@ bound_words (Some v) = 1 ∷ v.0 ∷ v.1 ∷ []
 
 -- the words ahead of the musts, of a diagram on which k calls were made
 unfoldable pub first_words : Round → ℕ → ℕ → Recs → List ℕ
-unfolding bound settled
+unfolding bound is_settled
 first_words r W k xs =
-    (r.n ∷ k ∷ from_bool (settled r (side_of r) (late_of r) W xs) ∷ []) ++ bound_words (bound r.n W xs)
+    (r.n ∷ k ∷ from_bool (is_settled r (side_of r) (late_of r) W xs) ∷ []) ++ bound_words (bound r.n W xs)
 
 -- what the diagram is asked after its calls
 unfoldable pub head_words : Round → ℕ → ℕ → Recs → List ℕ
@@ -61,14 +61,14 @@ blank_records r = replicate 2049 (blank_node r (side_of r) (late_of r))
 
 -- the round's diagram at the width W, just opened
 unfoldable pub opened_diagram : Round → ℕ → Recs
-unfolding opened_on blank_records
-opened_diagram r W = opened_on r (side_of r) (late_of r) W (blank_records r)
+unfolding after_open blank_records
+opened_diagram r W = after_open r (side_of r) (late_of r) W (blank_records r)
 
 -- the words of the sheet: what the diagram is asked after the calls, then the answer of each call
 unfoldable pub sheet_words : Round → ℕ → List Request → List ℕ
 unfolding head_words answers opened_diagram
 sheet_words r W cs =
-    head_words r W (count_word (length cs)) (run r (side_of r) (late_of r) W cs (opened_diagram r W))
+    head_words r W (count_word (length cs)) (after_calls r (side_of r) (late_of r) W cs (opened_diagram r W))
     ++ answers r (side_of r) (late_of r) W cs (opened_diagram r W)
 
 -- ---- what is refused
@@ -82,7 +82,7 @@ sheet_after r W room None = Err Calls
 sheet_after r W room (Some cs) = fitted room (sheet_words r W cs)
 
 -- what comes of it, if the diagram is opened
-abbrev pub if_opened : {A : Type 0} → Answer → Result A Refusal → Result A Refusal
+abbrev pub if_opened : {A : Type 0} → Outcome → Result A Refusal → Result A Refusal
 if_opened (Ok done) x = x
 if_opened (Err e) x = Err (Diagram e)
 

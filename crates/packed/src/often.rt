@@ -1,6 +1,6 @@
 //! Refining one diagram over and over, for measuring.
 ghost use Rattle.std.specs.Prelude.{◌≡◌, ◌+◌, ◌*◌, ◌≤◌, Ok, length};
-ghost use Rattle.layers.specs.Calls.{opened_on, refined};
+ghost use Rattle.layers.specs.Calls.{after_open, refinement};
 ghost use Rattle.packed.specs.Answers.{word_of_refined};
 ghost use Rattle.packed.specs.Often.{turns, often_of};
 ghost use Rattle.packed.specs.Senses.{side_sense, doors_sense};
@@ -20,12 +20,12 @@ use text::reading::read_bounded;
 fn refine_once(room: Room<'_>, rule: &Side<'_>, tally: &LateDoors<'_>, records: &mut [Place]) -> u32
     requires { room.round.now.n * room.width + 1 ≤ length records.old }
     ensures answer { result
-        ≡ word_of_refined (refined room.entry.round.now (side_sense rule.now)
-        (doors_sense tally.now) room.entry.width (opened_on room.entry.round.now
+        ≡ word_of_refined (refinement room.entry.round.now (side_sense rule.now)
+        (doors_sense tally.now) room.entry.width (after_open room.entry.round.now
         (side_sense rule.now) (doors_sense tally.now) room.entry.width records.old)).0 }
     ensures records { records.new
-        ≡ (refined room.entry.round.now (side_sense rule.now) (doors_sense tally.now)
-        room.entry.width (opened_on room.entry.round.now (side_sense rule.now)
+        ≡ (refinement room.entry.round.now (side_sense rule.now) (doors_sense tally.now)
+        room.entry.width (after_open room.entry.round.now (side_sense rule.now)
         (doors_sense tally.now) room.entry.width records.old)).1 }
 {
     let mut diagram = Diagram::open(room, rule, tally, records);

@@ -1,6 +1,6 @@
 //! The diagram of a round's pairs, load and late doors, put to work by packed calls.
 ghost use Rattle.std.specs.Prelude.{◌≡◌, ◌*◌, ◌/◌, ◌≤◌, IsSome, length};
-ghost use Rattle.layers.specs.Calls.{does, run};
+ghost use Rattle.layers.specs.Calls.{after_call, after_calls};
 ghost use Rattle.refine.specs.Answers.{IsInnerIfFull};
 ghost use Rattle.packed.specs.Answers.{word_of_refusal, word_of_refined, answer, answers};
 ghost use Rattle.packed.specs.Requests.{request_of, requests_of, requests_in};
@@ -58,7 +58,7 @@ pub(crate) fn layer_of(refined: Refined) -> u32
 }
 
 /// Makes one call, and gives its answer as a word.
-#[tactic(auto, unfolding(layers::specs::Calls::does, crate::specs::Answers::answer))]
+#[tactic(auto, unfolding(layers::specs::Calls::after_call, crate::specs::Answers::answer))]
 fn make(
     diagram: &mut Diagram<'_, '_, Held, Cost>,
     rule: &Side<'_>,
@@ -67,7 +67,7 @@ fn make(
 ) -> u32
     ensures room { diagram.new.room ≡ diagram.old.room }
     ensures records { diagram.new.nodes.now
-        ≡ does diagram.old.room.round.now (side_sense rule.now) (doors_sense tally.now)
+        ≡ after_call diagram.old.room.round.now (side_sense rule.now) (doors_sense tally.now)
         diagram.old.room.width (request_of call) diagram.old.nodes.now }
     ensures answer { result
         ≡ answer diagram.old.room.round.now (side_sense rule.now) (doors_sense tally.now)
@@ -98,7 +98,7 @@ pub(crate) fn make_all(
     requires fits { length calls.now / 4 ≤ length out.old }
     ensures room { diagram.new.room ≡ diagram.old.room }
     ensures records { diagram.new.nodes.now
-        ≡ run diagram.old.room.round.now (side_sense rule.now) (doors_sense tally.now)
+        ≡ after_calls diagram.old.room.round.now (side_sense rule.now) (doors_sense tally.now)
         diagram.old.room.width (requests_in calls.now) diagram.old.nodes.now }
     ensures answers { out.new
         ≡ begun_with

@@ -7,8 +7,8 @@ use Rattle.tallies.specs.Tallies.{TallySense}
 use Rattle.layers.specs.declared.node.Node.{Node}
 use Rattle.layers.specs.declared.refined.Refined.{Refined}
 use Rattle.layers.specs.declared.refined.Refined.TheVariants.{Whole, Full}
-use Rattle.layers.specs.Calls.{refined, settled}
-use Rattle.layers.specs.Shape.{Shaped}
+use Rattle.layers.specs.Calls.{refinement, is_settled}
+use Rattle.layers.specs.Shape.{IsShaped}
 use Rattle.labels.specs.Passes.{fits, relabelled}
 use Rattle.filter.specs.Steps.{arc_count, sweep_steps, quiet_steps, Done}
 use Rattle.split.specs.Steps.{layer_steps, agreed_steps}
@@ -41,7 +41,7 @@ module _ {S V : Type 0} (r : Round) (rule : RuleSense S) (tally : TallySense V) 
 
   -- on the records of a diagram: what the definitions of the calls say
   abbrev pub RefineDone : List (Node S V) → List (Node S V) → Refined → Type 0
-  RefineDone xs ys m = fits r.n W (length xs) ≡ true → Shaped r.n W xs → Done r.n W (refined r rule tally W xs).1 ys (refined r rule tally W xs).0 m
+  RefineDone xs ys m = fits r.n W (length xs) ≡ true → IsShaped r.n W xs → Done r.n W (refinement r rule tally W xs).1 ys (refinement r rule tally W xs).0 m
 
   abbrev pub SettledDone : List (Node S V) → Bool → Type 0
-  SettledDone xs b = fits r.n W (length xs) ≡ true → Shaped r.n W xs → b ≡ settled r rule tally W xs
+  SettledDone xs b = fits r.n W (length xs) ≡ true → IsShaped r.n W xs → b ≡ is_settled r rule tally W xs

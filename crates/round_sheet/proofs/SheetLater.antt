@@ -12,15 +12,15 @@ use Rattle.rules.specs.Rules.{RuleLaws}
 use Rattle.allowed.specs.Orders.{KeepsRules}
 use Rattle.allowed.specs.Senses.{side_of, late_of}
 use Rattle.layers.specs.declared.node.Node.{Node}
-use Rattle.layers.specs.Records.{layers, drawn}
-use Rattle.layers.specs.Calls.{Refine, does, relaid, arcs}
-use Rattle.layers.specs.Claim.{WorkedOut}
+use Rattle.layers.specs.Records.{layers, arcs_of_layers}
+use Rattle.layers.specs.Calls.{Refine, after_call, records_with, arcs}
+use Rattle.layers.specs.Claim.{LabelsStand}
 use Rattle.layers.proofs.Bridge.{later-stays}
 use Rattle.layers.proofs.Main.{worked-out}
 use Rattle.round_sheet.specs.Sheets.{Records, places_of, refined_for}
 
 -- the layers that have arcs are n
-deep : {S V : Type 0} (n W k : ℕ) (xs : List (Node S V)) → length (drawn n (layers W k xs)) ≡ k
+deep : {S V : Type 0} (n W k : ℕ) (xs : List (Node S V)) → length (arcs_of_layers n (layers W k xs)) ≡ k
 deep n W zero xs = refl
 deep n W (suc zero) xs = refl
 deep n W (suc (suc k)) xs = ap suc (deep n W (suc k) (drop W xs))
@@ -30,13 +30,13 @@ abbrev Stands : Round → ℕ × Interval → List ℕ → Type 0
 Stands r s w = ((i : ℕ) → In i w → Has s.0 i) × Between r.load r.doors s.1 w
 
 -- the labels that stand in a diagram of the round are those worked out from its arcs
-worked : (r : Round) → WorkedOut (λ n. r.n ≡ n) (side_of r) (late_of r)
+worked : (r : Round) → LabelsStand (λ n. r.n ≡ n) (side_of r) (late_of r)
 worked r =
     worked-out {Keeps = KeepsRules r} {Stands = Stands r} (λ n. r.n ≡ n) (side_of r) (late_of r)
     (λ n e. subst (λ (k : ℕ). RuleLaws k (side_of r) (KeepsRules r) (Stands r)) e (both_lawful (pairs_lawful r.n r.ahead) (load_lawful r)))
 
 pub later_kept : (r : Round) (lent : Records) → drop (places_of r) (refined_for r lent).1 ≡ drop (places_of r) lent
-unfolding does relaid
+unfolding after_call records_with
 later_kept r lent =
     let xs = (refined_for r lent).1 in
     ap (drop (places_of r)) (worked r r refl 16 (omega arith) (omega arith) lent (Refine ∷ []))

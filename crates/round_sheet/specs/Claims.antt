@@ -3,7 +3,7 @@ use Rattle.std.specs.Prelude.{◌≡◌, ◌≢◌, ℕ, List, Option, None, Som
 use Rattle.doors.specs.Orders.{Door}
 use Rattle.doors.specs.Sets.{Has}
 use Rattle.round.specs.declared.table.Round.{Round}
-use Rattle.layers.specs.Claim.{Ahead}
+use Rattle.layers.specs.Claim.{StandsAhead}
 use Rattle.allowed.specs.Orders.{AllowedOrder, late_cost, NotAbove}
 
 -- the sets say that door i has to come ahead of door j
@@ -17,7 +17,7 @@ NoneUndercuts r (Some bound) = (w : List ℕ) → AllowedOrder r w → NotAbove 
 
 -- each must holds in every allowed order
 abbrev pub MustsHold : Round → List ℕ → Type 0
-MustsHold r musts = (i j : ℕ) → Must musts i j → (w : List ℕ) → AllowedOrder r w → Ahead i j w
+MustsHold r musts = (i j : ℕ) → Must musts i j → (w : List ℕ) → AllowedOrder r w → StandsAhead i j w
 
 -- the bound is what some allowed order costs, and there is no bound if no order is allowed
 abbrev pub BoundIsReached : Round → Option (ℕ × ℕ) → Type 0
@@ -28,4 +28,4 @@ BoundIsReached r (Some bound) = (w : List ℕ) × AllowedOrder r w × (late_cost
 abbrev pub NoMustMissing : Round → List ℕ → Type 0
 NoMustMissing r musts =
     (i j : ℕ) → Door r.n i → Door r.n j → i ≢ j → ¬ Must musts i j
-    → (w : List ℕ) × AllowedOrder r w × Ahead j i w
+    → (w : List ℕ) × AllowedOrder r w × StandsAhead j i w

@@ -4,8 +4,8 @@ use mathlib.Core.Bool.{or-false, or_assoc}
 use Rattle.std.proofs.lemmas.List.{drop-drop}
 use Rattle.std.proofs.lemmas.Bool.{ne_eqb}
 use Rattle.layers.specs.declared.node.Node.{Node}
-use Rattle.layers.specs.Flow.{Outs, Net, hit, any_door, seeks}
-use Rattle.layers.specs.Records.{used, standing, layers, arcs_in, drawn}
+use Rattle.layers.specs.Flow.{Outs, Net, still_sought, any_door, has_path_with}
+use Rattle.layers.specs.Records.{is_used, nodes_in, layers, arcs_in, arcs_of_layers}
 use Rattle.seek.specs.declared.seen.Seen.{Seen}
 use Rattle.seek.specs.Rows.{none, at_end, seen_from, through, either, by, by_first, seen_if, of_place, of_target}
 use Rattle.seek.proofs.Places.{getD-none}
@@ -43,7 +43,7 @@ module _ (i j : ℕ) where
 
   -- ---- at the end
   pub end_seen : IsSeen (set (replicate 256 none) 1 at_end) []
-  unfolding seen_from seeks
+  unfolding seen_from has_path_with
   end_seen zero = refl
   end_seen (suc zero) = refl
   end_seen (suc (suc b)) =
@@ -53,30 +53,30 @@ module _ (i j : ℕ) where
   -- ---- over the arcs of one node
   module _ (Ls : Net) where
     seenOut : Outs → Seen
-    seenOut ts = record { ends = any_door (λ d b. seeks Ls b []) 1 ts; one = any_door (λ d b. seeks Ls b (hit (i ∷ []) d)) 1 ts; both = any_door (λ d b. seeks Ls b (hit (j ∷ i ∷ []) d)) 1 ts }
+    seenOut ts = record { ends = any_door (λ d b. has_path_with Ls b []) 1 ts; one = any_door (λ d b. has_path_with Ls b (still_sought (i ∷ []) d)) 1 ts; both = any_door (λ d b. has_path_with Ls b (still_sought (j ∷ i ∷ []) d)) 1 ts }
 
-    ends_by : (d t : ℕ) → (seen_from i j Ls t).ends ≡ door (λ d b. seeks Ls b []) d t
+    ends_by : (d t : ℕ) → (seen_from i j Ls t).ends ≡ door (λ d b. has_path_with Ls b []) d t
     unfolding seen_from door
     ends_by d zero = refl
     ends_by d (suc b) = refl
 
-    one-by : (d t : ℕ) → (through i j d (seen_from i j Ls t)).one ≡ door (λ d b. seeks Ls b (hit (i ∷ []) d)) d t
+    one-by : (d t : ℕ) → (through i j d (seen_from i j Ls t)).one ≡ door (λ d b. has_path_with Ls b (still_sought (i ∷ []) d)) d t
     unfolding through seen_from door
     one-by d zero = same (eqb i d)
-    one-by d (suc b) = along (seeks Ls b) (eqb i d) [] (i ∷ [])
+    one-by d (suc b) = along (has_path_with Ls b) (eqb i d) [] (i ∷ [])
 
-    both_by : (d t : ℕ) → (through i j d (seen_from i j Ls t)).both ≡ door (λ d b. seeks Ls b (hit (j ∷ i ∷ []) d)) d t
+    both_by : (d t : ℕ) → (through i j d (seen_from i j Ls t)).both ≡ door (λ d b. has_path_with Ls b (still_sought (j ∷ i ∷ []) d)) d t
     unfolding through seen_from door
     both_by d zero = same (eqb j d)
-    both_by d (suc b) = along (seeks Ls b) (eqb j d) (i ∷ []) (j ∷ i ∷ [])
+    both_by d (suc b) = along (has_path_with Ls b) (eqb j d) (i ∷ []) (j ∷ i ∷ [])
 
     out-more : (ts : Outs) (k : ℕ) → either (seenOut (take k ts)) (through i j (1 + k) (seen_from i j Ls (get_or ts k 0))) ≡ seenOut (take (suc k) ts)
     unfolding either through seenOut
     out-more ts k =
         let t = get_or ts k 0 in
-        let A : ℕ → ℕ → Bool = λ d b. seeks Ls b [] in
-        let B : ℕ → ℕ → Bool = λ d b. seeks Ls b (hit (i ∷ []) d) in
-        let C : ℕ → ℕ → Bool = λ d b. seeks Ls b (hit (j ∷ i ∷ []) d) in
+        let A : ℕ → ℕ → Bool = λ d b. has_path_with Ls b [] in
+        let B : ℕ → ℕ → Bool = λ d b. has_path_with Ls b (still_sought (i ∷ []) d) in
+        let C : ℕ → ℕ → Bool = λ d b. has_path_with Ls b (still_sought (j ∷ i ∷ []) d) in
         let a = ap (λ (x : Bool). any_door A 1 (take k ts) || x) (ends_by (1 + k) t) ∙ sym (any-more A 1 ts k) in
         let b = ap (λ (x : Bool). any_door B 1 (take k ts) || x) (one-by (1 + k) t) ∙ sym (any-more B 1 ts k) in
         let c = ap (λ (x : Bool). any_door C 1 (take k ts) || x) (both_by (1 + k) t) ∙ sym (any-more C 1 ts k) in
@@ -105,26 +105,26 @@ module _ (i j : ℕ) where
         later u us k s e true = e
         later u us k s e false = refl
 
-        place-seen : (us : List (Node S V)) (k : ℕ) → of_place f us k ≡ seenOut (get_or (arcs_in n (standing us)) k [])
+        place-seen : (us : List (Node S V)) (k : ℕ) → of_place f us k ≡ seenOut (get_or (arcs_in n (nodes_in us)) k [])
         unfolding of_place seenOut any_door
         place-seen [] k = refl
-        place-seen (u ∷ us) zero = here u (standing us) (used u)
-        place-seen (u ∷ us) (suc k) = later u (standing us) k (of_place f us k) (place-seen us k) (used u)
+        place-seen (u ∷ us) zero = here u (nodes_in us) (is_used u)
+        place-seen (u ∷ us) (suc k) = later u (nodes_in us) k (of_place f us k) (place-seen us k) (is_used u)
 
-        pub layer-seen : (us : List (Node S V)) (t : ℕ) → of_target f us t ≡ seen_from i j (arcs_in n (standing us) ∷ Ls) t
-        unfolding of_target seen_from seeks seenOut
+        pub layer-seen : (us : List (Node S V)) (t : ℕ) → of_target f us t ≡ seen_from i j (arcs_in n (nodes_in us) ∷ Ls) t
+        unfolding of_target seen_from has_path_with seenOut
         layer-seen us zero = refl
         layer-seen us (suc k) = place-seen us k
 
   -- ---- the last layers
   module _ {S V : Type 0} (n W : ℕ) (xs : List (Node S V)) where
-    drawn-more : (N : List (Node S V)) (m : ℕ) (ys : List (Node S V)) → drawn n (N ∷ layers W m ys) ≡ arcs_in n N ∷ drawn n (layers W m ys)
+    drawn-more : (N : List (Node S V)) (m : ℕ) (ys : List (Node S V)) → arcs_of_layers n (N ∷ layers W m ys) ≡ arcs_in n N ∷ arcs_of_layers n (layers W m ys)
     drawn-more N zero ys = refl
     drawn-more N (suc m) ys = refl
 
     -- the row of layer k
     abbrev pub Reached : List Seen → ℕ → Type 0
-    Reached row k = (m : ℕ) → m + k ≡ n → IsSeen row (drawn n (layers W m (drop (k * W) xs)))
+    Reached row k = (m : ℕ) → m + k ≡ n → IsSeen row (arcs_of_layers n (layers W m (drop (k * W) xs)))
 
     pub reached-end : Reached (set (replicate 256 none) 1 at_end) n
     reached-end zero e t = end_seen t
@@ -134,10 +134,10 @@ module _ (i j : ℕ) where
     reached-more k row up lt new h zero e t = absurd (omega arith)
     reached-more k row up lt new h (suc m) e t =
         let us = take W (drop (k * W) xs) in
-        let Ls = drawn n (layers W m (drop (suc k * W) xs)) in
+        let Ls = arcs_of_layers n (layers W m (drop (suc k * W) xs)) in
         let place : suc k * W ≡ k * W + W = omega (arith, suc-mul k W) in
         let rest : drop (suc k * W) xs ≡ drop W (drop (k * W) xs) = ap (λ (p : ℕ). drop p xs) place ∙ sym (drop-drop W (k * W) xs) in
         new t
         ∙ layer-seen Ls row (h m (omega arith)) n us t
-        ∙ ap (λ ys. seen_from i j (arcs_in n (standing us) ∷ drawn n (layers W m ys)) t) rest
-        ∙ ap (λ (Ks : Net). seen_from i j Ks t) (sym (drawn-more (standing us) m (drop W (drop (k * W) xs))))
+        ∙ ap (λ ys. seen_from i j (arcs_in n (nodes_in us) ∷ arcs_of_layers n (layers W m ys)) t) rest
+        ∙ ap (λ (Ks : Net). seen_from i j Ks t) (sym (drawn-more (nodes_in us) m (drop W (drop (k * W) xs))))

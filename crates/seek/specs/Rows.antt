@@ -1,8 +1,8 @@
 -- What is seen from the nodes of a layer, as the code works it out from the layer below. A row has it by target number: 0 for no node, suc b for the node at place b.
 use Rattle.std.specs.Prelude.{ℕ, zero, suc, ◌+◌, ◌*◌, Bool, true, false, cond, ◌&&◌, ◌||◌, List, [], ◌∷◌, ◌==◌, nat_le, slice_index, slice_index_or}
 use Rattle.layers.specs.declared.node.Node.{Node}
-use Rattle.layers.specs.Flow.{Net, seeks}
-use Rattle.layers.specs.Records.{used}
+use Rattle.layers.specs.Flow.{Net, has_path_with}
+use Rattle.layers.specs.Records.{is_used}
 use Rattle.seek.specs.declared.seen.Seen.{Seen}
 
 -- a list of that length has room for a diagram of n doors and width w
@@ -19,9 +19,9 @@ at_end = record { ends = true; one = false; both = false }
 
 -- in a net, of paths with the door i, and with the door j and the door i after it
 unfoldable pub seen_from : ℕ → ℕ → Net → ℕ → Seen
-unfolding seeks
+unfolding has_path_with
 seen_from i j Ls zero = none
-seen_from i j Ls (suc b) = record { ends = seeks Ls b []; one = seeks Ls b (i ∷ []); both = seeks Ls b (j ∷ i ∷ []) }
+seen_from i j Ls (suc b) = record { ends = has_path_with Ls b []; one = has_path_with Ls b (i ∷ []); both = has_path_with Ls b (j ∷ i ∷ []) }
 
 -- over an arc by the door d
 unfoldable pub through : ℕ → ℕ → ℕ → Seen → Seen
@@ -48,13 +48,13 @@ seen_if live s = cond live s none
 -- all of these are used
 unfoldable pub all_used : {S V : Type 0} → List (Node S V) → Bool
 all_used [] = true
-all_used (u ∷ us) = used u && all_used us
+all_used (u ∷ us) = is_used u && all_used us
 
 -- what f says of the node at place b, if it stands
 unfoldable pub of_place : {S V : Type 0} → (Node S V → Seen) → List (Node S V) → ℕ → Seen
 of_place f [] b = none
-of_place f (u ∷ us) zero = seen_if (used u) (f u)
-of_place f (u ∷ us) (suc b) = seen_if (used u) (of_place f us b)
+of_place f (u ∷ us) zero = seen_if (is_used u) (f u)
+of_place f (u ∷ us) (suc b) = seen_if (is_used u) (of_place f us b)
 
 -- by target number
 unfoldable pub of_target : {S V : Type 0} → (Node S V → Seen) → List (Node S V) → ℕ → Seen

@@ -5,10 +5,10 @@ use Rattle.round.specs.declared.table.Round.{Round}
 use Rattle.rules.specs.Rules.{RuleSense}
 use Rattle.tallies.specs.Tallies.{TallySense}
 use Rattle.layers.specs.declared.node.Node.{Node}
-use Rattle.layers.specs.Labels.{agreeing}
-use Rattle.layers.specs.Records.{standing, layers}
-use Rattle.layers.specs.Calls.{nodes, arcs, agreed_below, agreed_all}
-use Rattle.layers.specs.Shape.{Shaped}
+use Rattle.layers.specs.Labels.{all_agree}
+use Rattle.layers.specs.Records.{nodes_in, layers}
+use Rattle.layers.specs.Calls.{nodes, arcs, places_agree, in_arcs_agree}
+use Rattle.layers.specs.Shape.{IsShaped}
 use Rattle.layers.proofs.Places.{layer-at}
 use Rattle.labels.specs.Passes.{part, fits}
 use Rattle.split.specs.Steps.{node_count, agreed_to, agreed_layers, agreed_steps}
@@ -33,27 +33,27 @@ up_first (suc k) f = ap (λ b. f (suc k) && b) (up_first k f) ∙ and-swap (f (s
 
 module _ {S V : Type 0} (r : Round) (R : RuleSense S) (T : TallySense V) where
   abbrev here : List (List (Node S V)) → ℕ → Bool
-  here Ns j = agreed_below r R T (get_or Ns j []) (length (get_or Ns (suc j) []))
+  here Ns j = places_agree r R T (get_or Ns j []) (length (get_or Ns (suc j) []))
 
   -- layer by layer
-  all_up : (k : ℕ) (Ns : List (List (Node S V))) → length Ns ≡ suc (suc k) → agreed_all r R T Ns ≡ up_to k (here Ns)
-  unfolding agreed_all
+  all_up : (k : ℕ) (Ns : List (List (Node S V))) → length Ns ≡ suc (suc k) → in_arcs_agree r R T Ns ≡ up_to k (here Ns)
+  unfolding in_arcs_agree
   all_up k [] e = absurd (omega arith)
   all_up k (N ∷ []) e = absurd (omega arith)
   all_up zero (N ∷ M ∷ []) e = refl
   all_up (suc k) (N ∷ M ∷ []) e = absurd (omega arith)
   all_up zero (N ∷ M ∷ K ∷ Ns) e = absurd (omega arith)
-  all_up (suc k) (N ∷ M ∷ K ∷ Ns) e = ap (λ b. agreed_below r R T N (length M) && b) (all_up k (M ∷ K ∷ Ns) (omega arith)) ∙ sym (up_first k (here (N ∷ M ∷ K ∷ Ns)))
+  all_up (suc k) (N ∷ M ∷ K ∷ Ns) e = ap (λ b. places_agree r R T N (length M) && b) (all_up k (M ∷ K ∷ Ns) (omega arith)) ∙ sym (up_first k (here (N ∷ M ∷ K ∷ Ns)))
 
   layers-long : (W k : ℕ) (xs : List (Node S V)) → length (layers W k xs) ≡ suc k
   layers-long W zero xs = refl
   layers-long W (suc k) xs = ap suc (layers-long W k (drop W xs))
 
-  module _ (W : ℕ) (xs : List (Node S V)) (some : 1 ≤ W) (few : W ≤ 128) (fit : r.n * W + 1 ≤ length xs) (s : Shaped r.n W xs) where
-    layer-same : (d : ℕ) → suc d < r.n → (b : ℕ) → agreed_to r R T b (part (d * W) W xs) ≡ agreed_below r R T (standing (part (d * W) W xs)) b
-    unfolding agreed_to agreed_below
+  module _ (W : ℕ) (xs : List (Node S V)) (some : 1 ≤ W) (few : W ≤ 128) (fit : r.n * W + 1 ≤ length xs) (s : IsShaped r.n W xs) where
+    layer-same : (d : ℕ) → suc d < r.n → (b : ℕ) → agreed_to r R T b (part (d * W) W xs) ≡ places_agree r R T (nodes_in (part (d * W) W xs)) b
+    unfolding agreed_to places_agree
     layer-same d lt zero = refl
-    layer-same d lt (suc b) = ap₂ ◌&&◌ (ap (agreeing r R T) (known-standing r R T W d (arcs r.n W xs) xs (known-shaped r R T W xs some fit s d lt) b)) (layer-same d lt b)
+    layer-same d lt (suc b) = ap₂ ◌&&◌ (ap (all_agree r R T) (known-standing r R T W d (arcs r.n W xs) xs (known-shaped r R T W xs some fit s d lt) b)) (layer-same d lt b)
 
     layers-same : (k : ℕ) → suc k ≤ r.n → agreed_layers r R T W k xs ≡ up_to k (here (nodes r.n W xs))
     unfolding agreed_layers
@@ -61,10 +61,10 @@ module _ {S V : Type 0} (r : Round) (R : RuleSense S) (T : TallySense V) where
     layers-same (suc k) le =
         ap₂ ◌&&◌
         (layer-same k le (node_count (k * W + W) W xs)
-        ∙ ap₂ (λ (N : List (Node S V)) (m : ℕ). agreed_below r R T N m) (sym (layer-at W r.n k xs (omega arith))) (count-layer r.n W xs k le))
+        ∙ ap₂ (λ (N : List (Node S V)) (m : ℕ). places_agree r R T N m) (sym (layer-at W r.n k xs (omega arith))) (count-layer r.n W xs k le))
         (layers-same k (omega arith))
 
-    pub agreed-words : agreed_steps r R T W xs ≡ agreed_all r R T (nodes r.n W xs)
+    pub agreed-words : agreed_steps r R T W xs ≡ in_arcs_agree r R T (nodes r.n W xs)
     unfolding agreed_steps
     agreed-words =
         let one = r.one in

@@ -8,8 +8,8 @@ use Rattle.tallies.specs.Tallies.{TallySense}
 use Rattle.layers.specs.declared.node.Node.{Node}
 use Rattle.layers.specs.declared.node.Down.{Down}
 use Rattle.layers.specs.declared.refusal.Refusal.{Refusal}
-use Rattle.layers.specs.Calls.{Answer}
-use Rattle.layers.specs.Labels.{agreeing, first_arrival}
+use Rattle.layers.specs.Calls.{Outcome}
+use Rattle.layers.specs.Labels.{all_agree, first_arrival}
 use Rattle.split.specs.declared.source.Source.{Source}
 use Rattle.split.specs.declared.source.Arrived.{Arrived}
 use Rattle.split.specs.Agreed.{brought_first}
@@ -18,17 +18,17 @@ use Rattle.split.specs.Asked.{MayJoin, got_check}
 use Rattle.split.proofs.Checks.{else-first, else-next, else-parts, place-clear, node-clear, pair_parts}
 
 module _ {S V : Type 0} (r : Round) (R : RuleSense S) (T : TallySense V) where
-  pub none-agree : (ys : List (Down S V)) → None ≡ first_arrival r R T ys → agreeing r R T ys ≡ true
-  unfolding agreeing
+  pub none-agree : (ys : List (Down S V)) → None ≡ first_arrival r R T ys → all_agree r R T ys ≡ true
+  unfolding all_agree
   none-agree [] e = refl
   none-agree (y ∷ ys) e = absurd (grind arith)
 
   -- where nothing arrives all agree
-  pub got-group : (got : Arrived S V) (full : Bool) (ys : List (Down S V)) → brought_first r R T got.first ≡ first_arrival r R T ys → got.agreed ≡ agreeing r R T ys
-      → group_check (agreeing r R T ys) full ≡ got_check got.first got.agreed full
+  pub got-group : (got : Arrived S V) (full : Bool) (ys : List (Down S V)) → brought_first r R T got.first ≡ first_arrival r R T ys → got.agreed ≡ all_agree r R T ys
+      → group_check (all_agree r R T ys) full ≡ got_check got.first got.agreed full
   got-group got full ys e f = go got.first e
     where
-      go : (o : Option (Source S V)) → brought_first r R T o ≡ first_arrival r R T ys → group_check (agreeing r R T ys) full ≡ got_check o got.agreed full
+      go : (o : Option (Source S V)) → brought_first r R T o ≡ first_arrival r R T ys → group_check (all_agree r R T ys) full ≡ got_check o got.agreed full
       go None h = ap (λ (q : Bool). group_check q full) (none-agree ys h)
       go (Some x) h = ap (λ (q : Bool). group_check q full) (sym f)
 
@@ -42,7 +42,7 @@ module _ {S V : Type 0} (r : Round) (R : RuleSense S) (T : TallySense V) where
     unfolding part_check
     part-node e none is = else-next _ _ _ none (else-first _ _ e is)
 
-    pub part-group : (k : Answer) → place_check r.n w (length xs) i ≡ Ok tt → node_check (node_count ((i - 1) * w + w) w xs) a ≡ Ok tt
+    pub part-group : (k : Outcome) → place_check r.n w (length xs) i ≡ Ok tt → node_check (node_count ((i - 1) * w + w) w xs) a ≡ Ok tt
         → group_check (alike r R T ((i - 1) * w) w a xs) (leb w (node_count ((i - 1) * w + w) w xs)) ≡ k → part_check r R T w i a xs ≡ k
     unfolding part_check
     part-group k none one is = else-next _ _ _ none (else-next _ _ _ one is)
@@ -71,7 +71,7 @@ module _ {S V : Type 0} (n : ℕ) (z : Node S V) (w i a b : ℕ) (xs : List (Nod
   unfolding join_check
   join-other e none one is = else-next _ _ _ none (else-next _ _ _ one (else-first _ _ e is))
 
-  pub join-pair : (k : Answer) → place_check n w (length xs) i ≡ Ok tt → node_check (node_count ((i - 1) * w + w) w xs) a ≡ Ok tt → node_check (node_count ((i - 1) * w + w) w xs) b ≡ Ok tt
+  pub join-pair : (k : Outcome) → place_check n w (length xs) i ≡ Ok tt → node_check (node_count ((i - 1) * w + w) w xs) a ≡ Ok tt → node_check (node_count ((i - 1) * w + w) w xs) b ≡ Ok tt
       → pair_check (eqb a b) (clash_at z ((i - 1) * w + w) a b xs) ≡ k → join_check n z w i a b xs ≡ k
   unfolding join_check
   join-pair k none one other is = else-next _ _ _ none (else-next _ _ _ one (else-next _ _ _ other is))

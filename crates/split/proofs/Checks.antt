@@ -1,7 +1,7 @@
 -- Checks, one after another
 use Rattle.std.proofs.Common.{◌≡◌, ℕ, ◌+◌, ◌-◌, ◌*◌, ◌<◌, ◌≤◌, Bool, true, false, cond, ◌||◌, ltb, leb, is_err, is_ok, Ok, Err, sym, refl, ◌∙◌, ap₂, mul-le-mul, arith}
 use Rattle.std.proofs.lemmas.Bool.{ltb-false, leb-false, le-ltb, or_parts, or_from, both_ways}
-use Rattle.layers.specs.Calls.{Answer}
+use Rattle.layers.specs.Calls.{Outcome}
 use Rattle.layers.specs.declared.refusal.Refusal.{Refusal}
 use Rattle.layers.specs.declared.refusal.Refusal.TheVariants.{Width, Short, NoLayer, NoNode, OneGroup, LayerFull, SameNode, Clash}
 use Rattle.split.specs.Steps.{and_then, place_check, node_check, group_check, pair_check}
@@ -9,37 +9,37 @@ use Rattle.split.specs.Asked.{Placed}
 use Rattle.split.proofs.DepthNet.{two-fit}
 
 -- the first refusal is the answer, and where there is none the next
-pub else-first : (a b : Answer) (e : Refusal) → a ≡ Err e → and_then a b ≡ Err e
+pub else-first : (a b : Outcome) (e : Refusal) → a ≡ Err e → and_then a b ≡ Err e
 else-first (Ok u) b e is = cc
 else-first (Err f) b e is = is
 
-pub else-next : (a b c : Answer) → a ≡ Ok tt → b ≡ c → and_then a b ≡ c
+pub else-next : (a b c : Outcome) → a ≡ Ok tt → b ≡ c → and_then a b ≡ c
 else-next (Ok u) b c none is = is
 else-next (Err f) b c none is = cc
 
-pub else-parts : (a b : Answer) → and_then a b ≡ Ok tt → (a ≡ Ok tt) × (b ≡ Ok tt)
+pub else-parts : (a b : Outcome) → and_then a b ≡ Ok tt → (a ≡ Ok tt) × (b ≡ Ok tt)
 else-parts (Ok u) b e = (refl, e)
 else-parts (Err f) b e = cc
 
 -- a refusal leaves what is given last
-pub refused-left : {A : Type 0} (k : Answer) (x y : A) (e : Refusal) → k ≡ Err e → cond (is_ok k) x y ≡ y
+pub refused-left : {A : Type 0} (k : Outcome) (x y : A) (e : Refusal) → k ≡ Err e → cond (is_ok k) x y ≡ y
 refused-left (Ok u) x y e is = cc
 refused-left (Err f) x y e is = refl
 
-pub clear-done : {A : Type 0} (k : Answer) (x y : A) → k ≡ Ok tt → cond (is_ok k) x y ≡ x
+pub clear-done : {A : Type 0} (k : Outcome) (x y : A) → k ≡ Ok tt → cond (is_ok k) x y ≡ x
 clear-done (Ok u) x y is = refl
 clear-done (Err f) x y is = cc
 
 -- by the answer
-pub ok-clear : (o k : Answer) → o ≡ k → is_err o ≡ false → k ≡ Ok tt
+pub ok-clear : (o k : Outcome) → o ≡ k → is_err o ≡ false → k ≡ Ok tt
 ok-clear (Ok u) k is e = sym is
 ok-clear (Err f) k is e = absurd (both_ways _ e refl)
 
-pub err-left : {B : Type 0} (o k : Answer) (x y : B) → o ≡ k → is_err o ≡ true → cond (is_ok k) x y ≡ y
+pub err-left : {B : Type 0} (o k : Outcome) (x y : B) → o ≡ k → is_err o ≡ true → cond (is_ok k) x y ≡ y
 err-left (Ok u) k x y is e = absurd (both_ways _ refl e)
 err-left (Err f) k x y is e = refused-left k x y f (sym is)
 
-one_of : (q : Bool) (k : Refusal) (c : Answer) → cond q (Err k) c ≡ Ok tt → (q ≡ false) × (c ≡ Ok tt)
+one_of : (q : Bool) (k : Refusal) (c : Outcome) → cond q (Err k) c ≡ Ok tt → (q ≡ false) × (c ≡ Ok tt)
 one_of true k c e = cc
 one_of false k c e = (refl, e)
 
@@ -79,23 +79,23 @@ placed-small n w long i h p =
 -- ---- a list that fits
 pub place_is : (n w long i : ℕ) → 1 ≤ w → w ≤ 128 → n * w + 1 ≤ long → place_check n w long i ≡ cond (ltb i 1 || leb n i) (Err NoLayer) (Ok tt)
 place_is n w long i some few fit =
-    let L : Answer = cond (ltb i 1 || leb n i) (Err NoLayer) (Ok tt) in
-    let G : Bool → Bool → Answer = λ p q. cond p (Err Width) (cond q (Err Short) L) in
+    let L : Outcome = cond (ltb i 1 || leb n i) (Err NoLayer) (Ok tt) in
+    let G : Bool → Bool → Outcome = λ p q. cond p (Err Width) (cond q (Err Short) L) in
     ap₂ G (or_from (ltb w 1) (ltb 128 w) (le-ltb w 1 some) (le-ltb 128 w few)) (le-ltb long (n * w + 1) fit)
 
-pub else-cond : (q : Bool) (k : Refusal) (x y : Answer) → (q ≡ false → x ≡ y) → and_then (cond q (Err k) (Ok tt)) x ≡ cond q (Err k) y
+pub else-cond : (q : Bool) (k : Refusal) (x y : Outcome) → (q ≡ false → x ≡ y) → and_then (cond q (Err k) (Ok tt)) x ≡ cond q (Err k) y
 else-cond true k x y f = refl
 else-cond false k x y f = f refl
 
 -- what two calls leave that answer the same
-pub same_check : {A : Type 0} (k l : Answer) (x y z : A) → k ≡ l → (k ≡ Ok tt → x ≡ y) → cond (is_ok k) x z ≡ cond (is_ok l) y z
+pub same_check : {A : Type 0} (k l : Outcome) (x y z : A) → k ≡ l → (k ≡ Ok tt → x ≡ y) → cond (is_ok k) x z ≡ cond (is_ok l) y z
 same_check (Ok u) l x y z e f = f refl ∙ sym (clear-done l y z (sym e))
 same_check (Err f) l x y z e g = sym (refused-left l y z f (sym e))
 
 pub group-clear : (p q : Bool) → group_check p q ≡ Ok tt → (p ≡ false) × (q ≡ false)
 group-clear p q e = let a = one_of p OneGroup _ e in (a.0, (one_of q LayerFull (Ok tt) a.1).0)
 
-pub passed : (k : Answer) → is_ok k ≡ true → k ≡ Ok tt
+pub passed : (k : Outcome) → is_ok k ≡ true → k ≡ Ok tt
 passed (Ok u) e = refl
 passed (Err f) e = cc
 

@@ -4,8 +4,8 @@ use Rattle.std.proofs.lemmas.List.{take_at, drop_at, drop-drop, map-set, map_pus
 use Rattle.std.proofs.lemmas.Bool.{cases_eq}
 use Rattle.layers.specs.declared.node.Arcs.{Arcs}
 use Rattle.layers.specs.declared.node.Node.{Node}
-use Rattle.layers.specs.Flow.{table, Outs, Layer, Net, node, either_target, both_out, apart_t, clash, without_at, moved, join_at}
-use Rattle.layers.specs.Records.{padded, arcs_at}
+use Rattle.layers.specs.Flow.{table, Outs, Layer, Net, node, either_target, both_out, targets_differ, clash, without_place, place_after_join, joined_arcs}
+use Rattle.layers.specs.Records.{padded_targets, arcs_at}
 use Rattle.layers.proofs.Bridge.{table-long, table-ext}
 use Rattle.layers.proofs.Flows.{table_at}
 use Rattle.labels.proofs.Laying.{arcs_of, Arranged, Good}
@@ -31,7 +31,7 @@ unfolding both_out
 both-table zero f g = refl
 both-table (suc n) f g = ap (λ ts. either_target (f 0) (g 0) ∷ ts) (both-table n (λ k. f (suc k)) (λ k. g (suc k)))
 
-both-padded : (x y : Outs) → both_out (padded x) (padded y) ≡ padded (both_out x y)
+both-padded : (x y : Outs) → both_out (padded_targets x) (padded_targets y) ≡ padded_targets (both_out x y)
 both-padded x y =
     both-table 16 (λ k. get_or x k 0) (λ k. get_or y k 0)
     ∙ table-ext 16 (λ k. either_target (get_or x k 0) (get_or y k 0)) (λ k. get_or (both_out x y) k 0) (λ k lt. sym (both_at x y k))
@@ -46,7 +46,7 @@ unfolding clash
 no-clash-right zero f = refl
 no-clash-right (suc n) f = here (f 0) (no-clash-right n (λ k. f (suc k)))
   where
-    here : (s : ℕ) {q : Bool} → q ≡ false → (apart_t s 0 || q) ≡ false
+    here : (s : ℕ) {q : Bool} → q ≡ false → (targets_differ s 0 || q) ≡ false
     here zero e = e
     here (suc s) e = e
 
@@ -55,10 +55,10 @@ unfolding clash
 clash-table n [] y h = no-clash-left n (λ k. get_or y k 0)
 clash-table zero (s ∷ ss) y h = absurd (omega arith)
 clash-table (suc n) (s ∷ ss) [] h = no-clash-right (suc n) (λ k. get_or (s ∷ ss) k 0)
-clash-table (suc n) (s ∷ ss) (t ∷ ts) h = ap (λ q. apart_t s t || q) (clash-table n ss ts (omega arith))
+clash-table (suc n) (s ∷ ss) (t ∷ ts) h = ap (λ q. targets_differ s t || q) (clash-table n ss ts (omega arith))
 
 -- two nodes clash as their sixteen doors do
-pub clash-padded : (x y : Outs) → length x ≤ 16 → clash (padded x) (padded y) ≡ clash x y
+pub clash-padded : (x y : Outs) → length x ≤ 16 → clash (padded_targets x) (padded_targets y) ≡ clash x y
 clash-padded x y h = clash-table 16 x y h
 
 -- ---- tables
@@ -66,41 +66,41 @@ table-push : {X : Type 0} (w : ℕ) (f : ℕ → X) → table w f ++ f w ∷ [] 
 table-push zero f = refl
 table-push (suc w) f = ap (λ xs. f 0 ∷ xs) (table-push w (λ k. f (suc k)))
 
-map-drop : {X Y : Type 0} (f : X → Y) (i : ℕ) (xs : List X) → map f (without_at i xs) ≡ without_at i (map f xs)
-unfolding without_at
+map-drop : {X Y : Type 0} (f : X → Y) (i : ℕ) (xs : List X) → map f (without_place i xs) ≡ without_place i (map f xs)
+unfolding without_place
 map-drop f i [] = refl
 map-drop f zero (x ∷ xs) = refl
 map-drop f (suc i) (x ∷ xs) = ap (λ ys. f x ∷ ys) (map-drop f i xs)
 
-drop-long : {X : Type 0} (i : ℕ) (xs : List X) → i < length xs → length (without_at i xs) + 1 ≡ length xs
-unfolding without_at
+drop-long : {X : Type 0} (i : ℕ) (xs : List X) → i < length xs → length (without_place i xs) + 1 ≡ length xs
+unfolding without_place
 drop-long i [] h = absurd (omega arith)
 drop-long zero (x ∷ xs) h = omega arith
-drop-long (suc i) (x ∷ xs) h = let e : length (without_at i xs) + 1 ≡ length xs = drop-long i xs (omega arith) in omega arith
+drop-long (suc i) (x ∷ xs) h = let e : length (without_place i xs) + 1 ≡ length xs = drop-long i xs (omega arith) in omega arith
 
 -- a node taken out of a layer, and the place that is left at the end
-drop-table : (w hi : ℕ) (M : Layer) → hi < length M → length M ≤ w → without_at hi (table w (arcs_at M)) ++ arcs_at [] 0 ∷ [] ≡ table w (arcs_at (without_at hi M))
-unfolding without_at
+drop-table : (w hi : ℕ) (M : Layer) → hi < length M → length M ≤ w → without_place hi (table w (arcs_at M)) ++ arcs_at [] 0 ∷ [] ≡ table w (arcs_at (without_place hi M))
+unfolding without_place
 drop-table w hi [] h le = absurd (omega arith)
 drop-table zero hi (nd ∷ M) h le = absurd (omega arith)
 drop-table (suc w) zero (nd ∷ M) h le =
-    ap (λ (x : Outs). table w (arcs_at M) ++ record { to = padded x } ∷ []) (sym (get_or_past M w [] (omega arith))) ∙ table-push w (arcs_at M)
+    ap (λ (x : Outs). table w (arcs_at M) ++ record { to = padded_targets x } ∷ []) (sym (get_or_past M w [] (omega arith))) ∙ table-push w (arcs_at M)
 drop-table (suc w) (suc hi) (nd ∷ M) h le = ap (λ xs. arcs_at (nd ∷ M) 0 ∷ xs) (drop-table w hi M (omega arith) (omega arith))
 
 -- another node at a place of a layer
-set-table : (w lo : ℕ) (M : Layer) (nd : Outs) → lo < length M → length M ≤ w → set (table w (arcs_at M)) lo (record { to = padded nd }) ≡ table w (arcs_at (set M lo nd))
+set-table : (w lo : ℕ) (M : Layer) (nd : Outs) → lo < length M → length M ≤ w → set (table w (arcs_at M)) lo (record { to = padded_targets nd }) ≡ table w (arcs_at (set M lo nd))
 set-table w lo M nd lt le = table-list w (arcs_at (set M lo nd)) (set (table w (arcs_at M)) lo new) (length-set (table w (arcs_at M)) lo new ∙ table-long w (arcs_at M)) (λ k d k<w. ⊎_elim
     (λ (e : k ≡ lo). ap (λ (i : ℕ). get_or (set (table w (arcs_at M)) lo new) i d) e ∙ get_or-set_same (table w (arcs_at M)) lo new d (omega (arith, table-long w (arcs_at M)))
-    ∙ ap (λ (x : Outs). record { to = padded x }) (sym (ap (node (set M lo nd)) e ∙ get_or-set_same M lo nd [] lt)))
-    (λ (ne : k ≢ lo). get_or-set_other (table w (arcs_at M)) lo k new d ne ∙ table_at w k (arcs_at M) d k<w ∙ ap (λ (x : Outs). record { to = padded x }) (sym (get_or-set_other M lo k nd [] ne)))
+    ∙ ap (λ (x : Outs). record { to = padded_targets x }) (sym (ap (node (set M lo nd)) e ∙ get_or-set_same M lo nd [] lt)))
+    (λ (ne : k ≢ lo). get_or-set_other (table w (arcs_at M)) lo k new d ne ∙ table_at w k (arcs_at M) d k<w ∙ ap (λ (x : Outs). record { to = padded_targets x }) (sym (get_or-set_other M lo k nd [] ne)))
     (cases_eq k lo))
   where
     new : Arcs
-    new = record { to = padded nd }
+    new = record { to = padded_targets nd }
 
 -- one layer more before them
-joins-deeper : (lo hi d : ℕ) (L : Layer) (Ls : Net) → join_at (suc d) lo hi (L ∷ Ls) ≡ L ∷ join_at d lo hi Ls
-unfolding join_at
+joins-deeper : (lo hi d : ℕ) (L : Layer) (Ls : Net) → joined_arcs (suc d) lo hi (L ∷ Ls) ≡ L ∷ joined_arcs d lo hi Ls
+unfolding joined_arcs
 joins-deeper lo hi d L Ls = refl
 
 module _ {S V : Type 0} where
@@ -109,7 +109,7 @@ module _ {S V : Type 0} where
   unfolding joined_layer
   layer-long lo hi us z lt =
       let x = joined_node (get_or us lo z) (get_or us hi z) in
-      length_push (without_at hi (set us lo x)) z ∙ drop-long hi (set us lo x) (omega (arith, length-set us lo x)) ∙ length-set us lo x
+      length_push (without_place hi (set us lo x)) z ∙ drop-long hi (set us lo x) (omega (arith, length-set us lo x)) ∙ length-set us lo x
 
   second-tail : (w lo hi n : ℕ) (z : Node S V) (ys : List (Node S V)) → w + w ≤ length ys → hi < w → w + w ≤ n → drop n (joined_second w lo hi ys z) ≡ drop n ys
   unfolding joined_second
@@ -155,23 +155,23 @@ module _ {S V : Type 0} where
 
   -- ---- the arcs
   layer-arranged : (w lo hi : ℕ) (z : Node S V) (M : Layer) (us : List (Node S V)) → lo < hi → hi < length M → length M ≤ w → z.arcs ≡ arcs_at [] 0 → map arcs_of us ≡ table w (arcs_at M)
-      → map arcs_of (joined_layer lo hi us z) ≡ table w (arcs_at (without_at hi (set M lo (both_out (node M lo) (node M hi)))))
+      → map arcs_of (joined_layer lo hi us z) ≡ table w (arcs_at (without_place hi (set M lo (both_out (node M lo) (node M hi)))))
   unfolding joined_layer joined_node
   layer-arranged w lo hi z M us lt in' le bare e =
       let x = joined_node (get_or us lo z) (get_or us hi z) in
       let nd = both_out (node M lo) (node M hi) in
-      let both : both_out (targets (get_or us lo z)) (targets (get_or us hi z)) ≡ padded nd =
+      let both : both_out (targets (get_or us lo z)) (targets (get_or us hi z)) ≡ padded_targets nd =
       ap₂ both_out (targets-arranged w M us lo z e (omega arith)) (targets-arranged w M us hi z e (omega arith)) ∙ both-padded (node M lo) (node M hi) in
-      let is : x.arcs ≡ record { to = padded nd } = ap (λ (ts : List ℕ). record { to = ts }) both in
-      map_push arcs_of (without_at hi (set us lo x)) z
+      let is : x.arcs ≡ record { to = padded_targets nd } = ap (λ (ts : List ℕ). record { to = ts }) both in
+      map_push arcs_of (without_place hi (set us lo x)) z
       ∙ ap₂ (λ (xs : List Arcs) (a : Arcs). xs ++ a ∷ [])
-      (map-drop arcs_of hi (set us lo x) ∙ ap (without_at hi) (map-set arcs_of us lo x ∙ ap₂ (λ (xs : List Arcs) (a : Arcs). set xs lo a) e is ∙ set-table w lo M nd (omega arith) le))
+      (map-drop arcs_of hi (set us lo x) ∙ ap (without_place hi) (map-set arcs_of us lo x ∙ ap₂ (λ (xs : List Arcs) (a : Arcs). set xs lo a) e is ∙ set-table w lo M nd (omega arith) le))
       bare
       ∙ drop-table w hi (set M lo nd) (omega (arith, length-set M lo nd)) (omega (arith, length-set M lo nd))
 
   join_first : (w lo hi : ℕ) (z : Node S V) (Ls : Net) (ys : List (Node S V)) → Good w Ls → 1 < length Ls → lo < hi → hi < length (get_or Ls 1 []) → z.arcs ≡ arcs_at [] 0
-      → Arranged w Ls ys → Arranged w (join_at 0 lo hi Ls) (joined_second w lo hi ys z)
-  unfolding join_at joined_second moved_node moved_to
+      → Arranged w Ls ys → Arranged w (joined_arcs 0 lo hi Ls) (joined_second w lo hi ys z)
+  unfolding joined_arcs joined_second moved_node moved_to
   join_first w lo hi z [] ys good deep lt in' bare arr = absurd (omega arith)
   join_first w lo hi z (L ∷ []) ys good deep lt in' bare arr = absurd (omega arith)
   join_first w lo hi z (L ∷ M ∷ Ls) ys good deep lt in' bare arr =
@@ -185,7 +185,7 @@ module _ {S V : Type 0} where
       let wide : length vs ≡ w = arranged-long w M vs arr.1.0 in
       let more : length B ≡ w = layer-long lo hi vs z (omega arith) ∙ wide in
       let back : drop w (A ++ (B ++ C)) ≡ B ++ C = drop_at A (B ++ C) w many in (
-        ap (map arcs_of) (take_at A (B ++ C) w many) ∙ redirect-arranged w L us (λ u. moved_to lo hi) (λ a j b. suc (moved lo hi b)) good.1 arr.0 (λ x a j b less t. refl),
+        ap (map arcs_of) (take_at A (B ++ C) w many) ∙ redirect-arranged w L us (λ u. moved_to lo hi) (λ a j b. suc (place_after_join lo hi b)) good.1 arr.0 (λ x a j b less t. refl),
         (
           ap (λ zs. map arcs_of (take w zs)) back ∙ ap (map arcs_of) (take_at B C w more) ∙ layer-arranged w lo hi z M vs lt in' room bare arr.1.0,
           subst (Arranged w Ls) (sym (ap (drop w) back ∙ drop_at B C w more)) arr.1.1,
@@ -195,9 +195,9 @@ module _ {S V : Type 0} where
   -- the records of the net, joined, are those of the joined net
   pub join-arranged : (w d lo hi : ℕ) (z : Node S V) (Ls : Net) (xs : List (Node S V))
       → Good w Ls → suc d < length Ls → lo < hi → hi < length (get_or Ls (suc d) []) → z.arcs ≡ arcs_at [] 0 → Arranged w Ls xs → length Ls * w + 1 ≤ length xs
-      → Arranged w (join_at d lo hi Ls) (take (d * w) xs ++ joined_second w lo hi (drop (d * w) xs) z)
+      → Arranged w (joined_arcs d lo hi Ls) (take (d * w) xs ++ joined_second w lo hi (drop (d * w) xs) z)
   join-arranged w d lo hi z Ls xs good deep lt in' bare arr le =
       let Ks = drop d Ls in
       let second : get_or Ls (suc d) [] ≡ get_or Ks 1 [] = (let e : suc d ≡ d + 1 = omega arith in ap (λ (i : ℕ). get_or Ls i []) e ∙ sym (get_or-drop d Ls 1 [])) in
-      at-depth w (λ d. join_at d lo hi) (λ ys. joined_second w lo hi ys z) (joins-deeper lo hi) d Ls xs (omega arith) arr
+      at-depth w (λ d. joined_arcs d lo hi) (λ ys. joined_second w lo hi ys z) (joins-deeper lo hi) d Ls xs (omega arith) arr
       (join_first w lo hi z Ks (drop (d * w) xs) (good-drop w d Ls good) (omega (arith, length-drop d Ls)) lt (subst (λ (L : Layer). hi < length L) second in') bare)

@@ -8,10 +8,10 @@ use Rattle.tallies.specs.Tallies.{TallySense}
 use Rattle.layers.specs.declared.node.Node.{Node}
 use Rattle.layers.specs.declared.refusal.Refusal.{Refusal}
 use Rattle.layers.specs.declared.refusal.Refusal.TheVariants.{NoLayer, NoNode}
-use Rattle.layers.specs.Flow.{Net, node, clash, join_at}
-use Rattle.layers.specs.Records.{padded}
-use Rattle.layers.specs.Calls.{Answer, arcs, layer, relaid, bad_node, join_answer, joined}
-use Rattle.layers.specs.Shape.{Shaped, Timely}
+use Rattle.layers.specs.Flow.{Net, node, clash, joined_arcs}
+use Rattle.layers.specs.Records.{padded_targets}
+use Rattle.layers.specs.Calls.{Outcome, arcs, layer, records_with, bad_node, join_answer, after_join}
+use Rattle.layers.specs.Shape.{IsShaped, IsTimely}
 use Rattle.layers.specs.Targets.{targets}
 use Rattle.layers.proofs.Shaped.{relaid-shaped}
 use Rattle.layers.proofs.Timely.{relaid-timely}
@@ -30,12 +30,12 @@ use Rattle.split.proofs.PartWords.{relaid-same}
 use Rattle.split.proofs.ShapedNet.{known-shaped, count_long, count-layer}
 use Rattle.split.proofs.Stands.{count_most}
 
-either-one : (p q : Bool) (k : Refusal) (x : Answer) → and_then (cond p (Err k) (Ok tt)) (and_then (cond q (Err k) (Ok tt)) x) ≡ cond (p || q) (Err k) x
+either-one : (p q : Bool) (k : Refusal) (x : Outcome) → and_then (cond p (Err k) (Ok tt)) (and_then (cond q (Err k) (Ok tt)) x) ≡ cond (p || q) (Err k) x
 either-one true q k x = refl
 either-one false true k x = refl
 either-one false false k x = refl
 
-when-none : (q : Bool) (k x y : Answer) → (q ≡ false → x ≡ y) → cond q k x ≡ cond q k y
+when-none : (q : Bool) (k x y : Outcome) → (q ≡ false → x ≡ y) → cond q k x ≡ cond q k y
 when-none true k x y f = refl
 when-none false k x y f = f refl
 
@@ -49,7 +49,7 @@ module _ {S V : Type 0} (r : Round) (R : RuleSense S) (T : TallySense V) (W i a 
   abbrev z : Node S V
   z = blank_node r R T
 
-  module _ (some : 1 ≤ W) (few : W ≤ 128) (fit : r.n * W + 1 ≤ length xs) (s : Shaped r.n W xs) where
+  module _ (some : 1 ≤ W) (few : W ≤ 128) (fit : r.n * W + 1 ≤ length xs) (s : IsShaped r.n W xs) where
     count_same : 1 ≤ i → i < r.n → node_count ((i - 1) * W + W) W xs ≡ length (layer r.n W i xs)
     count_same low high = let back : suc (i - 1) ≡ i = omega arith in count-layer r.n W xs (i - 1) (omega arith) ∙ ap (λ (k : ℕ). length (layer r.n W k xs)) back
 
@@ -66,7 +66,7 @@ module _ {S V : Type 0} (r : Round) (R : RuleSense S) (T : TallySense V) (W i a 
         two-within a b W x.0 y.0 x.1 y.1
 
     -- the targets of a record of the layer
-    record-targets : (c : ℕ) → 1 ≤ i → i < r.n → 1 ≤ c → c ≤ W → targets (get_or xs ((i - 1) * W + W + (c - 1)) z) ≡ padded (node (get_or (arcs r.n W xs) i []) (c - 1))
+    record-targets : (c : ℕ) → 1 ≤ i → i < r.n → 1 ≤ c → c ≤ W → targets (get_or xs ((i - 1) * W + W + (c - 1)) z) ≡ padded_targets (node (get_or (arcs r.n W xs) i []) (c - 1))
     record-targets c low high one most =
         let Ls = arcs r.n W xs in
         let k = known-shaped r R T W xs some fit s (i - 1) (omega arith) in
@@ -89,8 +89,8 @@ module _ {S V : Type 0} (r : Round) (R : RuleSense S) (T : TallySense V) (W i a 
     unfolding join_check join_answer
     join-answer =
         let m = node_count ((i - 1) * W + W) W xs in
-        let X : ℕ → Answer = λ m. and_then (node_check m a) (and_then (node_check m b) (pair_check (eqb a b) (clash_at z ((i - 1) * W + W) a b xs))) in
-        ap (λ (k : Answer). and_then k (X m)) (place_is r.n W (length xs) i some few fit)
+        let X : ℕ → Outcome = λ m. and_then (node_check m a) (and_then (node_check m b) (pair_check (eqb a b) (clash_at z ((i - 1) * W + W) a b xs))) in
+        ap (λ (k : Outcome). and_then k (X m)) (place_is r.n W (length xs) i some few fit)
         ∙ else-cond (ltb i 1 || leb r.n i) NoLayer (X m) _
         (λ q.
         let low = ltb-false i 1 (or_parts _ _ q).0 in
@@ -102,9 +102,9 @@ module _ {S V : Type 0} (r : Round) (R : RuleSense S) (T : TallySense V) (W i a 
 
     -- what it does
     abbrev new : Net
-    new = join_at (i - 1) (min a b - 1) (max a b - 1) (arcs r.n W xs)
+    new = joined_arcs (i - 1) (min a b - 1) (max a b - 1) (arcs r.n W xs)
 
-    join-made : join_check r.n z W i a b xs ≡ Ok tt → Proper r.n W new × (relabelled r R T W (joined_one r R T ((i - 1) * W) W (min a b - 1) (max a b - 1) xs) ≡ relaid r R T W xs new)
+    join-made : join_check r.n z W i a b xs ≡ Ok tt → Proper r.n W new × (relabelled r R T W (joined_one r R T ((i - 1) * W) W (min a b - 1) (max a b - 1) xs) ≡ records_with r R T W xs new)
     unfolding joined_one
     join-made e =
         let q = join-clear r.n z W i a b xs e in
@@ -128,32 +128,32 @@ module _ {S V : Type 0} (r : Round) (R : RuleSense S) (T : TallySense V) (W i a 
         let same : r.n * W + 1 ≡ length Ls * W + 1 = ap (λ (j : ℕ). j * W + 1) (sym k.proper.deep) in
         let ys = joined_one r R T (d * W) W lo hi xs in
         let p : Proper r.n W new = proper-join r R T W some d lo hi Ls order inside clear k.proper in
-        let made : relabelled r R T W ys ≡ relaid r R T W xs new =
+        let made : relabelled r R T W ys ≡ records_with r R T W xs new =
         relaid-same r R T W xs ys new p
         (join-arranged W d lo hi z Ls xs (proper-good r W Ls k.proper) deep order inside refl k.arranged long)
         (ap (λ (j : ℕ). drop j ys) same ∙ join-tail W d lo hi z Ls xs deep (omega (arith, q.high, q.low, q.apart)) long ∙ ap (λ (j : ℕ). drop j xs) (sym same)) in
         (p, made)
 
-    pub join-words : join_steps r R T W i a b xs ≡ joined r R T W i a b xs
-    unfolding join_steps joined
+    pub join-words : join_steps r R T W i a b xs ≡ after_join r R T W i a b xs
+    unfolding join_steps after_join
     join-words = same_check (join_check r.n z W i a b xs) (join_answer r R T W i a b xs) _ _ xs join-answer (λ e. (join-made e).1)
 
     -- the shape stays
-    pub join-shaped : Shaped r.n W (join_steps r R T W i a b xs)
+    pub join-shaped : IsShaped r.n W (join_steps r R T W i a b xs)
     unfolding join_steps
-    join-shaped = cond_both (is_ok (join_check r.n z W i a b xs)) _ xs (Shaped r.n W)
-        (λ e. let q = join-made (passed _ e) in subst (Shaped r.n W) (sym q.1) (relaid-shaped r R T W some xs new q.0))
+    join-shaped = cond_both (is_ok (join_check r.n z W i a b xs)) _ xs (IsShaped r.n W)
+        (λ e. let q = join-made (passed _ e) in subst (IsShaped r.n W) (sym q.1) (relaid-shaped r R T W some xs new q.0))
         (λ e. s)
 
     -- and no finish gets late
-    pub join-timely : Timely r.n W xs → Timely r.n W (join_steps r R T W i a b xs)
+    pub join-timely : IsTimely r.n W xs → IsTimely r.n W (join_steps r R T W i a b xs)
     unfolding join_steps
-    join-timely t = cond_both (is_ok (join_check r.n z W i a b xs)) _ xs (Timely r.n W)
-        (λ e. let q = join-made (passed _ e) in subst (Timely r.n W) (sym q.1) (relaid-timely r R T W xs new q.0.deep))
+    join-timely t = cond_both (is_ok (join_check r.n z W i a b xs)) _ xs (IsTimely r.n W)
+        (λ e. let q = join-made (passed _ e) in subst (IsTimely r.n W) (sym q.1) (relaid-timely r R T W xs new q.0.deep))
         (λ e. t)
 
 -- the clause
-pub join-said : {S V : Type 0} (r : Round) (R : RuleSense S) (T : TallySense V) (W i a b : ℕ) (xs ys : List (Node S V)) (o : Answer)
+pub join-said : {S V : Type 0} (r : Round) (R : RuleSense S) (T : TallySense V) (W i a b : ℕ) (xs ys : List (Node S V)) (o : Outcome)
     → o ≡ join_check r.n (blank_node r R T) W i a b xs → ys ≡ join_steps r R T W i a b xs → JoinDone r R T W xs i a b o ys
 join-said r R T W i a b xs ys o said made s =
     let same = join-answer r R T W i a b xs s.some s.few s.fit s.shaped in

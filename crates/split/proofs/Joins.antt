@@ -5,7 +5,7 @@ use Rattle.std.specs.List.{range_with_len, list_any, zip}
 use Rattle.std.proofs.lemmas.List.FromFn.{fill_by_all}
 use Rattle.std.proofs.lemmas.Bool.{eq-eqb, ne_eqb, lt-ltb, le-ltb}
 use Rattle.layers.specs.declared.node.Node.{Node}
-use Rattle.layers.specs.Flow.{apart_t, clash, either_target, both_out, moved, without_at}
+use Rattle.layers.specs.Flow.{targets_differ, clash, either_target, both_out, place_after_join, without_place}
 use Rattle.layers.specs.Targets.{targets, with_targets, at_door}
 use Rattle.split.specs.Joined.{moved_to, joined_node}
 use Rattle.labels.proofs.Redirects.{written}
@@ -15,7 +15,7 @@ use Rattle.labels.proofs.Redirects.{written}
 abbrev pub apartPair : ℕ × ℕ → Bool
 apartPair p = not (eqb p.0 0) && (not (eqb p.1 0) && not (eqb p.0 p.1))
 
-apart-tested : (s t : ℕ) → apartPair (s, t) ≡ apart_t s t
+apart-tested : (s t : ℕ) → apartPair (s, t) ≡ targets_differ s t
 apart-tested zero t = ap (λ a. not a && (not (eqb t 0) && not (eqb 0 t))) (eq-eqb 0 0 refl)
 apart-tested (suc s) zero = ap₂ (λ a b. not a && (not b && not a)) (ne_eqb (suc s) 0 (omega arith)) (eq-eqb 0 0 refl)
 apart-tested (suc s) (suc t) =
@@ -51,14 +51,14 @@ both-made x y = ap (with_targets x) (both-mapped (λ k. get_or x.arcs.to k 0) (�
 -- ---- numbers, which are places and one
 module _ (lo hi j : ℕ) (some : 1 ≤ lo) (lt : lo < hi) where
   pub moved_same : (t : ℕ) → t ≡ hi → lo ≡ at_door (moved_to (lo - 1) (hi - 1)) j t
-  unfolding moved_to moved
+  unfolding moved_to place_after_join
   moved_same zero e = absurd (omega arith)
   moved_same (suc b) e =
       let back : lo ≡ suc (lo - 1) = omega arith in
       back ∙ ap (λ c. suc (cond c (lo - 1) (cond (ltb (hi - 1) b) (b - 1) b))) (sym (eq-eqb b (hi - 1) (omega arith)))
 
   pub moved-above : (t : ℕ) → hi < t → t - 1 ≡ at_door (moved_to (lo - 1) (hi - 1)) j t
-  unfolding moved_to moved
+  unfolding moved_to place_after_join
   moved-above zero gt = absurd (omega arith)
   moved-above (suc b) gt =
       let back : suc b - 1 ≡ suc (b - 1) = omega arith in
@@ -67,15 +67,15 @@ module _ (lo hi j : ℕ) (some : 1 ≤ lo) (lt : lo < hi) where
       ∙ ap (λ c. suc (cond c (lo - 1) (cond (ltb (hi - 1) b) (b - 1) b))) (sym (ne_eqb b (hi - 1) (omega arith)))
 
   pub moved-below : (t : ℕ) → t < hi → t ≡ at_door (moved_to (lo - 1) (hi - 1)) j t
-  unfolding moved_to moved
+  unfolding moved_to place_after_join
   moved-below zero less = refl
   moved-below (suc b) less =
       ap (λ c. suc (cond c (b - 1) b)) (sym (le-ltb (hi - 1) b (omega arith)))
       ∙ ap (λ c. suc (cond c (lo - 1) (cond (ltb (hi - 1) b) (b - 1) b))) (sym (ne_eqb b (hi - 1) (omega arith)))
 
 -- ---- taking out one record
-pub dropped : {X : Type 0} (at : ℕ) (xs : List X) → take at xs ++ drop (suc at) xs ≡ without_at at xs
-unfolding without_at
+pub dropped : {X : Type 0} (at : ℕ) (xs : List X) → take at xs ++ drop (suc at) xs ≡ without_place at xs
+unfolding without_place
 dropped zero [] = refl
 dropped (suc at) [] = refl
 dropped zero (x ∷ xs) = refl

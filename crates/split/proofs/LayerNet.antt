@@ -8,10 +8,10 @@ use Rattle.layers.specs.declared.node.Arcs.{Arcs}
 use Rattle.layers.specs.declared.node.Node.{Node}
 use Rattle.layers.specs.declared.node.Down.{Down}
 use Rattle.layers.specs.declared.node.Label.{Label}
-use Rattle.layers.specs.Flow.{table, Outs, Layer, Net, node, ins, Even}
-use Rattle.layers.specs.Labels.{arrive, agreeing, first_arrival, leaves}
-use Rattle.layers.specs.Records.{used, standing, arcs_in, downs_in, padded, arcs_at}
-use Rattle.layers.specs.Calls.{parted_at, arrivals as arrivalsIn}
+use Rattle.layers.specs.Flow.{table, Outs, Layer, Net, node, arrivals_at, IsEven}
+use Rattle.layers.specs.Labels.{arrival_over, all_agree, first_arrival, differs_from_first}
+use Rattle.layers.specs.Records.{is_used, nodes_in, arcs_in, downs_in, padded_targets, arcs_at}
+use Rattle.layers.specs.Calls.{parted_arcs, arrivals as arrivalsIn}
 use Rattle.layers.proofs.Bridge.{table-long}
 use Rattle.layers.proofs.Flows.{table_at}
 use Rattle.layers.proofs.Proper.{Proper, even-of}
@@ -25,14 +25,14 @@ use Rattle.split.proofs.ArrivalNet.{arrivals-standing}
 use Rattle.split.proofs.DepthNet.{good-room, two-fit}
 use Rattle.split.proofs.PartNet.{part-arranged, part-tail, part_length, part-labels}
 
-take-padded : (n : ℕ) (nd : Outs) → n ≤ 16 → length nd ≡ n → take n (padded nd) ≡ nd
+take-padded : (n : ℕ) (nd : Outs) → n ≤ 16 → length nd ≡ n → take n (padded_targets nd) ≡ nd
 take-padded n nd h e =
     let f : ℕ → ℕ = λ k. get_or nd k 0 in
-    let long : length (take n (padded nd)) ≡ n = length-take-le n (padded nd) (omega (arith, table-long 16 f)) in
-    same_lists (take n (padded nd)) nd (long ∙ sym e)
-    (λ k d lt. get_or-take n (padded nd) k d (omega (arith, long)) ∙ table_at 16 k f d (omega (arith, long)) ∙ get_or_default nd k 0 d (omega (arith, long)))
+    let long : length (take n (padded_targets nd)) ≡ n = length-take-le n (padded_targets nd) (omega (arith, table-long 16 f)) in
+    same_lists (take n (padded_targets nd)) nd (long ∙ sym e)
+    (λ k d lt. get_or-take n (padded_targets nd) k d (omega (arith, long)) ∙ table_at 16 k f d (omega (arith, long)) ∙ get_or_default nd k 0 d (omega (arith, long)))
 
-even-at : (n d : ℕ) (Ls : Net) → d < length Ls → Even n Ls → (a : ℕ) → a < length (get_or Ls d []) → length (node (get_or Ls d []) a) ≡ n
+even-at : (n d : ℕ) (Ls : Net) → d < length Ls → IsEven n Ls → (a : ℕ) → a < length (get_or Ls d []) → length (node (get_or Ls d []) a) ≡ n
 even-at n d [] lt e = absurd (omega arith)
 even-at n zero (L ∷ Ls) lt e = e.0
 even-at n (suc d) (L ∷ Ls) lt e = even-at n d Ls (omega arith) e.1
@@ -52,15 +52,15 @@ module _ {S V : Type 0} where
   abbrev pub labelsOf : List (Node S V) → List (Label S V)
   labelsOf = map (λ (x : Node S V). x.label)
 
-  pub standing-labels : (us vs : List (Node S V)) → labelsOf us ≡ labelsOf vs → labelsOf (standing us) ≡ labelsOf (standing vs)
+  pub standing-labels : (us vs : List (Node S V)) → labelsOf us ≡ labelsOf vs → labelsOf (nodes_in us) ≡ labelsOf (nodes_in vs)
   standing-labels [] [] e = refl
   standing-labels [] (v ∷ vs) e = absurd (omega (arith, ap length e))
   standing-labels (u ∷ us) [] e = absurd (omega (arith, ap length e))
   standing-labels (u ∷ us) (v ∷ vs) e =
       let here : u.label ≡ v.label = ap (λ ls. get_or ls 0 u.label) e in
-      go (used u) (used v) (ap (λ (l : Label S V). not (eqb l.down.lasts 0)) here) here (standing-labels us vs (ap (drop 1) e))
+      go (is_used u) (is_used v) (ap (λ (l : Label S V). not (eqb l.down.lasts 0)) here) here (standing-labels us vs (ap (drop 1) e))
     where
-      go : (p q : Bool) → p ≡ q → u.label ≡ v.label → labelsOf (standing us) ≡ labelsOf (standing vs) → labelsOf (cond p (u ∷ standing us) []) ≡ labelsOf (cond q (v ∷ standing vs) [])
+      go : (p q : Bool) → p ≡ q → u.label ≡ v.label → labelsOf (nodes_in us) ≡ labelsOf (nodes_in vs) → labelsOf (cond p (u ∷ nodes_in us) []) ≡ labelsOf (cond q (v ∷ nodes_in vs) [])
       go true true f here rest = ap₂ (λ (l : Label S V) ls. l ∷ ls) here rest
       go true false f here rest = absurd (grind arith)
       go false true f here rest = absurd (grind arith)
@@ -71,22 +71,22 @@ module _ {S V : Type 0} where
   downs-labels [] = refl
   downs-labels (u ∷ us) = ap (λ ls. Some u.label.down ∷ ls) (downs-labels us)
 
-  pub downs-same : (us vs : List (Node S V)) → labelsOf us ≡ labelsOf vs → downs_in (standing us) ≡ downs_in (standing vs)
-  downs-same us vs e = downs-labels (standing us) ∙ ap (map (λ (l : Label S V). Some l.down)) (standing-labels us vs e) ∙ sym (downs-labels (standing vs))
+  pub downs-same : (us vs : List (Node S V)) → labelsOf us ≡ labelsOf vs → downs_in (nodes_in us) ≡ downs_in (nodes_in vs)
+  downs-same us vs e = downs-labels (nodes_in us) ∙ ap (map (λ (l : Label S V). Some l.down)) (standing-labels us vs e) ∙ sym (downs-labels (nodes_in vs))
 
-  pub stands_same : (us vs : List (Node S V)) → labelsOf us ≡ labelsOf vs → length (standing us) ≡ length (standing vs)
-  stands_same us vs e = sym (length-map (standing us) (λ (x : Node S V). x.label)) ∙ ap length (standing-labels us vs e) ∙ length-map (standing vs) (λ (x : Node S V). x.label)
+  pub stands_same : (us vs : List (Node S V)) → labelsOf us ≡ labelsOf vs → length (nodes_in us) ≡ length (nodes_in vs)
+  stands_same us vs e = sym (length-map (nodes_in us) (λ (x : Node S V). x.label)) ∙ ap length (standing-labels us vs e) ∙ length-map (nodes_in vs) (λ (x : Node S V). x.label)
 
   -- ---- one layer
   -- their arcs are the net's
   pub arcs-standing : (n w : ℕ) (z : Node S V) (L : Layer) (us : List (Node S V)) → n ≤ 16 → ((a : ℕ) → a < length L → length (node L a) ≡ n) → length L ≤ w → map arcs_of us ≡ table w (arcs_at L)
-      → length (standing us) ≡ length L → arcs_in n (standing us) ≡ L
+      → length (nodes_in us) ≡ length L → arcs_in n (nodes_in us) ≡ L
   arcs-standing n w z L us h even room e long =
       let f : Node S V → List ℕ = λ x. take n x.arcs.to in
-      let many : length (arcs_in n (standing us)) ≡ length L = length-map (standing us) f ∙ long in
-      same_lists (arcs_in n (standing us)) L many
+      let many : length (arcs_in n (nodes_in us)) ≡ length L = length-map (nodes_in us) f ∙ long in
+      same_lists (arcs_in n (nodes_in us)) L many
       (λ k d lt.
-      get_or-map f (standing us) k z d (omega (arith, many)) ∙ ap f (standing-at us k z (omega (arith, many)))
+      get_or-map f (nodes_in us) k z d (omega (arith, many)) ∙ ap f (standing-at us k z (omega (arith, many)))
       ∙ ap (λ (x : Arcs). take n x.to) (arcs-arranged w L us k z e (omega (arith, many)))
       ∙ take-padded n (node L k) h (even k (omega (arith, many))) ∙ get_or_default L k [] d (omega (arith, many)))
 
@@ -105,13 +105,13 @@ module _ {S V : Type 0} (r : Round) (R : RuleSense S) (T : TallySense V) (W d : 
     pub arranged : Arranged W Ls xs
     pub fit : r.n * W + 1 ≤ length xs
     pub deep : suc d < r.n
-    pub stand : length (standing (part (d * W) W xs)) ≡ length (get_or Ls d [])
+    pub stand : length (nodes_in (part (d * W) W xs)) ≡ length (get_or Ls d [])
 
   abbrev pub us : List (Node S V)
   us = part (d * W) W xs
 
   abbrev pub labs : List (Option (Down S V))
-  labs = downs_in (standing us)
+  labs = downs_in (nodes_in us)
 
   module _ (k : Known) where
     within : suc d < length Ls
@@ -123,34 +123,34 @@ module _ {S V : Type 0} (r : Round) (R : RuleSense S) (T : TallySense V) (W d : 
     long : length Ls * W + 1 ≤ length xs
     long = let e : length Ls * W + 1 ≡ r.n * W + 1 = ap (λ (i : ℕ). i * W + 1) k.proper.deep in omega (arith, k.fit)
 
-    known-arcs : arcs_in r.n (standing us) ≡ get_or Ls d []
+    known-arcs : arcs_in r.n (nodes_in us) ≡ get_or Ls d []
     known-arcs = arcs-standing r.n W (blank_node r R T) (get_or Ls d []) us r.most (even-at r.n d Ls (omega (arith, within)) (even-of r.n Ls k.proper.even)) room (arranged-at W d Ls xs (omega (arith, within)) k.arranged) k.stand
 
     -- what arrives
-    pub known-standing : (a : ℕ) → arrivals r R T (suc a) us ≡ arrivalsIn r R T (standing us) a
+    pub known-standing : (a : ℕ) → arrivals r R T (suc a) us ≡ arrivalsIn r R T (nodes_in us) a
     known-standing a = arrivals-standing r R T W a us (arranged-at W d Ls xs (omega (arith, within)) k.arranged ∙ ap (λ (L : Layer). table W (arcs_at L)) (sym known-arcs))
 
-    pub known-arrivals : (a : ℕ) → arrivals r R T (suc a) us ≡ ins (arrive r R T) a labs (get_or Ls d [])
+    pub known-arrivals : (a : ℕ) → arrivals r R T (suc a) us ≡ arrivals_at (arrival_over r R T) a labs (get_or Ls d [])
     unfolding arrivalsIn
-    known-arrivals a = known-standing a ∙ ap (ins (arrive r R T) a labs) known-arcs
+    known-arrivals a = known-standing a ∙ ap (arrivals_at (arrival_over r R T) a labs) known-arcs
 
-    pub known_alike : (a : ℕ) → alike r R T (d * W) W (suc a) xs ≡ agreeing r R T (ins (arrive r R T) a labs (get_or Ls d []))
-    known_alike a = ap (agreeing r R T) (known-arrivals a)
+    pub known_alike : (a : ℕ) → alike r R T (d * W) W (suc a) xs ≡ all_agree r R T (arrivals_at (arrival_over r R T) a labs (get_or Ls d []))
+    known_alike a = ap (all_agree r R T) (known-arrivals a)
 
     -- which in-arcs leave
-    kept : (o : Option (Down S V)) (x : Node S V) (u j : ℕ) → u < length (get_or Ls d []) → leaves r R T o (get_or labs u None) j ≡ not (kept_first r R T o (get_or (drop (d * W) xs) u x).label j)
+    kept : (o : Option (Down S V)) (x : Node S V) (u j : ℕ) → u < length (get_or Ls d []) → differs_from_first r R T o (get_or labs u None) j ≡ not (kept_first r R T o (get_or (drop (d * W) xs) u x).label j)
     kept None x u j lt = refl
     kept (Some y) x u j lt =
         let f : Node S V → Option (Down S V) = λ v. Some v.label.down in
         let le = room in
-        let lt' : u < length (standing us) = omega (arith, k.stand) in
-        ap (λ o. leaves r R T (Some y) o j) (get_or-map f (standing us) u x None lt' ∙ ap f (standing-at us u x lt' ∙ get_or-take W (drop (d * W) xs) u x (omega arith)))
+        let lt' : u < length (nodes_in us) = omega (arith, k.stand) in
+        ap (λ o. differs_from_first r R T (Some y) o j) (get_or-map f (nodes_in us) u x None lt' ∙ ap f (standing-at us u x lt' ∙ get_or-take W (drop (d * W) xs) u x (omega arith)))
 
-    pub known-parted : (a m : ℕ) → m ≡ length (get_or Ls (suc d) []) → a < m → m < W → Arranged W (parted_at r R T d a labs Ls) (parted_one r R T (d * W) W a m xs)
+    pub known-parted : (a m : ℕ) → m ≡ length (get_or Ls (suc d) []) → a < m → m < W → Arranged W (parted_arcs r R T d a labs Ls) (parted_one r R T (d * W) W a m xs)
     unfolding parted_one
     known-parted a m em al ml =
         part-arranged r R T (kept_first r R T (first_arrival r R T (arrivals r R T (suc a) us))) W d a m (blank_node r R T) labs Ls xs (proper-good r W Ls k.proper) within em al ml k.arranged long
-        (λ x u j lt. ap (λ zs. leaves r R T (first_arrival r R T zs) (get_or labs u None) j) (sym (known-arrivals a)) ∙ kept (first_arrival r R T (arrivals r R T (suc a) us)) x u j lt)
+        (λ x u j lt. ap (λ zs. differs_from_first r R T (first_arrival r R T zs) (get_or labs u None) j) (sym (known-arrivals a)) ∙ kept (first_arrival r R T (arrivals r R T (suc a) us)) x u j lt)
 
     -- the places after the end, the length, and the labels of the layer before stay
     pub known-tail : (a m : ℕ) → m < W → drop (r.n * W + 1) (parted_one r R T (d * W) W a m xs) ≡ drop (r.n * W + 1) xs

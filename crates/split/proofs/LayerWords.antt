@@ -7,10 +7,10 @@ use Rattle.rules.specs.Rules.{RuleSense}
 use Rattle.tallies.specs.Tallies.{TallySense}
 use Rattle.layers.specs.declared.node.Node.{Node}
 use Rattle.layers.specs.declared.refusal.Refusal.TheVariants.{NoLayer}
-use Rattle.layers.specs.Flow.{Net, node, width, ins}
-use Rattle.layers.specs.Labels.{Lab, firsts, labels_next, agreeing, arrive}
-use Rattle.layers.specs.Records.{standing, downs_in, arcs_read, laid_arcs, laid}
-use Rattle.layers.specs.Calls.{parted_at, arcs, layer, relaid, splits}
+use Rattle.layers.specs.Flow.{Net, node, width, arrivals_at}
+use Rattle.layers.specs.Labels.{Lab, first_labels, labels_next, all_agree, arrival_over}
+use Rattle.layers.specs.Records.{nodes_in, downs_in, arcs_read, laid_arcs, labelled_records}
+use Rattle.layers.specs.Calls.{parted_arcs, arcs, layer, records_with, parts_of_layer}
 use Rattle.layers.proofs.Bridge.{labsAt, group_at, part-at, laid-long}
 use Rattle.layers.proofs.Laid.{written, arcs-laid}
 use Rattle.layers.proofs.Model.{part_at, one_group, count, parted}
@@ -77,7 +77,7 @@ module _ {S V : Type 0} (r : Round) (R : RuleSense S) (self : (s : S) → R.same
   -- what is known at each turn: the labels of the layer before are those of the net
   pub record State (Ls : Net) (xs : List (Node S V)) : Type 0 where
     pub known : Known r R T W (i - 1) Ls xs
-    pub labelled : downs_in (standing (part ((i - 1) * W) W xs)) ≡ labsAt r R T W w (i - 1) (firsts r R T) Ls
+    pub labelled : downs_in (nodes_in (part ((i - 1) * W) W xs)) ≡ labsAt r R T W w (i - 1) (first_labels r R T) Ls
 
   module _ (Ls : Net) (xs : List (Node S V)) (s : State Ls xs) (a m : ℕ) (em : m ≡ count r R T i Ls) where
     back : i ≡ suc (i - 1)
@@ -86,25 +86,25 @@ module _ {S V : Type 0} (r : Round) (R : RuleSense S) (self : (s : S) → R.same
     em' : m ≡ length (get_or Ls (suc (i - 1)) [])
     em' = em ∙ ap (λ (j : ℕ). length (get_or Ls j [])) back
 
-    group-same : alike r R T ((i - 1) * W) W (suc a) xs ≡ one_group r R T (i - 1) a (firsts r R T) Ls
+    group-same : alike r R T ((i - 1) * W) W (suc a) xs ≡ one_group r R T (i - 1) a (first_labels r R T) Ls
     group-same =
         let k = s.known in
         let d = i - 1 in
         known_alike r R T W d Ls xs k a
-        ∙ ap (λ ls. agreeing r R T (ins (arrive r R T) a ls (get_or Ls d []))) s.labelled
-        ∙ sym (group_at r R T W w d a (firsts r R T) Ls (omega (arith, k.deep, k.proper.deep)))
+        ∙ ap (λ ls. all_agree r R T (arrivals_at (arrival_over r R T) a ls (get_or Ls d []))) s.labelled
+        ∙ sym (group_at r R T W w d a (first_labels r R T) Ls (omega (arith, k.deep, k.proper.deep)))
 
-    next-state : a < m → m < W → one_group r R T (i - 1) a (firsts r R T) Ls ≡ false → State (part_at r R T (i - 1) a (firsts r R T) Ls) (parted_one r R T ((i - 1) * W) W a m xs)
+    next-state : a < m → m < W → one_group r R T (i - 1) a (first_labels r R T) Ls ≡ false → State (part_at r R T (i - 1) a (first_labels r R T) Ls) (parted_one r R T ((i - 1) * W) W a m xs)
     next-state al ml apart =
         let k = s.known in
         let d = i - 1 in
-        let fs = firsts r R T in
+        let fs = first_labels r R T in
         let Ms = part_at r R T d a fs Ls in
         let ys = parted_one r R T (d * W) W a m xs in
         let same = known-labels r R T W d Ls xs k a m in
         let us = part (d * W) W xs in
         let vs = part (d * W) W ys in
-        let net : parted_at r R T d a (labs r R T W d Ls xs) Ls ≡ Ms = ap (λ ls. parted_at r R T d a ls Ls) s.labelled ∙ part-at r R T W w d a fs Ls in
+        let net : parted_arcs r R T d a (labs r R T W d Ls xs) Ls ≡ Ms = ap (λ ls. parted_arcs r R T d a ls Ls) s.labelled ∙ part-at r R T W w d a fs Ls in
         record {
           known = record {
             proper = proper-part r R self T W w d a Ls (omega (arith, em')) (omega (arith, em')) apart k.proper;
@@ -116,12 +116,12 @@ module _ {S V : Type 0} (r : Round) (R : RuleSense S) (self : (s : S) → R.same
           labelled = downs-same vs us same ∙ s.labelled ∙ sym (labs-stay r R T W w d a fs Ls);
         }
 
-    next-count : suc m ≡ count r R T i (part_at r R T (i - 1) a (firsts r R T) Ls)
+    next-count : suc m ≡ count r R T i (part_at r R T (i - 1) a (first_labels r R T) Ls)
     next-count =
         let k = s.known in
         let d = i - 1 in
-        let Ms = part_at r R T d a (firsts r R T) Ls in
-        ap suc em' ∙ sym (after-grows r R T W w d a (firsts r R T) Ls (omega (arith, k.deep, k.proper.deep))) ∙ ap (λ (j : ℕ). length (get_or Ms j [])) (sym back)
+        let Ms = part_at r R T d a (first_labels r R T) Ls in
+        ap suc em' ∙ sym (after-grows r R T W w d a (first_labels r R T) Ls (omega (arith, k.deep, k.proper.deep))) ∙ ap (λ (j : ℕ). length (get_or Ms j [])) (sym back)
 
   -- all turns
   pub parts-net : (k a m : ℕ) (Ls : Net) (xs : List (Node S V)) → State Ls xs → m ≡ count r R T i Ls → Done r.n W xs (parted r R T W k i a Ls) (parts_from r R T ((i - 1) * W) W k a m xs)
@@ -129,14 +129,14 @@ module _ {S V : Type 0} (r : Round) (R : RuleSense S) (self : (s : S) → R.same
   parts-net zero a m Ls xs s em = record { answer = refl; arranged = s.known.arranged; tail = refl; long = refl }
   parts-net (suc k) a m Ls xs s em =
       let G : Bool → Bool → Bool → Bool × Net = λ x y z. elim x [ true ↦ (false, Ls) | false ↦ elim y [ true ↦ parted r R T W k i (suc a) Ls | false ↦ elim z [ true ↦ (true, Ls) | false ↦ parted r R T W k i (suc a) P ] ] ] in
-      let same : G (leb m a) (alike r R T ((i - 1) * W) W (suc a) xs) (leb W m) ≡ G (leb (count r R T i Ls) a) (one_group r R T (i - 1) a (firsts r R T) Ls) (leb W (count r R T i Ls)) =
+      let same : G (leb m a) (alike r R T ((i - 1) * W) W (suc a) xs) (leb W m) ≡ G (leb (count r R T i Ls) a) (one_group r R T (i - 1) a (first_labels r R T) Ls) (leb W (count r R T i Ls)) =
       ap (λ (c : ℕ). G (leb c a) (alike r R T ((i - 1) * W) W (suc a) xs) (leb W c)) em ∙ ap (λ y. G (leb (count r R T i Ls) a) y (leb W (count r R T i Ls))) (group-same Ls xs s a m em) in
       subst (λ p. Done r.n W xs p (parts_from r R T ((i - 1) * W) W (suc k) a m xs)) same
       (go (leb m a) refl (alike r R T ((i - 1) * W) W (suc a) xs) refl (leb W m) refl (parts-net k (suc a) m Ls xs s em)
       (λ t. parts-net k (suc a) (suc m) P ys t (next-count Ls xs s a m em)))
     where
       P : Net
-      P = part_at r R T (i - 1) a (firsts r R T) Ls
+      P = part_at r R T (i - 1) a (first_labels r R T) Ls
 
       ys : List (Node S V)
       ys = parted_one r R T ((i - 1) * W) W a m xs
@@ -162,13 +162,13 @@ module _ {S V : Type 0} (r : Round) (R : RuleSense S) (self : (s : S) → R.same
 -- ---- records that are laid out
 module _ {S V : Type 0} (r : Round) (R : RuleSense S) (self : (s : S) → R.same s s ≡ true) (T : TallySense V) (W : ℕ) (w : 1 ≤ W) (later : List (Node S V)) (Ls : Net) (p : Proper r.n W Ls) where
   abbrev xs : List (Node S V)
-  xs = laid r R T W Ls ++ later
+  xs = labelled_records r R T W Ls ++ later
 
   pub laid-fit : r.n * W + 1 ≤ length xs
-  unfolding laid
+  unfolding labelled_records
   laid-fit =
       let e : length Ls * W + 1 ≡ r.n * W + 1 = ap (λ (k : ℕ). k * W + 1) p.deep in
-      omega (arith, laid-long r R T W w (firsts r R T) Ls, length-append (laid r R T W Ls) later)
+      omega (arith, laid-long r R T W w (first_labels r R T) Ls, length-append (labelled_records r R T W Ls) later)
 
   laid-arranged : Arranged W Ls xs
   laid-arranged =
@@ -206,14 +206,14 @@ module _ {S V : Type 0} (r : Round) (R : RuleSense S) (self : (s : S) → R.same
 
 -- the same of an answer and records that are what `layer_steps` says
 pub layer-net : {S V : Type 0} (r : Round) (R : RuleSense S) (self : (s : S) → R.same s s ≡ true) (T : TallySense V) (W i : ℕ) (later : List (Node S V)) (Ls : Net) (xs ys : List (Node S V)) (b : Bool)
-    → 1 ≤ W → W ≤ 128 → 1 ≤ i → i < r.n → Proper r.n W Ls → xs ≡ laid r R T W Ls ++ later → (b, ys) ≡ layer_steps r R T W i xs → Done r.n W xs (parted r R T W W i 0 Ls) (b, ys)
+    → 1 ≤ W → W ≤ 128 → 1 ≤ i → i < r.n → Proper r.n W Ls → xs ≡ labelled_records r R T W Ls ++ later → (b, ys) ≡ layer_steps r R T W i xs → Done r.n W xs (parted r R T W W i 0 Ls) (b, ys)
 layer-net r R self T W i later Ls xs ys b w few low high p is made =
     subst (Done r.n W xs (parted r R T W W i 0 Ls)) (sym made)
     (subst (λ (zs : List (Node _ _)). Done r.n W zs (parted r R T W W i 0 Ls) (layer_steps r R T W i zs)) (sym is) (layer-words r R self T W w later Ls p i low high few))
 
 -- the clause
 pub layer-said : {S V : Type 0} (r : Round) (R : RuleSense S) (self : (s : S) → R.same s s ≡ true) (T : TallySense V) (W i : ℕ) (xs ys : List (Node S V)) (b : Bool) → (b, ys) ≡ layer_steps r R T W i xs → LayerDone r R T W xs i b ys
-unfolding relaid
+unfolding records_with
 layer-said r R self T W i xs ys b made s stays low high =
     let Ls = arcs r.n W xs in
     let later = drop (r.n * W + 1) xs in
@@ -221,8 +221,8 @@ layer-said r R self T W i xs ys b made s stays low high =
     let w = s.some in
     let N = parted r R T W W i 0 Ls in
     let d : Done r.n W xs N (b, ys) = layer-net r R self T W i later Ls xs ys b w s.few low high p (sym stays) made in
-    let done : relabelled r R T W ys ≡ laid r R T W N.1 ++ later =
+    let done : relabelled r R T W ys ≡ labelled_records r R T W N.1 ++ later =
     relaid-same r R T W xs ys N.1 (proper-parted r R self T W w W i 0 Ls low p) d.arranged d.tail in
     ap₂ (λ (q : Bool) (zs : List (Node _ _)). (q, zs)) d.answer done
     ∙ sym (splits-X r R self T W w later W i 0 Ls p low high)
-    ∙ ap (splits r R T W W i 1) stays
+    ∙ ap (parts_of_layer r R T W W i 1) stays

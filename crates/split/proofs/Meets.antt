@@ -6,7 +6,7 @@ use Rattle.round.specs.declared.table.Round.{Round}
 use Rattle.rules.specs.Rules.{RuleSense}
 use Rattle.tallies.specs.Tallies.{TallySense}
 use Rattle.layers.specs.declared.node.Down.{Down}
-use Rattle.layers.specs.Labels.{agree, agree_all, agreeing, first_arrival}
+use Rattle.layers.specs.Labels.{agree, agrees_with_all, all_agree, first_arrival}
 use Rattle.labels.proofs.Folds.{folded-append}
 use Rattle.split.specs.Agreed.{met}
 
@@ -29,12 +29,12 @@ module _ {S V : Type 0} (r : Round) (R : RuleSense S) (T : TallySense V) where
   abbrev pub Seen : Type 0
   Seen = Option (Down S V) × Bool
 
-  met-after : (x : Down S V) (b : Bool) (ys : List (Down S V)) → fold (met r R T) (Some x, b) ys ≡ (Some x, b && agree_all r R T x ys)
-  unfolding agree_all
+  met-after : (x : Down S V) (b : Bool) (ys : List (Down S V)) → fold (met r R T) (Some x, b) ys ≡ (Some x, b && agrees_with_all r R T x ys)
+  unfolding agrees_with_all
   met-after x b [] = ap (λ c. (Some x, c)) (and-true b)
-  met-after x b (y ∷ ys) = met-after x (b && agree r R T x y) ys ∙ ap (λ c. (Some x, c)) (and_assoc b (agree r R T x y) (agree_all r R T x ys))
+  met-after x b (y ∷ ys) = met-after x (b && agree r R T x y) ys ∙ ap (λ c. (Some x, c)) (and_assoc b (agree r R T x y) (agrees_with_all r R T x ys))
 
-  pub met_all : (ys : List (Down S V)) → fold (met r R T) (None, true) ys ≡ (first_arrival r R T ys, agreeing r R T ys)
-  unfolding agreeing
+  pub met_all : (ys : List (Down S V)) → fold (met r R T) (None, true) ys ≡ (first_arrival r R T ys, all_agree r R T ys)
+  unfolding all_agree
   met_all [] = refl
   met_all (y ∷ ys) = met-after y true ys

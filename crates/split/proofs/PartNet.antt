@@ -10,10 +10,10 @@ use Rattle.layers.specs.declared.node.Arcs.{Arcs}
 use Rattle.layers.specs.declared.node.Node.{Node}
 use Rattle.layers.specs.declared.node.Label.{Label}
 use Rattle.layers.specs.declared.node.Down.{Down}
-use Rattle.layers.specs.Flow.{table, Outs, Layer, Net, node, ins}
-use Rattle.layers.specs.Labels.{arrive, first_arrival, leaves}
-use Rattle.layers.specs.Records.{padded, arcs_at}
-use Rattle.layers.specs.Calls.{parted_at}
+use Rattle.layers.specs.Flow.{table, Outs, Layer, Net, node, arrivals_at}
+use Rattle.layers.specs.Labels.{arrival_over, first_arrival, differs_from_first}
+use Rattle.layers.specs.Records.{padded_targets, arcs_at}
+use Rattle.layers.specs.Calls.{parted_arcs}
 use Rattle.layers.proofs.Bridge.{table-long}
 use Rattle.layers.proofs.Flows.{table_at}
 use Rattle.labels.proofs.Laying.{arcs_of, Arranged, Good}
@@ -29,20 +29,20 @@ push-node M nd k ne = ⊎_elim
     (λ (ge : length M ≤ k). get_or_past M k [] ge ∙ sym (get_or_past (M ++ (nd ∷ [])) k [] (omega (arith, length_push M nd))))
     (cases_lt k (length M))
 
-push-table : (w m : ℕ) (M : Layer) (nd : Outs) → m ≡ length M → m < w → set (table w (arcs_at M)) m (record { to = padded nd }) ≡ table w (arcs_at (M ++ (nd ∷ [])))
+push-table : (w m : ℕ) (M : Layer) (nd : Outs) → m ≡ length M → m < w → set (table w (arcs_at M)) m (record { to = padded_targets nd }) ≡ table w (arcs_at (M ++ (nd ∷ [])))
 push-table w m M nd em lt = table-list w (arcs_at M') (set (table w (arcs_at M)) m new) (length-set (table w (arcs_at M)) m new ∙ table-long w (arcs_at M)) (λ k d k<w. ⊎_elim
     (λ (e : k ≡ m). ap (λ (i : ℕ). get_or (set (table w (arcs_at M)) m new) i d) e ∙ get_or-set_same (table w (arcs_at M)) m new d (omega (arith, table-long w (arcs_at M)))
-    ∙ ap (λ (x : Outs). record { to = padded x }) (sym (ap (node M') (e ∙ em) ∙ get_or_push M nd [] (length M) refl)))
-    (λ (ne : k ≢ m). get_or-set_other (table w (arcs_at M)) m k new d ne ∙ table_at w k (arcs_at M) d k<w ∙ ap (λ (x : Outs). record { to = padded x }) (push-node M nd k (λ e. ne (e ∙ sym em))))
+    ∙ ap (λ (x : Outs). record { to = padded_targets x }) (sym (ap (node M') (e ∙ em) ∙ get_or_push M nd [] (length M) refl)))
+    (λ (ne : k ≢ m). get_or-set_other (table w (arcs_at M)) m k new d ne ∙ table_at w k (arcs_at M) d k<w ∙ ap (λ (x : Outs). record { to = padded_targets x }) (push-node M nd k (λ e. ne (e ∙ sym em))))
     (cases_eq k m))
   where
     M' : Layer
     M' = M ++ (nd ∷ [])
 
     new : Arcs
-    new = record { to = padded nd }
+    new = record { to = padded_targets nd }
 
-push-arranged : {S V : Type 0} (w m : ℕ) (M : Layer) (nd : Outs) (vs : List (Node S V)) (y : Node S V) → map arcs_of vs ≡ table w (arcs_at M) → m ≡ length M → m < w → y.arcs ≡ record { to = padded nd }
+push-arranged : {S V : Type 0} (w m : ℕ) (M : Layer) (nd : Outs) (vs : List (Node S V)) (y : Node S V) → map arcs_of vs ≡ table w (arcs_at M) → m ≡ length M → m < w → y.arcs ≡ record { to = padded_targets nd }
     → map arcs_of (set vs m y) ≡ table w (arcs_at (M ++ (nd ∷ [])))
 push-arranged w m M nd vs y e em lt is =
     map-set arcs_of vs m y ∙ ap₂ (λ (xs : List Arcs) (x : Arcs). set xs m x) e is ∙ push-table w m M nd em lt
@@ -103,9 +103,9 @@ module _ {S V : Type 0} (stays : Label S V → ℕ → Bool) where
 module _ {S V : Type 0} (r : Round) (R : RuleSense S) (T : TallySense V) (stays : Label S V → ℕ → Bool) where
   part-first : (w a m : ℕ) (z : Node S V) (labs : List (Option (Down S V))) (Ls : Net) (ys : List (Node S V))
       → Good w Ls → 1 < length Ls → m ≡ length (get_or Ls 1 []) → a < m → m < w
-      → ((x : Node S V) (u j : ℕ) → u < length (get_or Ls 0 []) → leaves r R T (first_arrival r R T (ins (arrive r R T) a labs (get_or Ls 0 []))) (get_or labs u None) j ≡ not (stays (get_or ys u x).label j))
-      → Arranged w Ls ys → Arranged w (parted_at r R T 0 a labs Ls) (parted_second stays w a m ys z)
-  unfolding parted_at parted_second parted_node parted_to
+      → ((x : Node S V) (u j : ℕ) → u < length (get_or Ls 0 []) → differs_from_first r R T (first_arrival r R T (arrivals_at (arrival_over r R T) a labs (get_or Ls 0 []))) (get_or labs u None) j ≡ not (stays (get_or ys u x).label j))
+      → Arranged w Ls ys → Arranged w (parted_arcs r R T 0 a labs Ls) (parted_second stays w a m ys z)
+  unfolding parted_arcs parted_second parted_node parted_to
   part-first w a m z labs [] ys good deep em al ml h arr = absurd (omega arith)
   part-first w a m z labs (L ∷ []) ys good deep em al ml h arr = absurd (omega arith)
   part-first w a m z labs (L ∷ M ∷ Ls) ys good deep em al ml h arr =
@@ -113,8 +113,8 @@ module _ {S V : Type 0} (r : Round) (R : RuleSense S) (T : TallySense V) (stays 
       let vs = drop w ys in
       let y = get_or vs a z in
       let A = map (parted_node stays a m) us in
-      let o = first_arrival r R T (ins (arrive r R T) a labs L) in
-      let f : ℕ → ℕ → ℕ → ℕ = λ u j b. cond (eqb b a && leaves r R T o (get_or labs u None) j) (suc (length M)) (suc b) in
+      let o = first_arrival r R T (arrivals_at (arrival_over r R T) a labs L) in
+      let f : ℕ → ℕ → ℕ → ℕ = λ u j b. cond (eqb b a && differs_from_first r R T o (get_or labs u None) j) (suc (length M)) (suc b) in
       let many : length A ≡ w = length-map us (parted_node stays a m) ∙ arranged-long w L us arr.0 in
       let back : drop w (A ++ set vs m y) ≡ set vs m y = drop_at A (set vs m y) w many in
       let is : y.arcs ≡ arcs_at M a = ap (λ (x : Node S V). x.arcs) (sym (get_or-take w vs a z (omega arith))) ∙ arcs-arranged w M (take w vs) a z arr.1.0 (omega arith) in (
@@ -127,21 +127,21 @@ module _ {S V : Type 0} (r : Round) (R : RuleSense S) (T : TallySense V) (stays 
         ),
       )
 
-  parts-deeper : (a : ℕ) (labs : List (Option (Down S V))) (d : ℕ) (L : Layer) (Ls : Net) → parted_at r R T (suc d) a labs (L ∷ Ls) ≡ L ∷ parted_at r R T d a labs Ls
-  unfolding parted_at
+  parts-deeper : (a : ℕ) (labs : List (Option (Down S V))) (d : ℕ) (L : Layer) (Ls : Net) → parted_arcs r R T (suc d) a labs (L ∷ Ls) ≡ L ∷ parted_arcs r R T d a labs Ls
+  unfolding parted_arcs
   parts-deeper a labs d L Ls = refl
 
   -- the records of the net, parted, are those of the parted net
   pub part-arranged : (w d a m : ℕ) (z : Node S V) (labs : List (Option (Down S V))) (Ls : Net) (xs : List (Node S V))
       → Good w Ls → suc d < length Ls → m ≡ length (get_or Ls (suc d) []) → a < m → m < w → Arranged w Ls xs → length Ls * w + 1 ≤ length xs
-      → ((x : Node S V) (u j : ℕ) → u < length (get_or Ls d []) → leaves r R T (first_arrival r R T (ins (arrive r R T) a labs (get_or Ls d []))) (get_or labs u None) j ≡ not (stays (get_or (drop (d * w) xs) u x).label j))
-      → Arranged w (parted_at r R T d a labs Ls) (take (d * w) xs ++ parted_second stays w a m (drop (d * w) xs) z)
+      → ((x : Node S V) (u j : ℕ) → u < length (get_or Ls d []) → differs_from_first r R T (first_arrival r R T (arrivals_at (arrival_over r R T) a labs (get_or Ls d []))) (get_or labs u None) j ≡ not (stays (get_or (drop (d * w) xs) u x).label j))
+      → Arranged w (parted_arcs r R T d a labs Ls) (take (d * w) xs ++ parted_second stays w a m (drop (d * w) xs) z)
   part-arranged w d a m z labs Ls xs good deep em al ml arr le h =
       let Ks = drop d Ls in
       let ys = drop (d * w) xs in
       let first : get_or Ls d [] ≡ get_or Ks 0 [] = (let e : d ≡ d + 0 = omega arith in ap (λ (i : ℕ). get_or Ls i []) e ∙ sym (get_or-drop d Ls 0 [])) in
       let second : get_or Ls (suc d) [] ≡ get_or Ks 1 [] = (let e : suc d ≡ d + 1 = omega arith in ap (λ (i : ℕ). get_or Ls i []) e ∙ sym (get_or-drop d Ls 1 [])) in
-      let h' : (x : Node S V) (u j : ℕ) → u < length (get_or Ks 0 []) → leaves r R T (first_arrival r R T (ins (arrive r R T) a labs (get_or Ks 0 []))) (get_or labs u None) j ≡ not (stays (get_or ys u x).label j) =
-      subst (λ L. (x : Node S V) (u j : ℕ) → u < length L → leaves r R T (first_arrival r R T (ins (arrive r R T) a labs L)) (get_or labs u None) j ≡ not (stays (get_or ys u x).label j)) first h in
-      at-depth w (λ d. parted_at r R T d a labs) (λ ys. parted_second stays w a m ys z) (parts-deeper a labs) d Ls xs (omega arith) arr
+      let h' : (x : Node S V) (u j : ℕ) → u < length (get_or Ks 0 []) → differs_from_first r R T (first_arrival r R T (arrivals_at (arrival_over r R T) a labs (get_or Ks 0 []))) (get_or labs u None) j ≡ not (stays (get_or ys u x).label j) =
+      subst (λ L. (x : Node S V) (u j : ℕ) → u < length L → differs_from_first r R T (first_arrival r R T (arrivals_at (arrival_over r R T) a labs L)) (get_or labs u None) j ≡ not (stays (get_or ys u x).label j)) first h in
+      at-depth w (λ d. parted_arcs r R T d a labs) (λ ys. parted_second stays w a m ys z) (parts-deeper a labs) d Ls xs (omega arith) arr
       (part-first w a m z labs Ks ys (good-drop w d Ls good) (omega (arith, length-drop d Ls)) (em ∙ ap length second) al ml h')

@@ -5,9 +5,9 @@ use Rattle.round.specs.declared.table.Round.{Round}
 use Rattle.rules.specs.Rules.{RuleSense}
 use Rattle.tallies.specs.Tallies.{TallySense}
 use Rattle.layers.specs.declared.node.Node.{Node}
-use Rattle.layers.specs.Records.{standing, layers, arcs_in, drawn}
+use Rattle.layers.specs.Records.{nodes_in, layers, arcs_in, arcs_of_layers}
 use Rattle.layers.specs.Calls.{arcs, layer}
-use Rattle.layers.specs.Shape.{Shaped}
+use Rattle.layers.specs.Shape.{IsShaped}
 use Rattle.layers.proofs.Places.{layer-at}
 use Rattle.layers.proofs.Shaped.{shaped-proper}
 use Rattle.labels.specs.Passes.{part}
@@ -15,7 +15,7 @@ use Rattle.labels.proofs.Shaped_arranged.{shaped-arranged}
 use Rattle.split.specs.Steps.{node_count}
 use Rattle.split.proofs.LayerNet.{Known}
 
-drawn-at : {S V : Type 0} (n W k d : ℕ) (xs : List (Node S V)) → d < k → get_or (drawn n (layers W k xs)) d [] ≡ arcs_in n (get_or (layers W k xs) d [])
+drawn-at : {S V : Type 0} (n W k d : ℕ) (xs : List (Node S V)) → d < k → get_or (arcs_of_layers n (layers W k xs)) d [] ≡ arcs_in n (get_or (layers W k xs) d [])
 drawn-at n W zero d xs lt = absurd (omega arith)
 drawn-at n W (suc zero) zero xs lt = refl
 drawn-at n W (suc zero) (suc d) xs lt = absurd (omega arith)
@@ -24,7 +24,7 @@ drawn-at n W (suc (suc k)) (suc d) xs lt = drawn-at n W (suc k) d (drop W xs) (o
 
 module _ {S V : Type 0} (n W : ℕ) (xs : List (Node S V)) where
   -- a layer of the net has the nodes that stand
-  pub standing-long : (d : ℕ) → d < n → length (standing (part (d * W) W xs)) ≡ length (get_or (arcs n W xs) d [])
+  pub standing-long : (d : ℕ) → d < n → length (nodes_in (part (d * W) W xs)) ≡ length (get_or (arcs n W xs) d [])
   standing-long d lt =
       sym (ap (λ (N : List (Node S V)). length N) (layer-at W n d xs lt))
       ∙ sym (length-map (layer n W d xs) (λ (x : Node S V). take n x.arcs.to))
@@ -37,7 +37,7 @@ module _ {S V : Type 0} (n W : ℕ) (xs : List (Node S V)) where
   pub count-layer : (d : ℕ) → suc d < n → node_count (d * W + W) W xs ≡ length (layer n W (suc d) xs)
   count-layer d lt = let e : d * W + W ≡ suc d * W = omega (arith, suc-mul d W) in ap (λ (k : ℕ). node_count k W xs) e ∙ sym (ap (λ (N : List (Node S V)). length N) (layer-at W n (suc d) xs lt))
 
-module _ {S V : Type 0} (r : Round) (R : RuleSense S) (T : TallySense V) (W : ℕ) (xs : List (Node S V)) (some : 1 ≤ W) (fit : r.n * W + 1 ≤ length xs) (s : Shaped r.n W xs) where
+module _ {S V : Type 0} (r : Round) (R : RuleSense S) (T : TallySense V) (W : ℕ) (xs : List (Node S V)) (some : 1 ≤ W) (fit : r.n * W + 1 ≤ length xs) (s : IsShaped r.n W xs) where
   pub known-shaped : (d : ℕ) → suc d < r.n → Known r R T W d (arcs r.n W xs) xs
   known-shaped d lt = record {
     proper = shaped-proper r W xs s;

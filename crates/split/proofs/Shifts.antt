@@ -1,7 +1,7 @@
 -- Records that move down by one
 use Rattle.std.proofs.Common.{◌≡◌, ℕ, ◌+◌, ◌-◌, ◌<◌, ◌≤◌, List, [], ◌∷◌, ◌++◌, length, get_or, take, drop, set, sym, ap, ◌∙◌, append_assoc, add-one, arith}
 use Rattle.std.proofs.lemmas.List.{drop_more, set_at, length-append, length-take-le, length-drop, take_all, drop_all}
-use Rattle.layers.specs.Flow.{without_at}
+use Rattle.layers.specs.Flow.{without_place}
 use Rattle.split.proofs.Joins.{dropped}
 
 module _ {X : Type 0} (xs : List X) (at : ℕ) where
@@ -18,7 +18,7 @@ module _ {X : Type 0} (xs : List X) (at : ℕ) where
       ∙ set_at (p ++ q) (get_or xs a x) (drop (a + 1) xs) x a long
       ∙ append_assoc p q (x ∷ drop (a + 1) xs)
 
-  pub shifted-all : (a : ℕ) (z : X) → at ≤ a → a + 1 ≡ length xs → set (shifted a) a z ≡ without_at at xs ++ z ∷ []
+  pub shifted-all : (a : ℕ) (z : X) → at ≤ a → a + 1 ≡ length xs → set (shifted a) a z ≡ without_place at xs ++ z ∷ []
   shifted-all a z le e =
       shifted-set a z le (omega arith)
       ∙ ap (λ ys. take at xs ++ (ys ++ z ∷ drop (a + 1) xs)) (take_all (a - at) (drop (at + 1) xs) (omega (arith, length-drop (at + 1) xs)))

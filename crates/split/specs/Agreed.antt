@@ -6,7 +6,7 @@ use Rattle.rules.specs.Rules.{RuleSense}
 use Rattle.tallies.specs.Tallies.{TallySense}
 use Rattle.layers.specs.declared.node.Down.{Down}
 use Rattle.layers.specs.declared.node.Label.{Label}
-use Rattle.layers.specs.Labels.{leg, arrive, agree}
+use Rattle.layers.specs.Labels.{leg, arrival_over, agree}
 use Rattle.split.specs.declared.source.Source.{Source}
 use Rattle.split.specs.declared.source.Arrived.{Arrived}
 
@@ -18,8 +18,8 @@ finish_of r s = finish r s.label.finish (leg r s.label.lasts s.door) s.door
 module _ {S V : Type 0} (r : Round) (rule : RuleSense S) (tally : TallySense V) where
   -- what comes over the arc of a source
   unfoldable pub brought : Source S V → Down S V
-  unfolding arrive
-  brought s = arrive r rule tally s.label s.door
+  unfolding arrival_over
+  brought s = arrival_over r rule tally s.label s.door
 
   abbrev pub brought_first : Option (Source S V) → Option (Down S V)
   brought_first None = None
@@ -42,4 +42,4 @@ module _ {S V : Type 0} (r : Round) (rule : RuleSense S) (tally : TallySense V) 
 
   -- ---- part: the in-arc by j from a node with the label u stays if it agrees with the first, which comes from s
   abbrev pub kept_by : Source S V → Label S V → ℕ → Bool
-  kept_by s u j = agree r rule tally (brought s) (arrive r rule tally u.down j)
+  kept_by s u j = agree r rule tally (brought s) (arrival_over r rule tally u.down j)

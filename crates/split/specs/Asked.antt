@@ -5,7 +5,7 @@ use Rattle.rules.specs.Rules.{RuleSense}
 use Rattle.tallies.specs.Tallies.{TallySense}
 use Rattle.layers.specs.declared.node.Node.{Node}
 use Rattle.layers.specs.declared.refusal.Refusal.TheVariants.{OneGroup}
-use Rattle.layers.specs.Calls.{Answer}
+use Rattle.layers.specs.Calls.{Outcome}
 use Rattle.layers.specs.Labels.{first_arrival}
 use Rattle.labels.specs.Passes.{part, arrivals}
 use Rattle.split.specs.declared.source.Source.{Source}
@@ -20,7 +20,7 @@ pub record FirstKnown {S V : Type 0} (got : Arrived S V) (full : Bool) (s : Sour
   pub room : full ≡ false
 
 -- the refusal of a node with these arrivals
-abbrev pub got_check : {S V : Type 0} → Option (Source S V) → Bool → Bool → Answer
+abbrev pub got_check : {S V : Type 0} → Option (Source S V) → Bool → Bool → Outcome
 got_check None agreed full = Err OneGroup
 got_check (Some x) agreed full = group_check agreed full
 

@@ -1,13 +1,13 @@
 -- Two nodes of a layer joined, at the places lo and hi, of which lo is the lower.
 use Rattle.std.specs.Prelude.{ℕ, suc, List, [], ◌∷◌, ◌++◌, map, take, drop, slice_index_or, slice_set}
 use Rattle.layers.specs.declared.node.Node.{Node}
-use Rattle.layers.specs.Flow.{moved, both_out, without_at}
+use Rattle.layers.specs.Flow.{place_after_join, both_out, without_place}
 use Rattle.layers.specs.Targets.{targets, with_targets, redirected}
 
 -- the arc by a door to place b, once what was at hi stands at lo and what came after it has moved down
 unfoldable pub moved_to : ℕ → ℕ → ℕ → ℕ → ℕ
-unfolding moved
-moved_to lo hi j b = suc (moved lo hi b)
+unfolding place_after_join
+moved_to lo hi j b = suc (place_after_join lo hi b)
 
 unfoldable pub moved_node : {S V : Type 0} → ℕ → ℕ → Node S V → Node S V
 unfolding moved_to redirected
@@ -20,8 +20,8 @@ joined_node x y = with_targets x (both_out (targets x) (targets y))
 
 -- of their layer: both at lo, hi taken out, and the place that is left at the end as z
 unfoldable pub joined_layer : {S V : Type 0} → ℕ → ℕ → List (Node S V) → Node S V → List (Node S V)
-unfolding joined_node without_at
-joined_layer lo hi us z = without_at hi (slice_set us lo (joined_node (slice_index_or us lo z) (slice_index_or us hi z))) ++ z ∷ []
+unfolding joined_node without_place
+joined_layer lo hi us z = without_place hi (slice_set us lo (joined_node (slice_index_or us lo z) (slice_index_or us hi z))) ++ z ∷ []
 
 -- of the list from the layer before theirs on: that layer has the in-arcs
 unfoldable pub joined_second : {S V : Type 0} → ℕ → ℕ → ℕ → List (Node S V) → Node S V → List (Node S V)

@@ -7,10 +7,10 @@ use Rattle.layers.specs.declared.node.Node.{Node}
 use Rattle.layers.specs.declared.node.Down.{Down}
 use Rattle.layers.specs.declared.node.Label.{Label}
 use Rattle.layers.specs.declared.refusal.Refusal.TheVariants.{Width, Short, NoLayer, NoNode, OneGroup, LayerFull, SameNode, Clash}
-use Rattle.layers.specs.Calls.{Answer}
+use Rattle.layers.specs.Calls.{Outcome}
 use Rattle.layers.specs.Flow.{clash}
-use Rattle.layers.specs.Labels.{arrive, agree, agreeing, first_arrival}
-use Rattle.layers.specs.Records.{standing}
+use Rattle.layers.specs.Labels.{arrival_over, agree, all_agree, first_arrival}
+use Rattle.layers.specs.Records.{nodes_in}
 use Rattle.layers.specs.Targets.{targets}
 use Rattle.labels.specs.Passes.{part, fits, arrivals, blank_node, relabelled}
 use Rattle.split.specs.Joined.{joined_second}
@@ -18,12 +18,12 @@ use Rattle.split.specs.Parted.{parted_second}
 
 -- ---- checks: passed, or the refusal
 -- the second check, if the first is passed
-abbrev pub and_then : Answer → Answer → Answer
+abbrev pub and_then : Outcome → Outcome → Outcome
 and_then (Ok u) b = b
 and_then (Err e) b = Err e
 
 -- a width other than 1 to 128, too few records, a layer that is not 1 to n - 1
-abbrev pub place_check : ℕ → ℕ → ℕ → ℕ → Answer
+abbrev pub place_check : ℕ → ℕ → ℕ → ℕ → Outcome
 place_check n w long i =
     if nat_lt w 1 || nat_lt 128 w then Err Width
     else if nat_lt long (n * w + 1) then Err Short
@@ -31,15 +31,15 @@ place_check n w long i =
     else Ok tt
 
 -- node a of a layer that has m nodes
-abbrev pub node_check : ℕ → ℕ → Answer
+abbrev pub node_check : ℕ → ℕ → Outcome
 node_check m a = if nat_lt a 1 || nat_lt m a then Err NoNode else Ok tt
 
 -- the in-arcs agree, the layer is full
-abbrev pub group_check : Bool → Bool → Answer
+abbrev pub group_check : Bool → Bool → Outcome
 group_check agreed full = if agreed then Err OneGroup else if full then Err LayerFull else Ok tt
 
 -- one node twice, arcs by one door to two nodes
-abbrev pub pair_check : Bool → Bool → Answer
+abbrev pub pair_check : Bool → Bool → Outcome
 pair_check same apart = if same then Err SameNode else if apart then Err Clash else Ok tt
 
 -- how many nodes a layer of m has once one is parted, unless its in-arcs agree; none if the layer is full
@@ -50,7 +50,7 @@ next_count false false m = Some (suc m)
 
 -- how many nodes stand in the w records at `at`
 abbrev pub node_count : {S V : Type 0} → ℕ → ℕ → List (Node S V) → ℕ
-node_count at w xs = length (standing (part at w xs))
+node_count at w xs = length (nodes_in (part at w xs))
 
 -- the record of node a of the layer at `at`; z stands for one past the list
 abbrev pub record_at : {S V : Type 0} → Node S V → ℕ → ℕ → List (Node S V) → Node S V
@@ -61,7 +61,7 @@ abbrev pub clash_at : {S V : Type 0} → Node S V → ℕ → ℕ → ℕ → Li
 clash_at z at a b xs = clash (targets (record_at z at (min a b) xs)) (targets (record_at z at (max a b) xs))
 
 -- join nodes a and b of layer i, in a diagram of n doors
-unfoldable pub join_check : {S V : Type 0} → ℕ → Node S V → ℕ → ℕ → ℕ → ℕ → List (Node S V) → Answer
+unfoldable pub join_check : {S V : Type 0} → ℕ → Node S V → ℕ → ℕ → ℕ → ℕ → List (Node S V) → Outcome
 unfolding clash targets
 join_check n z w i a b xs =
     let at = (i - 1) * w + w in
@@ -72,16 +72,16 @@ module _ {S V : Type 0} (r : Round) (R : RuleSense S) (T : TallySense V) where
   -- ---- part
   -- the in-arcs of node a of the layer at `at + w` agree
   abbrev pub alike : ℕ → ℕ → ℕ → List (Node S V) → Bool
-  alike at w a xs = agreeing r R T (arrivals r R T a (part at w xs))
+  alike at w a xs = all_agree r R T (arrivals r R T a (part at w xs))
 
   -- which in-arcs stay: those that agree with the first arrival
   abbrev pub kept_first : Option (Down S V) → Label S V → ℕ → Bool
   kept_first None u j = true
-  kept_first (Some x) u j = agree r R T x (arrive r R T u.down j)
+  kept_first (Some x) u j = agree r R T x (arrival_over r R T u.down j)
 
   -- the node at place a of the layer at `at + w`, which has m nodes, parted
   unfoldable pub parted_one : ℕ → ℕ → ℕ → ℕ → List (Node S V) → List (Node S V)
-  unfolding parted_second arrive agree
+  unfolding parted_second arrival_over agree
   parted_one at w a m xs = take at xs ++ parted_second (kept_first (first_arrival r R T (arrivals r R T (suc a) (part at w xs)))) w a m (drop at xs) (blank_node r R T)
 
   -- the same, unless its in-arcs agree or the layer is full
@@ -89,8 +89,8 @@ module _ {S V : Type 0} (r : Round) (R : RuleSense S) (T : TallySense V) where
   next_records at w a m xs = cond (alike at w (suc a) xs) xs (cond (nat_le w m) xs (parted_one at w a m xs))
 
   -- part node a of layer i
-  unfoldable pub part_check : ℕ → ℕ → ℕ → List (Node S V) → Answer
-  unfolding agreeing
+  unfoldable pub part_check : ℕ → ℕ → ℕ → List (Node S V) → Outcome
+  unfolding all_agree
   part_check w i a xs =
       let m = node_count ((i - 1) * w + w) w xs in
       and_then (place_check r.n w (length xs) i) (and_then (node_check m a) (group_check (alike ((i - 1) * w) w a xs) (nat_le w m)))
@@ -101,7 +101,7 @@ module _ {S V : Type 0} (r : Round) (R : RuleSense S) (T : TallySense V) where
 
   -- part the nodes at the places a, a + 1, .. of the layer at `at + w`, k at most, of the m that it has: whether one is left since the layer is full
   unfoldable pub parts_from : ℕ → ℕ → ℕ → ℕ → ℕ → List (Node S V) → Bool × List (Node S V)
-  unfolding agreeing parted_one
+  unfolding all_agree parted_one
   parts_from at w zero a m xs = (false, xs)
   parts_from at w (suc k) a m xs =
       cond (nat_le m a) (false, xs) (cond (alike at w (suc a) xs) (parts_from at w k (suc a) m xs) (cond (nat_le w m) (true, xs) (parts_from at w k (suc a) (suc m) (parted_one at w a m xs))))
@@ -124,9 +124,9 @@ module _ {S V : Type 0} (r : Round) (R : RuleSense S) (T : TallySense V) where
 
   -- ---- agreed: of the nodes 1 to b of the layer after the records us, and of the layers 1 to k
   unfoldable pub agreed_to : ℕ → List (Node S V) → Bool
-  unfolding agreeing
+  unfolding all_agree
   agreed_to zero us = true
-  agreed_to (suc b) us = agreeing r R T (arrivals r R T (suc b) us) && agreed_to b us
+  agreed_to (suc b) us = all_agree r R T (arrivals r R T (suc b) us) && agreed_to b us
 
   unfoldable pub agreed_layers : ℕ → ℕ → List (Node S V) → Bool
   unfolding agreed_to

@@ -4,8 +4,8 @@ use Rattle.round.specs.declared.table.Round.{Round}
 use Rattle.rules.specs.Rules.{RuleSense}
 use Rattle.tallies.specs.Tallies.{TallySense}
 use Rattle.layers.specs.declared.node.Node.{Node}
-use Rattle.layers.specs.Calls.{Answer, nodes, arcs, relaid, agreed_all, part_answer, parted, join_answer, joined, splits}
-use Rattle.layers.specs.Shape.{Shaped}
+use Rattle.layers.specs.Calls.{Outcome, nodes, arcs, records_with, in_arcs_agree, part_answer, after_part, join_answer, after_join, parts_of_layer}
+use Rattle.layers.specs.Shape.{IsShaped}
 use Rattle.labels.specs.Passes.{relabelled}
 
 -- the list fits, and has that shape
@@ -13,21 +13,21 @@ pub record Sound {S V : Type 0} (n w : ℕ) (xs : List (Node S V)) : Type 0 wher
   pub some : 1 ≤ w
   pub few : w ≤ 128
   pub fit : n * w + 1 ≤ length xs
-  pub shaped : Shaped n w xs
+  pub shaped : IsShaped n w xs
 
 module _ {S V : Type 0} (r : Round) (R : RuleSense S) (T : TallySense V) (w : ℕ) (xs : List (Node S V)) where
   -- part node a of layer i, answered by o
-  abbrev pub PartDone : ℕ → ℕ → Answer → List (Node S V) → Type 0
-  PartDone i a o ys = Sound r.n w xs → (o ≡ part_answer r R T w i a xs) × (ys ≡ parted r R T w i a xs)
+  abbrev pub PartDone : ℕ → ℕ → Outcome → List (Node S V) → Type 0
+  PartDone i a o ys = Sound r.n w xs → (o ≡ part_answer r R T w i a xs) × (ys ≡ after_part r R T w i a xs)
 
   -- join nodes a and b of layer i
-  abbrev pub JoinDone : ℕ → ℕ → ℕ → Answer → List (Node S V) → Type 0
-  JoinDone i a b o ys = Sound r.n w xs → (o ≡ join_answer r R T w i a b xs) × (ys ≡ joined r R T w i a b xs)
+  abbrev pub JoinDone : ℕ → ℕ → ℕ → Outcome → List (Node S V) → Type 0
+  JoinDone i a b o ys = Sound r.n w xs → (o ≡ join_answer r R T w i a b xs) × (ys ≡ after_join r R T w i a b xs)
 
   -- agreed
   abbrev pub AgreedDone : Bool → Type 0
-  AgreedDone b = Sound r.n w xs → b ≡ agreed_all r R T (nodes r.n w xs)
+  AgreedDone b = Sound r.n w xs → b ≡ in_arcs_agree r R T (nodes r.n w xs)
 
   -- the parts of layer i, of records with labels that are those worked out anew: with labels worked out anew again, what refine does in one layer
   abbrev pub LayerDone : ℕ → Bool → List (Node S V) → Type 0
-  LayerDone i b ys = Sound r.n w xs → relaid r R T w xs (arcs r.n w xs) ≡ xs → 1 ≤ i → i < r.n → (b, relabelled r R T w ys) ≡ splits r R T w w i 1 xs
+  LayerDone i b ys = Sound r.n w xs → records_with r R T w xs (arcs r.n w xs) ≡ xs → 1 ≤ i → i < r.n → (b, relabelled r R T w ys) ≡ parts_of_layer r R T w w i 1 xs

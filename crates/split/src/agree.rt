@@ -2,7 +2,7 @@
 ghost use Rattle.std.specs.Prelude.{◌≡◌, ◌+◌, ◌-◌, ◌<◌, ◌≤◌, ◌++◌, length, take, drop, fold};
 ghost use Rattle.tallies.specs.Tallies.{TallySense};
 ghost use Rattle.layers.specs.declared.node.Node.{Node as ANode};
-ghost use Rattle.layers.specs.Labels.{agree, agreeing, first_arrival};
+ghost use Rattle.layers.specs.Labels.{agree, all_agree, first_arrival};
 ghost use Rattle.labels.specs.Passes.{part, by_door, from_node, arrivals};
 ghost use Rattle.split.specs.Agreed.{finish_of, brought, brought_first, seen, met, kept_by};
 ghost use Rattle.split.specs.Parted.{parted_second};
@@ -24,7 +24,7 @@ fn finish_of<S: Copy, V: Copy>(round: &Round, x: &Source<S, V>) -> u64
 }
 
 /// Whether two arrivals agree in all, some, finish, lasts and state.
-#[tactic(auto, unfolding(layers::specs::Labels::agree, layers::specs::Labels::arrive, crate::specs::Agreed::brought))]
+#[tactic(auto, unfolding(layers::specs::Labels::agree, layers::specs::Labels::arrival_over, crate::specs::Agreed::brought))]
 fn agrees<R: Rule, V: Copy>(
     round: &Round,
     rule: &R,
@@ -113,7 +113,7 @@ fn look_at<R: Rule, V: Copy>(
         → brought_first round.now (R.Rule.sense rule.now) s result.first ≡ first_arrival round.now
         (R.Rule.sense rule.now) s (arrivals round.now (R.Rule.sense rule.now) s t us.now) }
     ensures agreed { (s : TallySense V)
-        → result.agreed ≡ agreeing round.now (R.Rule.sense rule.now) s
+        → result.agreed ≡ all_agree round.now (R.Rule.sense rule.now) s
         (arrivals round.now (R.Rule.sense rule.now) s t us.now) }
 {
     let mut all = Arrived {
@@ -141,7 +141,7 @@ pub(crate) fn look_in<R: Rule, V: Copy>(
         (R.Rule.sense rule.now) s
         (arrivals round.now (R.Rule.sense rule.now) s t (part at w nodes.now)) }
     ensures agreed { (s : TallySense V)
-        → result.agreed ≡ agreeing round.now (R.Rule.sense rule.now) s
+        → result.agreed ≡ all_agree round.now (R.Rule.sense rule.now) s
         (arrivals round.now (R.Rule.sense rule.now) s t (part at w nodes.now)) }
 {
     let end = at + w;

@@ -1,6 +1,6 @@
 //! Joining two nodes of a layer.
 ghost use Rattle.std.specs.Prelude.{◌≡◌, ℕ, ◌+◌, ◌-◌, ◌<◌, ◌≤◌, [], ◌∷◌, ◌++◌, map, length, take, drop};
-ghost use Rattle.layers.specs.Flow.{clash, either_target, without_at};
+ghost use Rattle.layers.specs.Flow.{clash, either_target, without_place};
 ghost use Rattle.split.specs.Joined.{moved_to, moved_node, joined_node, joined_layer, joined_second};
 ghost use Rattle.layers.specs.Targets.{targets, at_door};
 
@@ -75,7 +75,7 @@ fn both<S: Copy, V: Copy>(x: &Node<S, V>, y: &Node<S, V>) -> Node<S, V>
 /// Takes out the record at `at`: the later ones move down, and the last place is blank.
 fn take_out<S: Copy, V: Copy>(us: &mut [Node<S, V>], at: usize, blank: &Node<S, V>)
     requires { at < length us.old }
-    ensures { us.new ≡ without_at at us.old ++ blank.now ∷ [] }
+    ensures { us.new ≡ without_place at us.old ++ blank.now ∷ [] }
 {
     let last = us.len() - 1;
     us.copy_within(at + 1.., at);

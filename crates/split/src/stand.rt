@@ -1,13 +1,13 @@
 //! How many nodes of a layer are in use.
 ghost use Rattle.std.specs.Prelude.{◌≡◌, ◌+◌, ◌≤◌, length};
-ghost use Rattle.layers.specs.Records.{standing};
+ghost use Rattle.layers.specs.Records.{nodes_in};
 ghost use Rattle.split.specs.Steps.{node_count};
 
 use layers::node::Node;
 
 /// The records in use, which stand first.
 fn count_nodes<S: Copy, V: Copy>(us: &[Node<S, V>]) -> usize
-    ensures { result ≡ length (standing us.now) }
+    ensures { result ≡ length (nodes_in us.now) }
 {
     us.iter().take_while(|u| u.label.down.lasts != 0).count()
 }

@@ -5,8 +5,8 @@ use Rattle.std.proofs.lemmas.List.{get_or-map, get_or_past, get_or_append_left, 
 use Rattle.std.proofs.lemmas.Bool.{true≢false, false≢true, cases_lt}
 use Rattle.layers.specs.declared.node.Arcs.{Arcs}
 use Rattle.layers.specs.declared.node.Node.{Node}
-use Rattle.layers.specs.Flow.{table, Outs, Layer, Net, node, target, width, is_some, redirect, up, Mark, marks_next, marks_up, flags, rank, compress, renumber, tidy, tidied as tidiedNet, Ranged}
-use Rattle.layers.specs.Records.{padded, arcs_at}
+use Rattle.layers.specs.Flow.{table, Outs, Layer, Net, node, target, width, is_some, redirect, up, Mark, marks_next, marks_up, flags, rank, compress, renumber, tidy, tidied_arcs as tidiedNet, IsRanged}
+use Rattle.layers.specs.Records.{padded_targets, arcs_at}
 use Rattle.layers.proofs.Flows.{rank-zero, has-arc, redirect-arc, mark-next, flags-at, renumber-at}
 use Rattle.layers.proofs.Tied.{some_of, flags-back, redirect-back, redirect-length, renumber-back, marked_from, climbs, climbs-from}
 use Rattle.layers.proofs.Bridge.{table-ext}
@@ -24,11 +24,11 @@ use Rattle.tidying.proofs.Stay.{kept-none, all-blank, long-together}
 use Rattle.labels.proofs.RedirectNet.{table-list, padded-is, padded-at, each_at, redirect-node, arranged-long, targets-is, targets-arranged}
 
 -- ---- targets
-padded-back : (nd : Outs) (k b : ℕ) → get_or (padded nd) k 0 ≡ suc b → get_or nd k 0 ≡ suc b
-padded-back nd k b e = ⊎_elim (λ (lt : k < 16). sym (padded-at nd k lt) ∙ e) (λ (ge : 16 ≤ k). absurd (omega (arith, e, get_or_past (padded nd) k 0 ge))) (cases_lt k 16)
+padded-back : (nd : Outs) (k b : ℕ) → get_or (padded_targets nd) k 0 ≡ suc b → get_or nd k 0 ≡ suc b
+padded-back nd k b e = ⊎_elim (λ (lt : k < 16). sym (padded-at nd k lt) ∙ e) (λ (ge : 16 ≤ k). absurd (omega (arith, e, get_or_past (padded_targets nd) k 0 ge))) (cases_lt k 16)
 
-none-padded : (k : ℕ) → get_or (padded []) k 0 ≡ 0
-none-padded k = ⊎_elim (λ (e : get_or (padded []) k 0 ≡ 0). e) (λ h. absurd (let q : 0 ≡ suc h.0 = padded-back [] k h.0 h.1 in omega arith)) (zero-or-suc (get_or (padded []) k 0))
+none-padded : (k : ℕ) → get_or (padded_targets []) k 0 ≡ 0
+none-padded k = ⊎_elim (λ (e : get_or (padded_targets []) k 0 ≡ 0). e) (λ h. absurd (let q : 0 ≡ suc h.0 = padded-back [] k h.0 h.1 in omega arith)) (zero-or-suc (get_or (padded_targets []) k 0))
 
 -- ---- those kept by a test are those with a flag
 -- how many stand before a place
@@ -44,7 +44,7 @@ rank-kept p (x ∷ vs) (false ∷ gs) z (suc a) h le =
     ap (λ (q : Bool). length (cond q (x ∷ filter p (take a vs)) (filter p (take a vs)))) (h 0 (omega arith)) ∙ rank-kept p vs gs z a (λ i lt. h (suc i) (omega arith)) (omega arith)
 
 abbrev pad : Outs → Arcs
-pad nd = record { to = padded nd }
+pad nd = record { to = padded_targets nd }
 
 compress-none : {X : Type 0} (gs : List Bool) → compress {A = X} gs [] ≡ []
 unfolding compress
@@ -95,7 +95,7 @@ module _ {S V : Type 0} (w : ℕ) (z : Node S V) (zb : z.arcs ≡ arcs_at [] 0) 
   bare k = ap (λ (ts : List ℕ). get_or ts k 0) (targets-is z [] (ap (λ (x : Arcs). x.to) zb)) ∙ none-padded k
 
   -- ---- marks
-  marks-same : (L : Layer) (m : ℕ) (from : List Bool) (fr : List (Option Mark)) (us : List (Node S V)) → ((a : ℕ) → length (node L a) ≤ 16) → length L ≤ w → Ranged L m → m < 256
+  marks-same : (L : Layer) (m : ℕ) (from : List Bool) (fr : List (Option Mark)) (us : List (Node S V)) → ((a : ℕ) → length (node L a) ≤ 16) → length L ≤ w → IsRanged L m → m < 256
       → map arcs_of us ≡ table w (arcs_at L) → Same from fr → Same (reached_next z from us) (marks_next fr L m)
   marks-same L m from fr us short room ranged fits arr same b = same_bool (get_or (reached_next z from us) (suc b) false) (is_some (get_or (marks_next fr L m) b None)) there back
     where
@@ -138,7 +138,7 @@ module _ {S V : Type 0} (w : ℕ) (z : Node S V) (zb : z.arcs ≡ arcs_at [] 0) 
   renewed-no new x false e = refl
 
   module _ (L : Layer) (Ls : Net) (from : List Bool) (fr : List (Option Mark)) (us : List (Node S V)) (new : List ℕ)
-      (short : (a : ℕ) → length (node L a) ≤ 16) (room : length L ≤ w) (ranged : Ranged L (width Ls)) (arr : map arcs_of us ≡ table w (arcs_at L)) (same : Same from fr)
+      (short : (a : ℕ) → length (node L a) ≤ 16) (room : length L ≤ w) (ranged : IsRanged L (width Ls)) (arr : map arcs_of us ≡ table w (arcs_at L)) (same : Same from fr)
       (new_none : get_or new 0 0 ≡ 0) (New-is : (b : ℕ) → get_or (marks_next fr L (width Ls)) b None ≡ Some tt → get_or new (suc b) 0 ≡ renumber (flags (marks_next fr L (width Ls)) (marks_up Ls)) b) where
     abbrev fs : List Bool
     fs = flags (marks_next fr L (width Ls)) (marks_up Ls)
@@ -156,9 +156,9 @@ module _ {S V : Type 0} (w : ℕ) (z : Node S V) (zb : z.arcs ≡ arcs_at [] 0) 
     long = arranged-long w L us arr
 
     -- the targets of a marked node
-    new-targets : (a : ℕ) → get_or fr a None ≡ Some tt → map (λ t. get_or new t 0) (padded (node L a)) ≡ padded (node RL a)
-    new-targets a mark = padded-is (map (λ t. get_or new t 0) (padded (node L a))) (node RL a) refl (λ k lt.
-        get_or-map (λ t. get_or new t 0) (padded (node L a)) k 0 0 lt ∙ ap (λ (t : ℕ). get_or new t 0) (padded-at (node L a) k lt) ∙ go k (get_or (node L a) k 0) refl
+    new-targets : (a : ℕ) → get_or fr a None ≡ Some tt → map (λ t. get_or new t 0) (padded_targets (node L a)) ≡ padded_targets (node RL a)
+    new-targets a mark = padded-is (map (λ t. get_or new t 0) (padded_targets (node L a))) (node RL a) refl (λ k lt.
+        get_or-map (λ t. get_or new t 0) (padded_targets (node L a)) k 0 0 lt ∙ ap (λ (t : ℕ). get_or new t 0) (padded-at (node L a) k lt) ∙ go k (get_or (node L a) k 0) refl
         ∙ sym (ap (λ (nd : Outs). get_or nd k 0) (redirect-node (λ a j b. renumber fs b) L a) ∙ each_at (λ j b. renumber fs b) 1 (node L a) k (suc k) (omega arith)))
       where
         go : (k t : ℕ) → get_or (node L a) k 0 ≡ t → get_or new t 0 ≡ at_door (λ j b. renumber fs b) (suc k) t
@@ -172,7 +172,7 @@ module _ {S V : Type 0} (w : ℕ) (z : Node S V) (zb : z.arcs ≡ arcs_at [] 0) 
         ∙ ap (λ (ts : List ℕ). record { to = map (λ t. get_or new t 0) ts }) (targets-arranged w L us a z arr lt)
         ∙ ap (λ (ts : List ℕ). record { to = ts }) (new-targets a mark)
 
-    on-targets : (a : ℕ) → a < w → get_or fr a None ≡ Some tt → targets (get_or vs a z) ≡ padded (node RL a)
+    on-targets : (a : ℕ) → a < w → get_or fr a None ≡ Some tt → targets (get_or vs a z) ≡ padded_targets (node RL a)
     on-targets a lt mark = targets-is (get_or vs a z) (node RL a) (ap (λ (x : Arcs). x.to) (arcs-on a lt mark))
 
     off-is : (a : ℕ) → a < w → is_some (get_or fr a None) ≡ false → get_or vs a z ≡ z
@@ -297,9 +297,9 @@ module _ {S V : Type 0} (w : ℕ) (z : Node S V) (zb : z.arcs ≡ arcs_at [] 0) 
         no-arc : get_or gs 0 false ≡ false → (i : ℕ) → get_or (node RL 0) i 0 ≡ 0
         no-arc off i = ⊎_elim (λ (e : get_or (node RL 0) i 0 ≡ 0). e) (λ h. absurd (true≢false (sym (left-flag 0 (suc i) h.0 mark h.1) ∙ off))) (zero-or-suc (get_or (node RL 0) i 0))
 
-        blank : get_or gs 0 false ≡ false → (k : ℕ) → padded (node RL k) ≡ padded []
-        blank off zero = padded-is (padded (node RL 0)) [] refl (λ i lt. padded-at (node RL 0) i lt ∙ no-arc off i)
-        blank off (suc k) = ap padded (get_or_past RL (suc k) [] (omega (arith, single)))
+        blank : get_or gs 0 false ≡ false → (k : ℕ) → padded_targets (node RL k) ≡ padded_targets []
+        blank off zero = padded-is (padded_targets (node RL 0)) [] refl (λ i lt. padded-at (node RL 0) i lt ∙ no-arc off i)
+        blank off (suc k) = ap padded_targets (get_or_past RL (suc k) [] (omega (arith, single)))
 
   -- ---- all layers
   width_fits : (Ls : Net) → Good w Ls → width Ls < 256

@@ -1,22 +1,22 @@
 -- The worked cases, by computing; which orders are allowed, or keep the load, by their definitions (Kept).
 use Rattle.std.proofs.Common.{◌≤◌, List, refl, arith}
 use Rattle.round.specs.Clock.{finish}
-use Rattle.layers.specs.Calls.{opened_on, swept, fewer, cut_at, part_answer, parted, refined, bound, must, settled}
+use Rattle.layers.specs.Calls.{after_open, after_sweep, arcs_lost, after_cut, part_answer, after_part, refinement, bound, must, is_settled}
 use Rattle.worked.specs.Rounds.{trio, loose}
 use Rattle.worked.specs.Cases.{Place, Sheet, AsPrinted, ClosedEarly, Paired, WorkedCases}
 use Rattle.worked.proofs.Kept.{allowed, not_allowed, two-keep}
 
 module _ (lent : List Place) where
   sheet-9 : (h : 9 ≤ 9999) → Sheet (trio 9 h) lent
-  unfolding refined opened_on bound must finish
+  unfolding refinement after_open bound must finish
   sheet-9 h = record { whole = refl; low = refl; yes = refl; no' = refl; path = refl }
 
   sheet-8 : (h : 8 ≤ 9999) → Sheet (trio 8 h) lent
-  unfolding refined opened_on bound must finish
+  unfolding refinement after_open bound must finish
   sheet-8 h = record { whole = refl; low = refl; yes = refl; no' = refl; path = refl }
 
   printed-9 : (h : 9 ≤ 9999) → AsPrinted (trio 9 h) lent
-  unfolding swept fewer cut_at opened_on bound finish
+  unfolding after_sweep arcs_lost after_cut after_open bound finish
   printed-9 h = record {
     minutes = refl;
     is_allowed = allowed 9 h (omega arith);
@@ -34,7 +34,7 @@ module _ (lent : List Place) where
   }
 
   printed-8 : (h : 8 ≤ 9999) → AsPrinted (trio 8 h) lent
-  unfolding swept fewer cut_at opened_on bound finish
+  unfolding after_sweep arcs_lost after_cut after_open bound finish
   printed-8 h = record {
     minutes = refl;
     is_allowed = allowed 8 h (omega arith);
@@ -52,12 +52,12 @@ module _ (lent : List Place) where
   }
 
   closed-7 : (h : 7 ≤ 9999) → ClosedEarly (trio 7 h) lent
-  unfolding refined opened_on bound finish
+  unfolding refinement after_open bound finish
   closed-7 h = record { whole = refl; none = refl }
 
   paired : Paired loose lent
-  unfolding swept fewer parted part_answer opened_on refined settled must finish
-  paired = record { sweep_one = refl; parts = refl; before_part = refl; after_part = refl; sweep_three = refl; full_at_2 = refl; not_settled = refl; whole_at_3 = refl; must_two = refl; must_three = refl }
+  unfolding after_sweep arcs_lost after_part part_answer after_open refinement is_settled must finish
+  paired = record { sweep_one = refl; parts = refl; before_part = refl; parted_at_one = refl; sweep_three = refl; full_at_2 = refl; not_settled = refl; whole_at_3 = refl; must_two = refl; must_three = refl }
 
 pub computed : WorkedCases
 unfolding finish

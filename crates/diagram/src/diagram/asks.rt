@@ -1,7 +1,7 @@
 //! What a diagram is asked.
 ghost use Rattle.std.specs.Prelude.{◌≡◌, ◌+◌, ◌*◌, ◌<◌, ◌≤◌, length, IfOk};
 ghost use Rattle.tallies.specs.Tallies.{TallySense};
-ghost use Rattle.layers.specs.Calls.{bound, must_answer, settled};
+ghost use Rattle.layers.specs.Calls.{bound, must_answer, is_settled};
 ghost use Rattle.layers.specs.Claim.{MustMeans};
 
 use super::Diagram;
@@ -58,7 +58,7 @@ impl<'a, 'n, S: Copy, V: Copy> Diagram<'a, 'n, S, V> {
     /// no say in it.
     pub fn settled<R: Rule<State = S>>(&self, rule: &R) -> bool
         ensures { (t : TallySense V)
-            → result ≡ settled self.now.room.round.now (R.Rule.sense rule.now) t self.now.room.width
+            → result ≡ is_settled self.now.room.round.now (R.Rule.sense rule.now) t self.now.room.width
             self.now.nodes.now }
     {
         let Room { round, width } = self.room;

@@ -1,7 +1,7 @@
 //! The calls that alter a diagram: each hands the lent list to the function that does the work.
 ghost use Rattle.std.specs.Prelude.{◌≡◌, ◌+◌, ◌*◌, ◌≤◌, length};
-ghost use Rattle.layers.specs.Calls.{swept, sweep_answer, cut_at, cut_answer, parted, part_answer, joined, join_answer, refined};
-ghost use Rattle.layers.specs.Shape.{Shaped, Timely};
+ghost use Rattle.layers.specs.Calls.{after_sweep, sweep_answer, after_cut, cut_answer, after_part, part_answer, after_join, join_answer, refinement};
+ghost use Rattle.layers.specs.Shape.{IsShaped, IsTimely};
 ghost use Rattle.refine.specs.Answers.{IsInnerIfFull};
 
 use super::Diagram;
@@ -21,7 +21,7 @@ impl<'a, 'n, S: Copy, V: Copy> Diagram<'a, 'n, S, V> {
     /// Takes out each arc that one of the six tests bars, by the labels that stand, and answers how many arcs went.
     pub fn sweep<R: Rule<State = S>, T: Tally<Value = V>>(&mut self, rule: &R, tally: &T) -> usize
         ensures room { self.new.room ≡ self.old.room }
-        ensures records { self.new.nodes.now ≡ swept self.old.room.round.now (R.Rule.sense rule.now)
+        ensures records { self.new.nodes.now ≡ after_sweep self.old.room.round.now (R.Rule.sense rule.now)
             (T.Tally.sense tally.now) self.old.room.width self.old.nodes.now }
         ensures answer { result ≡ sweep_answer self.old.room.round.now (R.Rule.sense rule.now)
             (T.Tally.sense tally.now) self.old.room.width self.old.nodes.now }
@@ -39,7 +39,7 @@ impl<'a, 'n, S: Copy, V: Copy> Diagram<'a, 'n, S, V> {
         ceiling: V,
     ) -> usize
         ensures room { self.new.room ≡ self.old.room }
-        ensures records { self.new.nodes.now ≡ cut_at self.old.room.round.now
+        ensures records { self.new.nodes.now ≡ after_cut self.old.room.round.now
             (R.Rule.sense rule.now) (T.Tally.sense tally.now) self.old.room.width ceiling
             self.old.nodes.now }
         ensures answer { result ≡ cut_answer self.old.room.round.now (R.Rule.sense rule.now)
@@ -60,7 +60,7 @@ impl<'a, 'n, S: Copy, V: Copy> Diagram<'a, 'n, S, V> {
         node: usize,
     ) -> Result<(), Refusal>
         ensures room { self.new.room ≡ self.old.room }
-        ensures records { self.new.nodes.now ≡ parted self.old.room.round.now
+        ensures records { self.new.nodes.now ≡ after_part self.old.room.round.now
             (R.Rule.sense rule.now) (T.Tally.sense tally.now) self.old.room.width layer node
             self.old.nodes.now }
         ensures answer { result ≡ part_answer self.old.room.round.now (R.Rule.sense rule.now)
@@ -81,7 +81,7 @@ impl<'a, 'n, S: Copy, V: Copy> Diagram<'a, 'n, S, V> {
         b: usize,
     ) -> Result<(), Refusal>
         ensures room { self.new.room ≡ self.old.room }
-        ensures records { self.new.nodes.now ≡ joined self.old.room.round.now
+        ensures records { self.new.nodes.now ≡ after_join self.old.room.round.now
             (R.Rule.sense rule.now) (T.Tally.sense tally.now) self.old.room.width layer a b
             self.old.nodes.now }
         ensures answer { result ≡ join_answer self.old.room.round.now (R.Rule.sense rule.now)
@@ -99,11 +99,11 @@ impl<'a, 'n, S: Copy, V: Copy> Diagram<'a, 'n, S, V> {
         tally: &T,
     ) -> Refined
         ensures room { self.new.room ≡ self.old.room }
-        ensures records { self.new.nodes.now ≡ (refined self.old.room.round.now
+        ensures records { self.new.nodes.now ≡ (refinement self.old.room.round.now
             (R.Rule.sense rule.now) (T.Tally.sense tally.now) self.old.room.width
             self.old.nodes.now).1 }
         ensures within { IsInnerIfFull self.old.room.round.now.n result }
-        ensures answer { result ≡ (refined self.old.room.round.now (R.Rule.sense rule.now)
+        ensures answer { result ≡ (refinement self.old.room.round.now (R.Rule.sense rule.now)
             (T.Tally.sense tally.now) self.old.room.width self.old.nodes.now).0 }
         ensures lender { self.new.nodes.ghost_name ≡ self.old.nodes.ghost_name }
     {

@@ -1,5 +1,5 @@
 use Rattle.std.proofs.Common.{◌≡◌, drop}
-use Rattle.layers.specs.Calls.{run}
+use Rattle.layers.specs.Calls.{after_calls}
 use Rattle.lent.specs.Called.{calls_of}
 use Rattle.lent.proofs.do_calls.Given as goal
 
@@ -11,5 +11,5 @@ invariant-loop-call g l =
     let room = l.fn.diagram.room in
     (l.diagram.room ≡ room)
     × (l.diagram.nodes.ghost_name ≡ l.fn.diagram.nodes.ghost_name)
-    × (run room.round.now by cost room.width (calls_of (drop l.call-index l.fn.calls)) l.diagram.nodes.now
-    ≡ run room.round.now by cost room.width (calls_of l.fn.calls) l.fn.diagram.nodes.now)
+    × (after_calls room.round.now by cost room.width (calls_of (drop l.call-index l.fn.calls)) l.diagram.nodes.now
+    ≡ after_calls room.round.now by cost room.width (calls_of l.fn.calls) l.fn.diagram.nodes.now)

@@ -1,7 +1,7 @@
 use Rattle.std.proofs.Common.{◌≡◌, ℕ, ◌-◌, ◌*◌, Bool, true, false, ◌&&◌, length, take, sym, ap, ◌∙◌, subst, ap₂, arith}
 use Rattle.std.proofs.lemmas.Bool.{cond-true, cond-false, and_parts, and_from, both_ways}
-use Rattle.layers.specs.Shape.{Shaped, Timely}
-use Rattle.layers.specs.Calls.{cut_at, fewer}
+use Rattle.layers.specs.Shape.{IsShaped, IsTimely}
+use Rattle.layers.specs.Calls.{after_cut, arcs_lost}
 use Rattle.labels.specs.Passes.{fits}
 use Rattle.labels.proofs.Rooms.{room-facts}
 use Rattle.filter.specs.Steps.{timely, arc_count, redone, cut_steps}
@@ -60,12 +60,12 @@ returns g c =
       steps = is ∙ sym (cond-true q _ _ on);
       counted = count ∙ sym (cond-true q _ _ on);
       words = λ fit s timely.
-          let all : ys ≡ cut_at r R T W v xs = is ∙ cut-words r R T W xs fit s v in
-          let t : Shaped r.n W ys = subst (Shaped r.n W) (sym all) (cut-shaped r R T W xs fit s v) in
+          let all : ys ≡ after_cut r R T W v xs = is ∙ cut-words r R T W xs fit s v in
+          let t : IsShaped r.n W ys = subst (IsShaped r.n W) (sym all) (cut-shaped r R T W xs fit s v) in
           record {
             records = all;
-            answer = count ∙ fewer-words r R T W xs ys fit long s t ∙ ap (fewer r.n W xs) all;
+            answer = count ∙ fewer-words r R T W xs ys fit long s t ∙ ap (arcs_lost r.n W xs) all;
             shaped = t;
-            timely = subst (Timely r.n W) (sym all) (cut-timely r R T W xs fit s v);
+            timely = subst (IsTimely r.n W) (sym all) (cut-timely r R T W xs fit s v);
           };
     }

@@ -1,7 +1,7 @@
 use Rattle.std.proofs.Common.{◌≡◌, ℕ, ◌-◌, true, length, sym, ap, ◌∙◌, subst, ap₂}
 use Rattle.std.proofs.lemmas.Bool.{cond-true}
-use Rattle.layers.specs.Shape.{Shaped, Timely}
-use Rattle.layers.specs.Calls.{swept, fewer}
+use Rattle.layers.specs.Shape.{IsShaped, IsTimely}
+use Rattle.layers.specs.Calls.{after_sweep, arcs_lost}
 use Rattle.labels.specs.Passes.{fits}
 use Rattle.filter.specs.Steps.{arc_count, redone, sweep_steps}
 use Rattle.filter.proofs.FilterWords.{sweep-words, swept-shaped, swept-timely, fewer-words}
@@ -29,12 +29,12 @@ returns g c =
       steps = is ∙ sym (cond-true (fits r.n W (length xs)) _ _ yes);
       counted = count ∙ sym (cond-true (fits r.n W (length xs)) _ _ yes);
       words = λ fit s.
-          let all : ys ≡ swept r R T W xs = is ∙ sweep-words r R T W xs fit s in
-          let t : Shaped r.n W ys = subst (Shaped r.n W) (sym all) (swept-shaped r R T W xs fit s) in
+          let all : ys ≡ after_sweep r R T W xs = is ∙ sweep-words r R T W xs fit s in
+          let t : IsShaped r.n W ys = subst (IsShaped r.n W) (sym all) (swept-shaped r R T W xs fit s) in
           record {
             records = all;
-            answer = count ∙ fewer-words r R T W xs ys fit long s t ∙ ap (fewer r.n W xs) all;
+            answer = count ∙ fewer-words r R T W xs ys fit long s t ∙ ap (arcs_lost r.n W xs) all;
             shaped = t;
-            timely = subst (Timely r.n W) (sym all) (swept-timely r R T W xs fit s);
+            timely = subst (IsTimely r.n W) (sym all) (swept-timely r R T W xs fit s);
           };
     }

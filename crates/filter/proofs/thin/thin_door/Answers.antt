@@ -1,7 +1,7 @@
 use Rattle.std.proofs.Common.{◌+◌, ◌-◌, true, false, Some, get_or, ap, ◌∙◌, arith}
 use Rattle.std.proofs.lemmas.List.{get_or_read}
 use Rattle.layers.specs.declared.node.Node.{Node}
-use Rattle.layers.specs.Labels.{barred}
+use Rattle.layers.specs.Labels.{is_barred}
 use Rattle.filter.proofs.Thins.{thin-none, thin-past, thin-here}
 use Rattle.filter.proofs.thin.thin_door.Goals as goal
 use Rattle.filter.proofs.thin.thin_door.Goals.{then-t-eq0-via-then-t-eq0, then-t-eq0-via-else-t-eq0+then-t-vs}
@@ -29,7 +29,7 @@ returns-then-bars g c t =
     let to = get_or u.arcs.to c.args.k 0 in
     let read = get_or_read vs (to - 1) c.index-vs-t.result (omega arith) c.index-vs-t.is u in
     thin-here r R t i vs u j to true (omega arith) (omega arith)
-    (c.if-bars.ensures t ∙ ap (λ (x : Node g.row.R-State.Denot g.row.V.Denot). barred r R t i (r.n - i) j (Some u.label.down) (Some x.label.up)) read)
+    (c.if-bars.ensures t ∙ ap (λ (x : Node g.row.R-State.Denot g.row.V.Denot). is_barred r R t i (r.n - i) j (Some u.label.down) (Some x.label.up)) read)
 
 pub returns-else-bars : goal.returns-else-bars
 returns-else-bars g c t =
@@ -42,4 +42,4 @@ returns-else-bars g c t =
     let to = get_or u.arcs.to c.args.k 0 in
     let read = get_or_read vs (to - 1) c.index-vs-t.result (omega arith) c.index-vs-t.is u in
     thin-here r R t i vs u j to false (omega arith) (omega arith)
-    (c.if-bars.ensures t ∙ ap (λ (x : Node g.row.R-State.Denot g.row.V.Denot). barred r R t i (r.n - i) j (Some u.label.down) (Some x.label.up)) read)
+    (c.if-bars.ensures t ∙ ap (λ (x : Node g.row.R-State.Denot g.row.V.Denot). is_barred r R t i (r.n - i) j (Some u.label.down) (Some x.label.up)) read)

@@ -1,5 +1,5 @@
 use Rattle.std.proofs.Common.{◌≡◌, ◌≤◌, not, ap, ◌∙◌, arith}
-use Rattle.layers.specs.Labels.{arrive}
+use Rattle.layers.specs.Labels.{arrival_over}
 use Rattle.labels.proofs.Legs.{leg-most}
 use Rattle.filter.proofs.trim.too_dear.Goals as goal
 
@@ -12,9 +12,9 @@ overflow_cast-finish g c =
     record { fits = omega arith }
 
 pub returns : goal.returns
-unfolding arrive
+unfolding arrival_over
 returns g c q =
     let T = g.T.Tally.sense c.args.tally.now in
     let f = c.finish-finish.ensures.value in
-    let value : c.step-value.result ≡ (arrive c.args.round.now q T c.args.u.now c.args.j).value = cc in
+    let value : c.step-value.result ≡ (arrival_over c.args.round.now q T c.args.u.now c.args.j).value = cc in
     ap not (c.not_above.ensures ∙ ap (λ v. T.not_above v c.args.ceiling) value)

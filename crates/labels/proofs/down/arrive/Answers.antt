@@ -1,6 +1,6 @@
 use Rattle.std.proofs.Common.{◌≤◌, arith}
 use Rattle.std.proofs.lemmas.Nat.{one_shl}
-use Rattle.layers.specs.Labels.{arrive}
+use Rattle.layers.specs.Labels.{arrival_over}
 use Rattle.labels.proofs.Legs.{leg-most}
 use Rattle.labels.proofs.down.arrive.Goals as goal
 
@@ -13,5 +13,5 @@ overflow_cast-finish g c =
     record { fits = omega arith }
 
 pub returns : goal.returns
-unfolding arrive
+unfolding arrival_over
 returns g c = let b = one_shl c.args.j 32 (omega arith) in let f = c.finish-minute.ensures.value in cc

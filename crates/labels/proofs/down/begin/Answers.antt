@@ -4,14 +4,14 @@ use Rattle.rules.specs.Rules.{RuleSense}
 use Rattle.tallies.specs.Tallies.{TallySense}
 use Rattle.layers.specs.declared.node.Node.{Node}
 use Rattle.layers.specs.declared.node.Down.{Down}
-use Rattle.layers.specs.Labels.{first}
+use Rattle.layers.specs.Labels.{first_label}
 use Rattle.labels.specs.Passes.{part, with_down, cleared, first_layer, begun}
 use Rattle.labels.proofs.Earlies.{first-long}
 use Rattle.labels.proofs.Overs.{length_part}
 use Rattle.labels.proofs.down.begin.Goals as goal
 
 set_first : {S V : Type 0} (r : Round) (R : RuleSense S) (T : TallySense V) (us rest : List (Node S V)) (d : Node S V) → 0 < length us
-    → set (map (cleared r R T) us ++ rest) 0 (with_down (get_or (map (cleared r R T) us ++ rest) 0 d) (first r R T)) ≡ first_layer r R T us ++ rest
+    → set (map (cleared r R T) us ++ rest) 0 (with_down (get_or (map (cleared r R T) us ++ rest) 0 d) (first_label r R T)) ≡ first_layer r R T us ++ rest
 set_first r R T [] rest d h = absurd (omega arith)
 set_first r R T (u ∷ us) rest d h = refl
 

@@ -1,5 +1,5 @@
 use Rattle.std.proofs.Common.{◌≡◌, ℕ, Some, None, Option, arith, ap, ◌∙◌}
-use Rattle.layers.specs.Calls.{bound, settled}
+use Rattle.layers.specs.Calls.{bound, is_settled}
 use Rattle.allowed.specs.Senses.{late_of}
 use Rattle.packed.specs.Senses.{Recs, side_sense}
 use Rattle.std.specs.Int.{from_bool}
@@ -14,7 +14,7 @@ returns-in-Some c =
     let xs : Recs = c.args.diagram.now.nodes.now in
     let most = r.most in
     let small : count_word r.n ≡ r.n = omega arith in
-    let still = ap (λ m. settled m.round.now (side_sense c.args.rule.now) (late_of r) m.width xs) c.requires.room ∙ ap (λ Q. settled r Q (late_of r) W xs) c.requires.rule in
+    let still = ap (λ m. is_settled m.round.now (side_sense c.args.rule.now) (late_of r) m.width xs) c.requires.room ∙ ap (λ Q. is_settled r Q (late_of r) W xs) c.requires.rule in
     let b : Option (ℕ × ℕ) = Some (c.in-Some.doors, c.in-Some.minutes) in
     first-words r W (count_word c.args.calls) xs c.count_word-n.result c.count_word-calls.result c.from-settled.result b
     (c.count_word-n.ensures ∙ small) c.count_word-calls.ensures
@@ -28,7 +28,7 @@ returns-in-None c =
     let xs : Recs = c.args.diagram.now.nodes.now in
     let most = r.most in
     let small : count_word r.n ≡ r.n = omega arith in
-    let still = ap (λ m. settled m.round.now (side_sense c.args.rule.now) (late_of r) m.width xs) c.requires.room ∙ ap (λ Q. settled r Q (late_of r) W xs) c.requires.rule in
+    let still = ap (λ m. is_settled m.round.now (side_sense c.args.rule.now) (late_of r) m.width xs) c.requires.room ∙ ap (λ Q. is_settled r Q (late_of r) W xs) c.requires.rule in
     let b : Option (ℕ × ℕ) = None in
     first-words r W (count_word c.args.calls) xs c.count_word-n.result c.count_word-calls.result c.from-settled.result b
     (c.count_word-n.ensures ∙ small) c.count_word-calls.ensures

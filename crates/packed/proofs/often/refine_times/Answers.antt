@@ -1,7 +1,7 @@
 use Rattle.std.proofs.Common.{◌≡◌, ℕ, refl, ap, ap₂, ◌∙◌, sym}
 use Rattle.tallies.specs.Late.{late_sense}
 use Rattle.labels.specs.Passes.{blank_node}
-use Rattle.layers.specs.Calls.{opened_on, refined}
+use Rattle.layers.specs.Calls.{after_open, refinement}
 use Rattle.packed.specs.Answers.{word_of_refined}
 use Rattle.packed.specs.Often.{turns}
 use Rattle.allowed.specs.Senses.{side_of, late_of}
@@ -25,8 +25,8 @@ loop-turn-preserved c =
     let R = side_sense c.side-rule.result in
     let T = doors_sense c.of-tally.result in
     let late : T ≡ late_of r = ap (λ x. late_sense x.now.n x.now.doors) c.of-tally.ensures in
-    let e = ap₂ (λ Q L. refined r Q L W (opened_on r Q L W ys)) c.side-rule.ensures late
-    ∙ ap (λ (zs : Recs). refined r (side_of r) (late_of r) W (opened_on r (side_of r) (late_of r) W zs)) c.loop-turn.invariant.2 in (
+    let e = ap₂ (λ Q L. refinement r Q L W (after_open r Q L W ys)) c.side-rule.ensures late
+    ∙ ap (λ (zs : Recs). refinement r (side_of r) (late_of r) W (after_open r (side_of r) (late_of r) W zs)) c.loop-turn.invariant.2 in (
       c.refine_once-answer.auto.records ∙ c.loop-turn.invariant.0,
       c.refine_once-answer.ensures.answer ∙ ap (λ p. word_of_refined p.0) e ∙ sym (ap (λ p. p.0) (turns-more r W k)),
       c.refine_once-answer.ensures.records ∙ ap (λ p. p.1) e ∙ sym (ap (λ p. p.1) (turns-more r W k)),

@@ -1,7 +1,7 @@
 use Rattle.std.proofs.Common.{◌≡◌, ℕ, ◌*◌, ◌/◌, List, ◌++◌, length, take, replicate, arith, ap, ap₂, ◌∙◌, sym}
 use Rattle.tallies.specs.Late.{late_sense}
 use Rattle.labels.specs.Passes.{blank_node}
-use Rattle.layers.specs.Calls.{opened_on, run}
+use Rattle.layers.specs.Calls.{after_open, after_calls}
 use Rattle.packed.specs.Answers.{answers}
 use Rattle.packed.specs.Requests.{Request, requests_in}
 use Rattle.allowed.specs.Senses.{side_of, late_of}
@@ -28,15 +28,15 @@ returns c =
     let d = c.open-diagram.result in
     let lent : Recs = replicate 2049 c.blank_node-records.result in
     let opened : d.nodes.now ≡ D = c.open-diagram.ensures.records
-    ∙ ap₂ (λ Q L. opened_on r Q L W lent) c.side-rule.ensures late
-    ∙ ap (λ (xs : Recs). opened_on r (side_of r) (late_of r) W xs) (blank-records r c.blank_node-records.result blank)
+    ∙ ap₂ (λ Q L. after_open r Q L W lent) c.side-rule.ensures late
+    ∙ ap (λ (xs : Recs). after_open r (side_of r) (late_of r) W xs) (blank-records r c.blank_node-records.result blank)
     ∙ opened-diagram r W in
-    let X : Recs = run r (side_of r) (late_of r) W cs D in
+    let X : Recs = after_calls r (side_of r) (late_of r) W cs D in
     let e = c.make_all.ensures in
     let left : c.make_all.new.diagram.nodes.now ≡ X = e.records
-    ∙ ap (λ m. run m.round.now R T m.width cs d.nodes.now) c.open-diagram.ensures.room
-    ∙ ap₂ (λ Q L. run r Q L W cs d.nodes.now) c.side-rule.ensures late
-    ∙ ap (λ (xs : Recs). run r (side_of r) (late_of r) W cs xs) opened in
+    ∙ ap (λ m. after_calls m.round.now R T m.width cs d.nodes.now) c.open-diagram.ensures.room
+    ∙ ap₂ (λ Q L. after_calls r Q L W cs d.nodes.now) c.side-rule.ensures late
+    ∙ ap (λ (xs : Recs). after_calls r (side_of r) (late_of r) W cs xs) opened in
     let A : List ℕ = answers r (side_of r) (late_of r) W cs D in
     let told = ap (λ m. answers m.round.now R T m.width cs d.nodes.now) c.open-diagram.ensures.room
     ∙ ap₂ (λ Q L. answers r Q L W cs d.nodes.now) c.side-rule.ensures late

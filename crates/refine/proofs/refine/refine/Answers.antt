@@ -2,8 +2,8 @@ use Rattle.std.proofs.Common.{◌≡◌, ℕ, suc, ◌-◌, true, List, length, 
 use Rattle.std.proofs.lemmas.Bool.{cond-true}
 use Rattle.layers.specs.declared.node.Node.{Node}
 use Rattle.layers.specs.declared.refined.Refined.{Refined}
-use Rattle.layers.specs.Calls.{refined}
-use Rattle.layers.specs.Shape.{Shaped, Timely}
+use Rattle.layers.specs.Calls.{refinement}
+use Rattle.layers.specs.Shape.{IsShaped, IsTimely}
 use Rattle.labels.specs.Passes.{fits}
 use Rattle.filter.specs.Steps.{arc_count}
 use Rattle.refine.specs.Steps.{some_layers, sweeps_out, refine_steps}
@@ -31,11 +31,11 @@ returns g c =
       answer = said ∙ sym (cond-true (fits r.n W (length xs)) _ _ yes);
       words = λ fit s.
           let w = refine-words r R self T W xs fit s in
-          let all : ys ≡ (refined r R T W xs).1 = is ∙ ap (λ (q : Refined × List (Node g.row.R-State.Denot g.row.T-Value.Denot)). q.1) w in
+          let all : ys ≡ (refinement r R T W xs).1 = is ∙ ap (λ (q : Refined × List (Node g.row.R-State.Denot g.row.T-Value.Denot)). q.1) w in
           record {
             records = all;
             answer = said ∙ ap (λ (q : Refined × List (Node g.row.R-State.Denot g.row.T-Value.Denot)). q.0) w;
-            shaped = subst (Shaped r.n W) (sym all) (refined-shaped r R self T W xs fit s);
-            timely = subst (Timely r.n W) (sym all) (refined-timely r R self T W xs fit s);
+            shaped = subst (IsShaped r.n W) (sym all) (refined-shaped r R self T W xs fit s);
+            timely = subst (IsTimely r.n W) (sym all) (refined-timely r R self T W xs fit s);
           };
     }

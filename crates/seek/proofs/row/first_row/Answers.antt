@@ -1,6 +1,6 @@
 use Rattle.std.proofs.Common.{◌≡◌, ℕ, suc, ◌+◌, ◌-◌, ◌*◌, take, drop, ap, ◌∙◌, subst, zero-mul, arith}
 use Rattle.layers.specs.declared.node.Node.{Node}
-use Rattle.layers.specs.Records.{layers, drawn}
+use Rattle.layers.specs.Records.{layers, arcs_of_layers}
 use Rattle.seek.specs.declared.seen.Seen.{Seen}
 use Rattle.seek.specs.Rows.{by_first, of_target, seen_from}
 use Rattle.seek.proofs.Paths.{Reached, reached-end, reached-more}
@@ -37,4 +37,4 @@ returns g c =
     let xs = c.args.nodes.now in
     let e : c.loop-k.k ≡ 0 = omega arith in
     λ t. c.loop-k.invariant.reached n (omega arith) t
-    ∙ ap (λ (k : ℕ). seen_from i j (drawn n (layers w n (drop k xs))) t) (ap (λ (k : ℕ). k * w) e ∙ zero-mul w)
+    ∙ ap (λ (k : ℕ). seen_from i j (arcs_of_layers n (layers w n (drop k xs))) t) (ap (λ (k : ℕ). k * w) e ∙ zero-mul w)

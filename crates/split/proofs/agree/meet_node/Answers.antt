@@ -3,7 +3,7 @@ use Rattle.std.specs.List.{range_with_len, flat_map}
 use Rattle.std.proofs.lemmas.Bool.{eq-eqb, ne_eqb}
 use Rattle.labels.specs.Passes.{by_door, from_node}
 use Rattle.labels.proofs.Steps.{folded-counting-more}
-use Rattle.layers.specs.Labels.{arrive}
+use Rattle.layers.specs.Labels.{arrival_over}
 use Rattle.split.specs.Agreed.{brought, seen, met}
 use Rattle.split.proofs.agree.meet_node.Goals as goal
 use Rattle.split.proofs.agree.meet_node.Goals.{then-u-k, else-u-k}
@@ -24,7 +24,7 @@ loop-k-preserved g c s =
     let u = c.args.u.now in
     let k = c.loop-k.k in
     let F = by_door r R s c.args.t u in
-    let said = λ (b : Bool). fold (met r R s) (seen r R s c.loop-k.all) (cond b (arrive r R s u.label.down (k + 1) ∷ []) []) in
+    let said = λ (b : Bool). fold (met r R s) (seen r R s c.loop-k.all) (cond b (arrival_over r R s u.label.down (k + 1) ∷ []) []) in
     let here : seen r R s c.if-u-k.all ≡ fold (met r R s) (seen r R s c.loop-k.all) (F k) =
     elim c.if-u-k.branch [
       | then-u-k w ↦ ap (seen r R s) w.all-is ∙ w.meet-all.ensures s ∙ ap said (sym (eq-eqb (get_or u.arcs.to k 0) c.args.t w.if-u-k.true))

@@ -1,6 +1,6 @@
 use Rattle.std.proofs.Common.{◌≡◌, ℕ, ◌+◌, ◌-◌, true, sym, ap, ◌∙◌, arith}
 use Rattle.std.proofs.lemmas.Bool.{both_ways}
-use Rattle.layers.specs.Labels.{agreeing}
+use Rattle.layers.specs.Labels.{all_agree}
 use Rattle.labels.specs.Passes.{part, arrivals}
 use Rattle.split.specs.Agreed.{brought_first}
 use Rattle.split.specs.Steps.{parted_one}
@@ -30,8 +30,8 @@ returns-in-None g c =
     let R = g.R.Rule.sense c.args.rule.now in
     let T = g.T.Tally.sense c.args.tally.now in
     let ys = arrivals r R T (c.args.a + 1) (part c.args.at c.args.w c.args.nodes.now) in
-    let all : agreeing r R T ys ≡ true = none-agree r R T ys (ap (brought_first r R T) (sym c.in-None.is) ∙ c.look_in-first.ensures.first T) in
-    absurd (both_ways (agreeing r R T ys) (sym (c.look_in-first.ensures.agreed T) ∙ c.if-agreed.false) all)
+    let all : all_agree r R T ys ≡ true = none-agree r R T ys (ap (brought_first r R T) (sym c.in-None.is) ∙ c.look_in-first.ensures.first T) in
+    absurd (both_ways (all_agree r R T ys) (sym (c.look_in-first.ensures.agreed T) ∙ c.if-agreed.false) all)
 
 pub returns-in-Some : goal.returns-in-Some
 returns-in-Some g c =

@@ -1,5 +1,5 @@
 use Rattle.std.proofs.Common.{sym, subst, arith}
-use Rattle.layers.specs.Shape.{Shaped, Timely}
+use Rattle.layers.specs.Shape.{IsShaped, IsTimely}
 use Rattle.split.proofs.JoinWords.{join-shaped, join-timely}
 use Rattle.diagram.proofs.diagram.Diagram.join.Goals as goal
 
@@ -17,6 +17,6 @@ invariant_of-self g c =
     let is = sym c.join.ensures.steps in
     record {
       fits = omega (arith, d.fits);
-      shaped = subst (Shaped r.n W) is (join-shaped r R T W i a b xs d.room.wide d.room.narrow d.fits d.shaped);
-      timely = subst (Timely r.n W) is (join-timely r R T W i a b xs d.room.wide d.room.narrow d.fits d.shaped d.timely);
+      shaped = subst (IsShaped r.n W) is (join-shaped r R T W i a b xs d.room.wide d.room.narrow d.fits d.shaped);
+      timely = subst (IsTimely r.n W) is (join-timely r R T W i a b xs d.room.wide d.room.narrow d.fits d.shaped d.timely);
     }

@@ -1,5 +1,5 @@
 use Rattle.std.proofs.Common.{sym, subst, arith}
-use Rattle.layers.specs.Shape.{Shaped, Timely}
+use Rattle.layers.specs.Shape.{IsShaped, IsTimely}
 use Rattle.split.proofs.PartWords.{part-shaped, part-timely}
 use Rattle.diagram.proofs.diagram.Diagram.part.Goals as goal
 
@@ -17,6 +17,6 @@ invariant_of-self g c =
     let is = sym c.part.ensures.steps in
     record {
       fits = omega (arith, d.fits);
-      shaped = subst (Shaped r.n W) is (part-shaped r R T W i a xs d.room.wide d.room.narrow d.fits d.shaped self);
-      timely = subst (Timely r.n W) is (part-timely r R T W i a xs d.room.wide d.room.narrow d.fits d.shaped self d.timely);
+      shaped = subst (IsShaped r.n W) is (part-shaped r R T W i a xs d.room.wide d.room.narrow d.fits d.shaped self);
+      timely = subst (IsTimely r.n W) is (part-timely r R T W i a xs d.room.wide d.room.narrow d.fits d.shaped self d.timely);
     }
