@@ -8,12 +8,14 @@ use Rattle.tallies.specs.Tallies.{TallySense}
 use Rattle.layers.specs.declared.node.Node.{Node}
 use Rattle.layers.specs.declared.node.Down.{Down}
 use Rattle.layers.specs.Flow.{table, Outs, Layer, node, put, arrivals_by_door, arrivals_at, gather}
-use Rattle.layers.specs.Labels.{arrival_over, merge, no_up}
-use Rattle.layers.specs.Records.{blank, or_blank, padded_targets, record_of_place}
+use Rattle.layers.specs.Labels.{arrival_over, merge, no_up, blank_label}
+use Rattle.layers.specs.Records.{padded_targets, record_of_place}
 use Rattle.layers.proofs.Flows.{table_at}
 use Rattle.labels.specs.Passes.{by_door, from_node, gathered}
+use Rattle.layers.proofs.Model.{or_blank}
+use Rattle.layers.specs.Settings.{Setting}
 
-module _ {S V : Type 0} (r : Round) (R : RuleSense S) (T : TallySense V) where
+module _ {S V : Type 0} (by : Setting S V) where
   -- a label that is there has a last place
   abbrev pub Lasting : List (Option (Down S V)) → Type 0
   Lasting labs = (a : ℕ) (l : Down S V) → get_or labs a None ≡ Some l → eqb l.lasts 0 ≡ false
@@ -23,7 +25,7 @@ module _ {S V : Type 0} (r : Round) (R : RuleSense S) (T : TallySense V) where
   Narrow L = (a : ℕ) → length (node L a) ≤ 16
 
   abbrev pub over-door : ℕ → List ℕ → Down S V → ℕ → List (Down S V)
-  over-door t to l k = cond (eqb (get_or to k 0) t) (arrival_over r R T l (k + 1) ∷ []) []
+  over-door t to l k = cond (eqb (get_or to k 0) t) (arrival_over by l (k + 1) ∷ []) []
 
   put-cond : (q : Bool) (x : Down S V) (rest : List (Down S V)) → cond q (x ∷ []) [] ++ rest ≡ put q x rest
   put-cond true x rest = refl
@@ -34,7 +36,7 @@ module _ {S V : Type 0} (r : Round) (R : RuleSense S) (T : TallySense V) where
 
   -- over m doors from a on, of which those past ts have no arc
   pub doors-in : (b : ℕ) (l : Down S V) (ts to : List ℕ) (a m : ℕ) → length ts ≤ m → ((i : ℕ) → i < m → get_or to (a + i) 0 ≡ get_or ts i 0)
-      → flat_map (over-door (suc b) to l) (range_with_len a m) ≡ arrivals_by_door (arrival_over r R T) b l (suc a) ts
+      → flat_map (over-door (suc b) to l) (range_with_len a m) ≡ arrivals_by_door (arrival_over by) b l (suc a) ts
   unfolding arrivals_by_door
   doors-in b l [] to a zero h e = refl
   doors-in b l (x ∷ ts) to a zero h e = absurd (omega arith)
@@ -48,9 +50,9 @@ module _ {S V : Type 0} (r : Round) (R : RuleSense S) (T : TallySense V) where
       there : (i : ℕ) → a + 1 + i ≡ a + suc i
       there i = omega arith
   doors-in b l (x ∷ ts) to a (suc m) h e =
-      ap₂ (λ (d : ℕ) (j : ℕ). cond (eqb d (suc b)) (arrival_over r R T l j ∷ []) [] ++ flat_map (over-door (suc b) to l) (range_with_len (a + 1) m)) (here ∙ e 0 (omega arith)) (add-one a)
-      ∙ ap (λ ys. cond (eqb x (suc b)) (arrival_over r R T l (suc a) ∷ []) [] ++ ys) (doors-in b l ts to (a + 1) m (omega arith) (λ i g. ap (λ (k : ℕ). get_or to k 0) (there i) ∙ e (suc i) (omega arith)) ∙ ap (λ (k : ℕ). arrivals_by_door (arrival_over r R T) b l (suc k) ts) (add-one a))
-      ∙ put-cond (eqb x (suc b)) (arrival_over r R T l (suc a)) (arrivals_by_door (arrival_over r R T) b l (suc (suc a)) ts)
+      ap₂ (λ (d : ℕ) (j : ℕ). cond (eqb d (suc b)) (arrival_over by l j ∷ []) [] ++ flat_map (over-door (suc b) to l) (range_with_len (a + 1) m)) (here ∙ e 0 (omega arith)) (add-one a)
+      ∙ ap (λ ys. cond (eqb x (suc b)) (arrival_over by l (suc a) ∷ []) [] ++ ys) (doors-in b l ts to (a + 1) m (omega arith) (λ i g. ap (λ (k : ℕ). get_or to k 0) (there i) ∙ e (suc i) (omega arith)) ∙ ap (λ (k : ℕ). arrivals_by_door (arrival_over by) b l (suc k) ts) (add-one a))
+      ∙ put-cond (eqb x (suc b)) (arrival_over by l (suc a)) (arrivals_by_door (arrival_over by) b l (suc (suc a)) ts)
     where
       here : get_or to a 0 ≡ get_or to (a + 0) 0
       here = ap (λ (k : ℕ). get_or to k 0) (omega arith)
@@ -62,50 +64,50 @@ module _ {S V : Type 0} (r : Round) (R : RuleSense S) (T : TallySense V) where
   abbrev made : Outs → Down S V → Node S V
   made nd l = record { arcs = record { to = padded_targets nd }; label = record { down = l; up = no_up } }
 
-  from-unused : (t : ℕ) (u : Node S V) → u.label.down.lasts ≡ 0 → from_node r R T t u ≡ []
+  from-unused : (t : ℕ) (u : Node S V) → u.label.down.lasts ≡ 0 → from_node by t u ≡ []
   unfolding from_node
-  from-unused t u e = ap (λ (q : Bool). cond q [] (flat_map (by_door r R T t u) (range_with_len 0 16))) (eq-eqb _ 0 e)
+  from-unused t u e = ap (λ (q : Bool). cond q [] (flat_map (by_door by t u) (range_with_len 0 16))) (eq-eqb _ 0 e)
 
-  from-used : (b : ℕ) (nd : Outs) (l : Down S V) → length nd ≤ 16 → eqb l.lasts 0 ≡ false → from_node r R T (suc b) (made nd l) ≡ arrivals_by_door (arrival_over r R T) b l 1 nd
+  from-used : (b : ℕ) (nd : Outs) (l : Down S V) → length nd ≤ 16 → eqb l.lasts 0 ≡ false → from_node by (suc b) (made nd l) ≡ arrivals_by_door (arrival_over by) b l 1 nd
   unfolding from_node by_door
   from-used b nd l h e =
       ap (λ (q : Bool). cond q [] (flat_map (over-door (suc b) (padded_targets nd) l) (range_with_len 0 16))) e
       ∙ doors-in b l nd (padded_targets nd) 0 16 h (λ i g. ap (λ (k : ℕ). get_or (padded_targets nd) k 0) (zero-add i) ∙ table_at 16 i (λ k. get_or nd k 0) 0 g)
 
-  from-bare : (b : ℕ) (l : Down S V) → from_node r R T (suc b) (made [] l) ≡ []
+  from-bare : (b : ℕ) (l : Down S V) → from_node by (suc b) (made [] l) ≡ []
   unfolding arrivals_by_door
   from-bare b l = go (eqb l.lasts 0) refl
     where
-      go : (q : Bool) → eqb l.lasts 0 ≡ q → from_node r R T (suc b) (made [] l) ≡ []
+      go : (q : Bool) → eqb l.lasts 0 ≡ q → from_node by (suc b) (made [] l) ≡ []
       go true e = from-unused (suc b) (made [] l) (eqb-zero e)
         where
           eqb-zero : eqb l.lasts 0 ≡ true → l.lasts ≡ 0
           eqb-zero e = eqb-true l.lasts 0 e
       go false e = from-used b [] l (omega arith) e
 
-  none_in : (b w : ℕ) (labs : List (Option (Down S V))) → flat_map (from_node r R T (suc b)) (table w (record_of_place r R T [] labs [])) ≡ []
+  none_in : (b w : ℕ) (labs : List (Option (Down S V))) → flat_map (from_node by (suc b)) (table w (record_of_place by [] labs [])) ≡ []
   none_in b zero labs = refl
-  none_in b (suc w) [] = ap₂ (λ xs ys. xs ++ ys) (from-bare b (blank r R T)) (none_in b w [])
-  none_in b (suc w) (o ∷ labs) = ap₂ (λ xs ys. xs ++ ys) (from-bare b (or_blank r R T o)) (none_in b w labs)
+  none_in b (suc w) [] = ap₂ (λ xs ys. xs ++ ys) (from-bare b (blank_label by.rule by.tally)) (none_in b w [])
+  none_in b (suc w) (o ∷ labs) = ap₂ (λ xs ys. xs ++ ys) (from-bare b (or_blank by.rule by.tally o)) (none_in b w labs)
 
   -- no label, no arrival
-  unlabelled : (b w : ℕ) (L : Layer) → flat_map (from_node r R T (suc b)) (table w (record_of_place r R T L [] [])) ≡ []
+  unlabelled : (b w : ℕ) (L : Layer) → flat_map (from_node by (suc b)) (table w (record_of_place by L [] [])) ≡ []
   unlabelled b zero L = refl
-  unlabelled b (suc w) [] = ap₂ (λ xs ys. xs ++ ys) (from-unused (suc b) (made [] (blank r R T)) refl) (unlabelled b w [])
-  unlabelled b (suc w) (nd ∷ L) = ap₂ (λ xs ys. xs ++ ys) (from-unused (suc b) (made nd (blank r R T)) refl) (unlabelled b w L)
+  unlabelled b (suc w) [] = ap₂ (λ xs ys. xs ++ ys) (from-unused (suc b) (made [] (blank_label by.rule by.tally)) refl) (unlabelled b w [])
+  unlabelled b (suc w) (nd ∷ L) = ap₂ (λ xs ys. xs ++ ys) (from-unused (suc b) (made nd (blank_label by.rule by.tally)) refl) (unlabelled b w L)
 
   pub arrivals-in : (b w : ℕ) (labs : List (Option (Down S V))) (L : Layer) → Lasting labs → Narrow L → length L ≤ w
-      → flat_map (from_node r R T (suc b)) (table w (record_of_place r R T L labs [])) ≡ arrivals_at (arrival_over r R T) b labs L
+      → flat_map (from_node by (suc b)) (table w (record_of_place by L labs [])) ≡ arrivals_at (arrival_over by) b labs L
   unfolding arrivals_at
   arrivals-in b w [] L g n h = unlabelled b w L
   arrivals-in b w (o ∷ labs) [] g n h = none_in b w (o ∷ labs)
   arrivals-in b zero (o ∷ labs) (nd ∷ L) g n h = absurd (omega arith)
   arrivals-in b (suc w) (None ∷ labs) (nd ∷ L) g n h =
-      ap₂ (λ xs ys. xs ++ ys) (from-unused (suc b) (made nd (blank r R T)) refl) (arrivals-in b w labs L (λ a. g (suc a)) (λ a. n (suc a)) (omega arith))
+      ap₂ (λ xs ys. xs ++ ys) (from-unused (suc b) (made nd (blank_label by.rule by.tally)) refl) (arrivals-in b w labs L (λ a. g (suc a)) (λ a. n (suc a)) (omega arith))
   arrivals-in b (suc w) (Some l ∷ labs) (nd ∷ L) g n h =
       ap₂ (λ xs ys. xs ++ ys) (from-used b nd l (n 0) (g 0 l refl)) (arrivals-in b w labs L (λ a. g (suc a)) (λ a. n (suc a)) (omega arith))
 
-  pub gathered-is : (xs : List (Down S V)) → gathered r R T xs ≡ or_blank r R T (gather (merge r R T) xs)
+  pub gathered-is : (xs : List (Down S V)) → gathered by.rule by.tally xs ≡ or_blank by.rule by.tally (gather (merge by.rule by.tally) xs)
   unfolding gathered gather
   gathered-is [] = refl
   gathered-is (x ∷ xs) = refl

@@ -12,8 +12,8 @@ use Rattle.layers.specs.declared.node.Node.{Node}
 use Rattle.layers.specs.declared.node.Down.{Down}
 use Rattle.layers.specs.declared.node.Up.{Up}
 use Rattle.layers.specs.Flow.{table, Outs, Layer, Net, node, target, width, arrivals_at, gather, next, cons_if_some, climbs_of, up, IsRanged, IsTied, IsRoomy, IsEven, IsLawful}
-use Rattle.layers.specs.Labels.{arrival_over, merge, first_label, first_labels, labels_next, climb, merge_up, no_up, ups}
-use Rattle.layers.specs.Records.{arcs_read, laid_arcs, arcs_at, blank, or_blank, or_no_up, padded_targets, record_of_place, labelled_from, labelled_records}
+use Rattle.layers.specs.Labels.{arrival_over, merge, first_label, first_labels, labels_next, climb, merge_up, no_up, ups, blank_label}
+use Rattle.layers.specs.Records.{arcs_read, laid_arcs, arcs_at, padded_targets, record_of_place, labelled_from, labelled_records}
 use Rattle.layers.proofs.Flows.{table_at, Among, ins-from}
 use Rattle.layers.proofs.Bridge.{table-long}
 use Rattle.layers.specs.Calls.{records_with}
@@ -25,6 +25,8 @@ use Rattle.labels.proofs.Scattered.{or_some}
 use Rattle.labels.proofs.Inward.{Lasting, Narrow, arrivals-in, gathered-is}
 use Rattle.labels.proofs.Suffixes.{flatDown, down-last, down-front, down_is, flatUp, up-last, up-front, up_is}
 use Rattle.labels.proofs.Earlies.{first-long}
+use Rattle.layers.proofs.Model.{or_blank, or_no_up}
+use Rattle.layers.specs.Settings.{Setting}
 
 -- ---- lists
 pub table-list : {X : Type 0} (m : ℕ) (f : ℕ → X) (xs : List X) → length xs ≡ m → ((k : ℕ) (d : X) → k < m → get_or xs k d ≡ f k) → xs ≡ table m f
@@ -80,47 +82,47 @@ arranged-of w (L ∷ Ls) xs h e =
     )
 
 -- ---- down
-module _ {S V : Type 0} (r : Round) (R : RuleSense S) (T : TallySense V) where
-  bare-from : (t : ℕ) (us : List (Node S V)) → flat_map (from_node r R T t) (map bare us) ≡ flat_map (from_node r R T t) us
+module _ {S V : Type 0} (by : Setting S V) where
+  bare-from : (t : ℕ) (us : List (Node S V)) → flat_map (from_node by t) (map bare us) ≡ flat_map (from_node by t) us
   unfolding from_node by_door
   bare-from t [] = refl
-  bare-from t (u ∷ us) = ap (λ ys. from_node r R T t u ++ ys) (bare-from t us)
+  bare-from t (u ∷ us) = ap (λ ys. from_node by t u ++ ys) (bare-from t us)
 
-  in-nothing : (b m : ℕ) (labs : List (Option (Down S V))) (L : Layer) → IsRanged L m → m ≤ b → arrivals_at (arrival_over r R T) b labs L ≡ []
-  in-nothing b m labs L g h = go (arrivals_at (arrival_over r R T) b labs L) refl
+  in-nothing : (b m : ℕ) (labs : List (Option (Down S V))) (L : Layer) → IsRanged L m → m ≤ b → arrivals_at (arrival_over by) b labs L ≡ []
+  in-nothing b m labs L g h = go (arrivals_at (arrival_over by) b labs L) refl
     where
-      go : (xs : List (Down S V)) → arrivals_at (arrival_over r R T) b labs L ≡ xs → arrivals_at (arrival_over r R T) b labs L ≡ []
+      go : (xs : List (Down S V)) → arrivals_at (arrival_over by) b labs L ≡ xs → arrivals_at (arrival_over by) b labs L ≡ []
       go [] e = e
       go (x ∷ xs) e =
-          let f = ins-from (arrival_over r R T) b labs L x (subst (Among x) (sym e) (inl refl)) in
+          let f = ins-from (arrival_over by) b labs L x (subst (Among x) (sym e) (inl refl)) in
           absurd (omega (arith, g f.source f.door b f.arc))
 
   next-label : (b m : ℕ) (labs : List (Option (Down S V))) (L : Layer) → IsRanged L m
-      → or_blank r R T (gather (merge r R T) (arrivals_at (arrival_over r R T) b labs L)) ≡ or_blank r R T (get_or (labels_next r R T labs L m) b None)
+      → or_blank by.rule by.tally (gather (merge by.rule by.tally) (arrivals_at (arrival_over by) b labs L)) ≡ or_blank by.rule by.tally (get_or (labels_next by labs L m) b None)
   unfolding labels_next next gather
   next-label b m labs L g = ⊎_elim inside beyond (cases_lt b m)
     where
       f : ℕ → Option (Down S V)
-      f b = gather (merge r R T) (arrivals_at (arrival_over r R T) b labs L)
+      f b = gather (merge by.rule by.tally) (arrivals_at (arrival_over by) b labs L)
 
-      inside : b < m → or_blank r R T (gather (merge r R T) (arrivals_at (arrival_over r R T) b labs L)) ≡ or_blank r R T (get_or (table m (λ b. gather (merge r R T) (arrivals_at (arrival_over r R T) b labs L))) b None)
-      inside h = ap (or_blank r R T) (sym (table_at m b (λ b. gather (merge r R T) (arrivals_at (arrival_over r R T) b labs L)) None h))
+      inside : b < m → or_blank by.rule by.tally (gather (merge by.rule by.tally) (arrivals_at (arrival_over by) b labs L)) ≡ or_blank by.rule by.tally (get_or (table m (λ b. gather (merge by.rule by.tally) (arrivals_at (arrival_over by) b labs L))) b None)
+      inside h = ap (or_blank by.rule by.tally) (sym (table_at m b (λ b. gather (merge by.rule by.tally) (arrivals_at (arrival_over by) b labs L)) None h))
 
-      beyond : m ≤ b → or_blank r R T (gather (merge r R T) (arrivals_at (arrival_over r R T) b labs L)) ≡ or_blank r R T (get_or (table m (λ b. gather (merge r R T) (arrivals_at (arrival_over r R T) b labs L))) b None)
+      beyond : m ≤ b → or_blank by.rule by.tally (gather (merge by.rule by.tally) (arrivals_at (arrival_over by) b labs L)) ≡ or_blank by.rule by.tally (get_or (table m (λ b. gather (merge by.rule by.tally) (arrivals_at (arrival_over by) b labs L))) b None)
       beyond h =
-          ap (λ xs. or_blank r R T (gather (merge r R T) xs)) (in-nothing b m labs L g h)
-          ∙ ap (or_blank r R T) (sym (get_or_past (table m (λ b. gather (merge r R T) (arrivals_at (arrival_over r R T) b labs L))) b None (omega (arith, table-long m (λ b. gather (merge r R T) (arrivals_at (arrival_over r R T) b labs L))))))
+          ap (λ xs. or_blank by.rule by.tally (gather (merge by.rule by.tally) xs)) (in-nothing b m labs L g h)
+          ∙ ap (or_blank by.rule by.tally) (sym (get_or_past (table m (λ b. gather (merge by.rule by.tally) (arrivals_at (arrival_over by) b labs L))) b None (omega (arith, table-long m (λ b. gather (merge by.rule by.tally) (arrivals_at (arrival_over by) b labs L))))))
 
   -- the m records after the layer us
-  next-block : (w m cnt : ℕ) (labs : List (Option (Down S V))) (L M : Layer) (us vs : List (Node S V)) → Lasting r R T labs → Narrow r R T L → length L ≤ w → IsRanged L cnt
-      → map bare us ≡ table w (record_of_place r R T L labs []) → map arcs_of vs ≡ table m (arcs_at M)
-      → map bare (next_layer r R T us vs) ≡ table m (record_of_place r R T M (labels_next r R T labs L cnt) [])
+  next-block : (w m cnt : ℕ) (labs : List (Option (Down S V))) (L M : Layer) (us vs : List (Node S V)) → Lasting by labs → Narrow by L → length L ≤ w → IsRanged L cnt
+      → map bare us ≡ table w (record_of_place by L labs []) → map arcs_of vs ≡ table m (arcs_at M)
+      → map bare (next_layer by us vs) ≡ table m (record_of_place by M (labels_next by labs L cnt) [])
   unfolding next_layer labelled
   next-block w m cnt labs L M us vs g n fits ranged eu ev =
-      table-list m (record_of_place r R T M (labels_next r R T labs L cnt) []) (map bare (map f (range_with_len 0 (length vs)))) (long ∙ many) at_each
+      table-list m (record_of_place by M (labels_next by labs L cnt) []) (map bare (map f (range_with_len 0 (length vs)))) (long ∙ many) at_each
     where
       f : ℕ → Node S V
-      f b = with_down (get_or vs b (blank_node r R T)) (gathered r R T (arrivals r R T (b + 1) us))
+      f b = with_down (get_or vs b (blank_node by.rule by.tally)) (gathered by.rule by.tally (arrivals by (b + 1) us))
 
       long : length (map bare (map f (range_with_len 0 (length vs)))) ≡ length vs
       long = length-map (map f (range_with_len 0 (length vs))) bare ∙ length-map-range_with_len f 0 (length vs)
@@ -128,107 +130,107 @@ module _ {S V : Type 0} (r : Round) (R : RuleSense S) (T : TallySense V) where
       many : length vs ≡ m
       many = sym (length-map vs arcs_of) ∙ ap length ev ∙ table-long m (arcs_at M)
 
-      arcs-same : (b : ℕ) → b < m → (get_or vs b (blank_node r R T)).arcs ≡ arcs_at M b
-      arcs-same b h = sym (get_or-map arcs_of vs b (blank_node r R T) (arcs_at M b) (omega (arith, many))) ∙ ap (λ xs. get_or xs b (arcs_at M b)) ev ∙ table_at m b (arcs_at M) (arcs_at M b) h
+      arcs-same : (b : ℕ) → b < m → (get_or vs b (blank_node by.rule by.tally)).arcs ≡ arcs_at M b
+      arcs-same b h = sym (get_or-map arcs_of vs b (blank_node by.rule by.tally) (arcs_at M b) (omega (arith, many))) ∙ ap (λ xs. get_or xs b (arcs_at M b)) ev ∙ table_at m b (arcs_at M) (arcs_at M b) h
 
-      label_same : (b : ℕ) → gathered r R T (arrivals r R T (b + 1) us) ≡ or_blank r R T (get_or (labels_next r R T labs L cnt) b None)
+      label_same : (b : ℕ) → gathered by.rule by.tally (arrivals by (b + 1) us) ≡ or_blank by.rule by.tally (get_or (labels_next by labs L cnt) b None)
       label_same b =
-          ap (λ (t : ℕ). gathered r R T (arrivals r R T t us)) (add-one b)
-          ∙ ap (gathered r R T) (sym (bare-from (suc b) us) ∙ ap (flat_map (from_node r R T (suc b))) eu ∙ arrivals-in r R T b w labs L g n fits)
-          ∙ gathered-is r R T (arrivals_at (arrival_over r R T) b labs L) ∙ next-label b cnt labs L ranged
+          ap (λ (t : ℕ). gathered by.rule by.tally (arrivals by t us)) (add-one b)
+          ∙ ap (gathered by.rule by.tally) (sym (bare-from (suc b) us) ∙ ap (flat_map (from_node by (suc b))) eu ∙ arrivals-in by b w labs L g n fits)
+          ∙ gathered-is by (arrivals_at (arrival_over by) b labs L) ∙ next-label b cnt labs L ranged
 
-      at_each : (b : ℕ) (d : Node S V) → b < m → get_or (map bare (map f (range_with_len 0 (length vs)))) b d ≡ record_of_place r R T M (labels_next r R T labs L cnt) [] b
+      at_each : (b : ℕ) (d : Node S V) → b < m → get_or (map bare (map f (range_with_len 0 (length vs)))) b d ≡ record_of_place by M (labels_next by labs L cnt) [] b
       at_each b d h =
           get_or-map bare (map f (range_with_len 0 (length vs))) b d d (omega (arith, many, length-map-range_with_len f 0 (length vs)))
           ∙ ap bare (get_or-map-range_with_len f 0 (length vs) b b d (omega (arith, many)) (omega arith))
           ∙ ap₂ (λ (a : Arcs) (l : Down S V). record { arcs = a; label = record { down = l; up = no_up } }) (arcs-same b h) (label_same b)
 
-  some-last : (b : ℕ) (labs : List (Option (Down S V))) (L : Layer) (l : Down S V) → gather (merge r R T) (arrivals_at (arrival_over r R T) b labs L) ≡ Some l → 0 < l.lasts
+  some-last : (b : ℕ) (labs : List (Option (Down S V))) (L : Layer) (l : Down S V) → gather (merge by.rule by.tally) (arrivals_at (arrival_over by) b labs L) ≡ Some l → 0 < l.lasts
   unfolding gather merge arrival_over
-  some-last b labs L l e = go (arrivals_at (arrival_over r R T) b labs L) refl e
+  some-last b labs L l e = go (arrivals_at (arrival_over by) b labs L) refl e
     where
-      go : (xs : List (Down S V)) → arrivals_at (arrival_over r R T) b labs L ≡ xs → gather (merge r R T) xs ≡ Some l → 0 < l.lasts
+      go : (xs : List (Down S V)) → arrivals_at (arrival_over by) b labs L ≡ xs → gather (merge by.rule by.tally) xs ≡ Some l → 0 < l.lasts
       go [] i e = let z : ◌≡◌ {A = ℕ} 0 1 = cc in absurd (omega arith)
       go (x ∷ xs) i e =
-          let f = ins-from (arrival_over r R T) b labs L x (subst (Among x) (sym i) (inl refl)) in
+          let f = ins-from (arrival_over by) b labs L x (subst (Among x) (sym i) (inl refl)) in
           let first_label : 0 < x.lasts = subst (λ (y : Down S V). 0 < y.lasts) (sym f.is) (pow_pos f.door) in
-          let all : 0 < (fold (merge r R T) x xs).lasts = folded_keeps (λ (y : Down S V). 0 < y.lasts) (merge r R T) (λ y z h. or_some r R T y.lasts z.lasts h) x xs first_label in
-          let same : fold (merge r R T) x xs ≡ l = cc in
+          let all : 0 < (fold (merge by.rule by.tally) x xs).lasts = folded_keeps (λ (y : Down S V). 0 < y.lasts) (merge by.rule by.tally) (λ y z h. or_some by y.lasts z.lasts h) x xs first_label in
+          let same : fold (merge by.rule by.tally) x xs ≡ l = cc in
           subst (λ (y : Down S V). 0 < y.lasts) same all
 
-  lasting-next : (labs : List (Option (Down S V))) (L : Layer) (m : ℕ) → Lasting r R T (labels_next r R T labs L m)
+  lasting-next : (labs : List (Option (Down S V))) (L : Layer) (m : ℕ) → Lasting by (labels_next by labs L m)
   unfolding labels_next next
   lasting-next labs L m a l e =
-      let f : ℕ → Option (Down S V) = λ b. gather (merge r R T) (arrivals_at (arrival_over r R T) b labs L) in
+      let f : ℕ → Option (Down S V) = λ b. gather (merge by.rule by.tally) (arrivals_at (arrival_over by) b labs L) in
       ⊎_elim
       (λ h. ne_eqb l.lasts 0 (λ z. omega (arith, some-last a labs L l (sym (table_at m a f None h) ∙ e))))
       (λ h. let n : get_or (table m f) a None ≡ None = get_or_past (table m f) a None (omega (arith, table-long m f)) in let z : ◌≡◌ {A = ℕ} 0 1 = cc in absurd (omega arith))
       (cases_lt a m)
 
   -- the labels of the net, over the records
-  abbrev Half : ℕ → List (Option (Down S V)) → Net → List (Node S V) → Type 0
-  Half w labs [] ys = map bare (take 1 ys) ≡ table 1 (record_of_place r R T [] labs [])
-  Half w labs (L ∷ Ls) ys = (map bare (take w ys) ≡ table w (record_of_place r R T L labs [])) × Half w (labels_next r R T labs L (width Ls)) Ls (drop w ys)
+  abbrev Half : List (Option (Down S V)) → Net → List (Node S V) → Type 0
+  Half labs [] ys = map bare (take 1 ys) ≡ table 1 (record_of_place by [] labs [])
+  Half labs (L ∷ Ls) ys = (map bare (take by.width ys) ≡ table by.width (record_of_place by L labs [])) × Half (labels_next by labs L (width Ls)) Ls (drop by.width ys)
 
   half-long : (w : ℕ) (f : ℕ → Node S V) (us : List (Node S V)) → map bare us ≡ table w f → length us ≡ w
   half-long w f us e = sym (length-map us bare) ∙ ap length e ∙ table-long w f
 
   -- after one step: the layer as it was, the next labelled, and what follows
-  step-front : (w m : ℕ) (xs : List (Node S V)) → length (take w xs) ≡ w → take w (layer_done r R T w 0 m w xs) ≡ take w xs
+  step-front : (m : ℕ) (xs : List (Node S V)) → length (take by.width xs) ≡ by.width → take by.width (layer_done by 0 m by.width xs) ≡ take by.width xs
   unfolding layer_done
-  step-front w m xs e = take_at (take w xs) (next_layer r R T (take w xs) (part w m xs) ++ drop (w + length (next_layer r R T (take w xs) (part w m xs))) xs) w e
+  step-front m xs e = take_at (take by.width xs) (next_layer by (take by.width xs) (part by.width m xs) ++ drop (by.width + length (next_layer by (take by.width xs) (part by.width m xs))) xs) by.width e
 
-  step_back : (w m : ℕ) (xs : List (Node S V)) → length (take w xs) ≡ w → drop w (layer_done r R T w 0 m w xs) ≡ next_layer r R T (take w xs) (part w m xs) ++ drop (w + length (next_layer r R T (take w xs) (part w m xs))) xs
+  step_back : (m : ℕ) (xs : List (Node S V)) → length (take by.width xs) ≡ by.width → drop by.width (layer_done by 0 m by.width xs) ≡ next_layer by (take by.width xs) (part by.width m xs) ++ drop (by.width + length (next_layer by (take by.width xs) (part by.width m xs))) xs
   unfolding layer_done
-  step_back w m xs e = drop_at (take w xs) (next_layer r R T (take w xs) (part w m xs) ++ drop (w + length (next_layer r R T (take w xs) (part w m xs))) xs) w e
+  step_back m xs e = drop_at (take by.width xs) (next_layer by (take by.width xs) (part by.width m xs) ++ drop (by.width + length (next_layer by (take by.width xs) (part by.width m xs))) xs) by.width e
 
-  down-laid : (w k : ℕ) (labs : List (Option (Down S V))) (L : Layer) (Ls : Net) (xs : List (Node S V)) → length Ls ≡ k → Good w (L ∷ Ls) → Lasting r R T labs
-      → map bare (take w xs) ≡ table w (record_of_place r R T L labs []) → Arranged w Ls (drop w xs)
-      → Half w labs (L ∷ Ls) (flatDown r R T w k xs) × (drop (suc k * w + 1) (flatDown r R T w k xs) ≡ drop (suc k * w + 1) xs)
-  down-laid w zero labs L [] xs k good last first_label arr =
-      let us : length (take w xs) ≡ w = half-long w (record_of_place r R T L labs []) (take w xs) first_label in
-      let N = next_layer r R T (take w xs) (part w 1 xs) in
-      let nb : map bare N ≡ table 1 (record_of_place r R T [] (labels_next r R T labs L 1) []) = next-block w 1 1 labs L [] (take w xs) (part w 1 xs) last good.0 good.1 good.2 first_label arr in
-      let nl : length N ≡ 1 = half-long 1 (record_of_place r R T [] (labels_next r R T labs L 1) []) N nb in
-      let one : flatDown r R T w 0 xs ≡ layer_done r R T w 0 1 w xs = down-last r R T w xs in
-      let back : drop w (flatDown r R T w 0 xs) ≡ N ++ drop (w + length N) xs = ap (drop w) one ∙ step_back w 1 xs us in (
+  down-laid : (k : ℕ) (labs : List (Option (Down S V))) (L : Layer) (Ls : Net) (xs : List (Node S V)) → length Ls ≡ k → Good by.width (L ∷ Ls) → Lasting by labs
+      → map bare (take by.width xs) ≡ table by.width (record_of_place by L labs []) → Arranged by.width Ls (drop by.width xs)
+      → Half labs (L ∷ Ls) (flatDown by k xs) × (drop (suc k * by.width + 1) (flatDown by k xs) ≡ drop (suc k * by.width + 1) xs)
+  down-laid zero labs L [] xs k good last first_label arr =
+      let us : length (take by.width xs) ≡ by.width = half-long by.width (record_of_place by L labs []) (take by.width xs) first_label in
+      let N = next_layer by (take by.width xs) (part by.width 1 xs) in
+      let nb : map bare N ≡ table 1 (record_of_place by [] (labels_next by labs L 1) []) = next-block by.width 1 1 labs L [] (take by.width xs) (part by.width 1 xs) last good.0 good.1 good.2 first_label arr in
+      let nl : length N ≡ 1 = half-long 1 (record_of_place by [] (labels_next by labs L 1) []) N nb in
+      let one : flatDown by 0 xs ≡ layer_done by 0 1 by.width xs = down-last by xs in
+      let back : drop by.width (flatDown by 0 xs) ≡ N ++ drop (by.width + length N) xs = ap (drop by.width) one ∙ step_back 1 xs us in (
         (
-          ap (λ ys. map bare (take w ys)) one ∙ ap (map bare) (step-front w 1 xs us) ∙ first_label,
-          ap (λ ys. map bare (take 1 ys)) back ∙ ap (map bare) (take_at N (drop (w + length N) xs) 1 nl) ∙ nb,
+          ap (λ ys. map bare (take by.width ys)) one ∙ ap (map bare) (step-front 1 xs us) ∙ first_label,
+          ap (λ ys. map bare (take 1 ys)) back ∙ ap (map bare) (take_at N (drop (by.width + length N) xs) 1 nl) ∙ nb,
         ),
-        (let e : suc 0 * w + 1 ≡ w + 1 = omega (arith, suc-mul 0 w, zero-mul w) in
-            ap (λ (i : ℕ). drop i (flatDown r R T w 0 xs)) e ∙ sym (drop-drop 1 w (flatDown r R T w 0 xs)) ∙ ap (drop 1) back ∙ drop_at N (drop (w + length N) xs) 1 nl ∙ ap (λ (i : ℕ). drop i xs) (ap (λ (i : ℕ). w + i) nl ∙ sym e)),
+        (let e : suc 0 * by.width + 1 ≡ by.width + 1 = omega (arith, suc-mul 0 by.width, zero-mul by.width) in
+            ap (λ (i : ℕ). drop i (flatDown by 0 xs)) e ∙ sym (drop-drop 1 by.width (flatDown by 0 xs)) ∙ ap (drop 1) back ∙ drop_at N (drop (by.width + length N) xs) 1 nl ∙ ap (λ (i : ℕ). drop i xs) (ap (λ (i : ℕ). by.width + i) nl ∙ sym e)),
       )
-  down-laid w zero labs L (M ∷ Ls) xs k good last first_label arr = absurd (omega arith)
-  down-laid w (suc k) labs L [] xs e good last first_label arr = absurd (omega arith)
-  down-laid w (suc k) labs L (M ∷ Ls) xs e good last first_label arr =
-      let labs' = labels_next r R T labs L (length M) in
-      let us : length (take w xs) ≡ w = half-long w (record_of_place r R T L labs []) (take w xs) first_label in
-      let N = next_layer r R T (take w xs) (part w w xs) in
-      let nb : map bare N ≡ table w (record_of_place r R T M labs' []) = next-block w w (length M) labs L M (take w xs) (part w w xs) last good.0 good.1 good.2 first_label arr.0 in
-      let nl : length N ≡ w = half-long w (record_of_place r R T M labs' []) N nb in
-      let Y = layer_done r R T w 0 w w xs in
-      let D = drop (w + length N) xs in
-      let front : take w Y ≡ take w xs = step-front w w xs us in
-      let back : drop w Y ≡ N ++ D = step_back w w xs us in
-      let far : D ≡ drop w (drop w xs) = ap (λ (i : ℕ). drop (w + i) xs) nl ∙ sym (drop-drop w w xs) in
-      let Z = flatDown r R T w k (drop w Y) in
-      let same : flatDown r R T w (suc k) xs ≡ take w Y ++ Z = down-front r R T w k xs (ap length front ∙ us) in
-      let long : length (take w Y) ≡ w = ap length front ∙ us in
-      let ih = down-laid w k labs' M Ls (drop w Y) (omega arith) good.3 (lasting-next labs L (length M))
-      (ap (λ ys. map bare (take w ys)) back ∙ ap (map bare) (take_at N D w nl) ∙ nb)
-      (subst (Arranged w Ls) (sym (ap (drop w) back ∙ drop_at N D w nl ∙ far)) arr.1) in (
+  down-laid zero labs L (M ∷ Ls) xs k good last first_label arr = absurd (omega arith)
+  down-laid (suc k) labs L [] xs e good last first_label arr = absurd (omega arith)
+  down-laid (suc k) labs L (M ∷ Ls) xs e good last first_label arr =
+      let labs' = labels_next by labs L (length M) in
+      let us : length (take by.width xs) ≡ by.width = half-long by.width (record_of_place by L labs []) (take by.width xs) first_label in
+      let N = next_layer by (take by.width xs) (part by.width by.width xs) in
+      let nb : map bare N ≡ table by.width (record_of_place by M labs' []) = next-block by.width by.width (length M) labs L M (take by.width xs) (part by.width by.width xs) last good.0 good.1 good.2 first_label arr.0 in
+      let nl : length N ≡ by.width = half-long by.width (record_of_place by M labs' []) N nb in
+      let Y = layer_done by 0 by.width by.width xs in
+      let D = drop (by.width + length N) xs in
+      let front : take by.width Y ≡ take by.width xs = step-front by.width xs us in
+      let back : drop by.width Y ≡ N ++ D = step_back by.width xs us in
+      let far : D ≡ drop by.width (drop by.width xs) = ap (λ (i : ℕ). drop (by.width + i) xs) nl ∙ sym (drop-drop by.width by.width xs) in
+      let Z = flatDown by k (drop by.width Y) in
+      let same : flatDown by (suc k) xs ≡ take by.width Y ++ Z = down-front by k xs (ap length front ∙ us) in
+      let long : length (take by.width Y) ≡ by.width = ap length front ∙ us in
+      let ih = down-laid k labs' M Ls (drop by.width Y) (omega arith) good.3 (lasting-next labs L (length M))
+      (ap (λ ys. map bare (take by.width ys)) back ∙ ap (map bare) (take_at N D by.width nl) ∙ nb)
+      (subst (Arranged by.width Ls) (sym (ap (drop by.width) back ∙ drop_at N D by.width nl ∙ far)) arr.1) in (
         (
-          ap (λ ys. map bare (take w ys)) same ∙ ap (map bare) (take_at (take w Y) Z w long ∙ front) ∙ first_label,
-          subst (Half w labs' (M ∷ Ls)) (sym (ap (drop w) same ∙ drop_at (take w Y) Z w long)) ih.0,
+          ap (λ ys. map bare (take by.width ys)) same ∙ ap (map bare) (take_at (take by.width Y) Z by.width long ∙ front) ∙ first_label,
+          subst (Half labs' (M ∷ Ls)) (sym (ap (drop by.width) same ∙ drop_at (take by.width Y) Z by.width long)) ih.0,
         ),
-        (let m = suc k * w + 1 in
-            let q = k * w + 1 in
-            let em : suc (suc k) * w + 1 ≡ w + m = omega (arith, suc-mul (suc k) w) in
-            let eq : m ≡ w + q = omega (arith, suc-mul k w) in
-            let et : w + length N + q ≡ suc (suc k) * w + 1 = omega (arith, nl, suc-mul (suc k) w, suc-mul k w) in
-            ap₂ (λ (i : ℕ) ys. drop i ys) em same ∙ sym (drop-drop m w (take w Y ++ Z)) ∙ ap (drop m) (drop_at (take w Y) Z w long) ∙ ih.1
-            ∙ ap₂ (λ (i : ℕ) ys. drop i ys) eq back ∙ sym (drop-drop q w (N ++ D)) ∙ ap (drop q) (drop_at N D w nl) ∙ drop-drop q (w + length N) xs ∙ ap (λ (i : ℕ). drop i xs) et),
+        (let m = suc k * by.width + 1 in
+            let q = k * by.width + 1 in
+            let em : suc (suc k) * by.width + 1 ≡ by.width + m = omega (arith, suc-mul (suc k) by.width) in
+            let eq : m ≡ by.width + q = omega (arith, suc-mul k by.width) in
+            let et : by.width + length N + q ≡ suc (suc k) * by.width + 1 = omega (arith, nl, suc-mul (suc k) by.width, suc-mul k by.width) in
+            ap₂ (λ (i : ℕ) ys. drop i ys) em same ∙ sym (drop-drop m by.width (take by.width Y ++ Z)) ∙ ap (drop m) (drop_at (take by.width Y) Z by.width long) ∙ ih.1
+            ∙ ap₂ (λ (i : ℕ) ys. drop i ys) eq back ∙ sym (drop-drop q by.width (N ++ D)) ∙ ap (drop q) (drop_at N D by.width nl) ∙ drop-drop q (by.width + length N) xs ∙ ap (λ (i : ℕ). drop i xs) et),
       )
 
 -- ---- up
@@ -301,9 +303,9 @@ linked us vs b d x h e q =
       (λ v rest m. let v-is : get_or vs b d ≡ v = cc in let r-is : [] ≡ rest = cc in (sym r-is, subst (λ (y : Node _ _). y.label.up ≡ x) v-is q)),
     )
 
-module _ {S V : Type 0} (r : Round) (R : RuleSense S) (T : TallySense V) (w : ℕ) where
+module _ {S V : Type 0} (by : Setting S V) where
   node-ups : (L : Layer) (Ls : Net) (labs : List (Option (Down S V))) (vs : List (Node S V)) (a : ℕ) → length (node L a) ≤ 16 → ((j b : ℕ) → target (node L a) j ≡ suc b → Linked (ups Ls) vs b)
-      → gathered_up (ups_of vs (record_of_place r R T L labs [] a)) ≡ or_no_up (get_or (ups (L ∷ Ls)) a None)
+      → gathered_up (ups_of vs (record_of_place by L labs [] a)) ≡ or_no_up (get_or (ups (L ∷ Ls)) a None)
   unfolding ups_of up_by ups up climbs_of gather
   node-ups L Ls labs vs a h g =
       let nd = node L a in
@@ -315,127 +317,127 @@ module _ {S V : Type 0} (r : Round) (R : RuleSense S) (T : TallySense V) (w : �
       (λ ge. ap (λ x. or_no_up (gather merge_up (climbs_of climb (ups Ls) 1 x))) (get_or_past L a [] ge) ∙ ap or_no_up (sym (get_or_past (map f L) a None (omega (arith, length-map L f)))))
       (cases_lt a (length L))
 
-  risen-block : (L : Layer) (labs : List (Option (Down S V))) (U : List (Option Up)) (us vs : List (Node S V)) → map bare us ≡ table w (record_of_place r R T L labs [])
-      → ((a : ℕ) → gathered_up (ups_of vs (record_of_place r R T L labs [] a)) ≡ or_no_up (get_or U a None)) → map (risen vs) us ≡ table w (record_of_place r R T L labs U)
+  risen-block : (L : Layer) (labs : List (Option (Down S V))) (U : List (Option Up)) (us vs : List (Node S V)) → map bare us ≡ table by.width (record_of_place by L labs [])
+      → ((a : ℕ) → gathered_up (ups_of vs (record_of_place by L labs [] a)) ≡ or_no_up (get_or U a None)) → map (risen vs) us ≡ table by.width (record_of_place by L labs U)
   unfolding risen ups_of up_by
   risen-block L labs U us vs e g =
-      let many : length us ≡ w = half-long r R T w (record_of_place r R T L labs []) us e in
-      table-list w (record_of_place r R T L labs U) (map (risen vs) us) (length-map us (risen vs) ∙ many)
+      let many : length us ≡ by.width = half-long by by.width (record_of_place by L labs []) us e in
+      table-list by.width (record_of_place by L labs U) (map (risen vs) us) (length-map us (risen vs) ∙ many)
       (λ a d h.
       let z = get_or us a d in
-      let is : bare z ≡ record_of_place r R T L labs [] a =
-      sym (get_or-map bare us a d (record_of_place r R T L labs [] a) (omega (arith, many))) ∙ ap (λ xs. get_or xs a (record_of_place r R T L labs [] a)) e ∙ table_at w a (record_of_place r R T L labs []) (record_of_place r R T L labs [] a) h in
+      let is : bare z ≡ record_of_place by L labs [] a =
+      sym (get_or-map bare us a d (record_of_place by L labs [] a) (omega (arith, many))) ∙ ap (λ xs. get_or xs a (record_of_place by L labs [] a)) e ∙ table_at by.width a (record_of_place by L labs []) (record_of_place by L labs [] a) h in
       get_or-map (risen vs) us a d d (omega (arith, many))
       ∙ ap (λ (y : Node S V). with_up y (gathered_up (ups_of vs y))) is
-      ∙ ap (with_up (record_of_place r R T L labs [] a)) (g a))
+      ∙ ap (with_up (record_of_place by L labs [] a)) (g a))
 
-  up_first : (us Z vs : List (Node S V)) (m : ℕ) → length us ≡ w → take m Z ≡ vs → layer_up 0 w w m (us ++ Z) ≡ map (risen vs) us ++ Z
+  up_first : (us Z vs : List (Node S V)) (m : ℕ) → length us ≡ by.width → take m Z ≡ vs → layer_up 0 by.width by.width m (us ++ Z) ≡ map (risen vs) us ++ Z
   unfolding layer_up
   up_first us Z vs m e t =
-      ap₂ (λ a b. over 0 (map (risen a) b) (us ++ Z)) (ap (take m) (drop_at us Z w e) ∙ t) (take_at us Z w e)
+      ap₂ (λ a b. over 0 (map (risen a) b) (us ++ Z)) (ap (take m) (drop_at us Z by.width e) ∙ t) (take_at us Z by.width e)
       ∙ ap (λ (k : ℕ). map (risen vs) us ++ drop k (us ++ Z)) (zero-add (length (map (risen vs) us)) ∙ length-map us (risen vs) ∙ e)
-      ∙ ap (λ ys. map (risen vs) us ++ ys) (drop_at us Z w e)
+      ∙ ap (λ ys. map (risen vs) us ++ ys) (drop_at us Z by.width e)
 
-  up-laid : (k : ℕ) (labs : List (Option (Down S V))) (L : Layer) (Ls : Net) (ys : List (Node S V)) → length Ls ≡ k → Good w (L ∷ Ls) → IsTied (L ∷ Ls) → Half r R T w labs (L ∷ Ls) ys
-      → flatUp w k ys ≡ labelled_from r R T w labs (L ∷ Ls) ++ drop (suc k * w + 1) ys
+  up-laid : (k : ℕ) (labs : List (Option (Down S V))) (L : Layer) (Ls : Net) (ys : List (Node S V)) → length Ls ≡ k → Good by.width (L ∷ Ls) → IsTied (L ∷ Ls) → Half by labs (L ∷ Ls) ys
+      → flatUp by.width k ys ≡ labelled_from by labs (L ∷ Ls) ++ drop (suc k * by.width + 1) ys
   unfolding labelled_from ups up
   up-laid zero labs L [] ys e good tied half =
-      let labs' = labels_next r R T labs L 1 in
-      let us = take w ys in
-      let many : length us ≡ w = half-long r R T w (record_of_place r R T L labs []) us half.0 in
-      let E = table 1 (record_of_place r R T [] labs' []) in
-      let rest = drop (w + 1) ys in
-      let cleared : end_cleared w ys ≡ us ++ (E ++ rest) = ap (λ b. take w ys ++ (b ++ drop (w + length b) ys)) half.1 in
-      let last : suc 0 * w + 1 ≡ w + 1 = omega (arith, suc-mul 0 w, zero-mul w) in
-      up-last w ys ∙ ap (layer_up 0 w w 1) cleared
+      let labs' = labels_next by labs L 1 in
+      let us = take by.width ys in
+      let many : length us ≡ by.width = half-long by by.width (record_of_place by L labs []) us half.0 in
+      let E = table 1 (record_of_place by [] labs' []) in
+      let rest = drop (by.width + 1) ys in
+      let cleared : end_cleared by.width ys ≡ us ++ (E ++ rest) = ap (λ b. take by.width ys ++ (b ++ drop (by.width + length b) ys)) half.1 in
+      let last : suc 0 * by.width + 1 ≡ by.width + 1 = omega (arith, suc-mul 0 by.width, zero-mul by.width) in
+      up-last by.width ys ∙ ap (layer_up 0 by.width by.width 1) cleared
       ∙ up_first us (E ++ rest) E 1 many (take_at E rest 1 refl)
       ∙ ap (λ xs. xs ++ (E ++ rest)) (risen-block L labs (ups (L ∷ [])) us E half.0 (λ a. node-ups L [] labs E a (good.0 a) (λ j b t. let z : b ≡ 0 = omega (arith, tied a j b t) in
-      linked (ups []) E b (blank_node r R T) no_up (omega (arith, z)) (ap (λ (i : ℕ). get_or {A = Option Up} (Some no_up ∷ []) i None) z) (ap (λ (i : ℕ). (get_or E i (blank_node r R T)).label.up) z))))
-      ∙ sym (append_assoc (table w (record_of_place r R T L labs (ups (L ∷ [])))) E rest)
-      ∙ ap (λ (i : ℕ). (table w (record_of_place r R T L labs (ups (L ∷ []))) ++ E) ++ drop i ys) (sym last)
+      linked (ups []) E b (blank_node by.rule by.tally) no_up (omega (arith, z)) (ap (λ (i : ℕ). get_or {A = Option Up} (Some no_up ∷ []) i None) z) (ap (λ (i : ℕ). (get_or E i (blank_node by.rule by.tally)).label.up) z))))
+      ∙ sym (append_assoc (table by.width (record_of_place by L labs (ups (L ∷ [])))) E rest)
+      ∙ ap (λ (i : ℕ). (table by.width (record_of_place by L labs (ups (L ∷ []))) ++ E) ++ drop i ys) (sym last)
   up-laid zero labs L (M ∷ Ls) ys e good tied half = absurd (omega arith)
   up-laid (suc k) labs L [] ys e good tied half = absurd (omega arith)
   up-laid (suc k) labs L (M ∷ Ls) ys e good tied half =
-      let labs' = labels_next r R T labs L (length M) in
-      let us = take w ys in
-      let zs = drop w ys in
-      let many : length us ≡ w = half-long r R T w (record_of_place r R T L labs []) us half.0 in
+      let labs' = labels_next by labs L (length M) in
+      let us = take by.width ys in
+      let zs = drop by.width ys in
+      let many : length us ≡ by.width = half-long by by.width (record_of_place by L labs []) us half.0 in
       let U = ups (M ∷ Ls) in
-      let VS = table w (record_of_place r R T M labs' U) in
-      let X = labelled_from r R T w (labels_next r R T labs' M (width Ls)) Ls in
-      let later = drop (suc k * w + 1) zs in
-      let ih : flatUp w k zs ≡ (VS ++ X) ++ later = up-laid k labs' M Ls zs (omega arith) good.3 tied.3 half.1 in
-      let front : take w ((VS ++ X) ++ later) ≡ VS = ap (take w) (append_assoc VS X later) ∙ take_at VS (X ++ later) w (table-long w (record_of_place r R T M labs' U)) in
-      let end : later ≡ drop (suc (suc k) * w + 1) ys = let p : w + (suc k * w + 1) ≡ suc (suc k) * w + 1 = omega (arith, suc-mul (suc k) w) in drop-drop (suc k * w + 1) w ys ∙ ap (λ (i : ℕ). drop i ys) p in
-      ap (flatUp w (suc k)) (sym (take-append-drop w ys))
-      ∙ up-front w k us zs many
-      ∙ ap (λ x. layer_up 0 w w w (us ++ x)) ih
-      ∙ up_first us ((VS ++ X) ++ later) VS w many front
+      let VS = table by.width (record_of_place by M labs' U) in
+      let X = labelled_from by (labels_next by labs' M (width Ls)) Ls in
+      let later = drop (suc k * by.width + 1) zs in
+      let ih : flatUp by.width k zs ≡ (VS ++ X) ++ later = up-laid k labs' M Ls zs (omega arith) good.3 tied.3 half.1 in
+      let front : take by.width ((VS ++ X) ++ later) ≡ VS = ap (take by.width) (append_assoc VS X later) ∙ take_at VS (X ++ later) by.width (table-long by.width (record_of_place by M labs' U)) in
+      let end : later ≡ drop (suc (suc k) * by.width + 1) ys = let p : by.width + (suc k * by.width + 1) ≡ suc (suc k) * by.width + 1 = omega (arith, suc-mul (suc k) by.width) in drop-drop (suc k * by.width + 1) by.width ys ∙ ap (λ (i : ℕ). drop i ys) p in
+      ap (flatUp by.width (suc k)) (sym (take-append-drop by.width ys))
+      ∙ up-front by.width k us zs many
+      ∙ ap (λ x. layer_up 0 by.width by.width by.width (us ++ x)) ih
+      ∙ up_first us ((VS ++ X) ++ later) VS by.width many front
       ∙ ap (λ x. x ++ ((VS ++ X) ++ later)) (risen-block L labs (ups (L ∷ M ∷ Ls)) us VS half.0 (λ a. node-ups L (M ∷ Ls) labs VS a (good.0 a) (λ j b t.
       let lt : b < length M = tied.0 a j b t in
-      let room : b < w = omega (arith, good.3.1) in
+      let room : b < by.width = omega (arith, good.3.1) in
       let x = ups-full M Ls tied.2 tied.3 b lt in
-      linked U VS b (blank_node r R T) x.0 (omega (arith, table-long w (record_of_place r R T M labs' U))) x.1
-      (ap (λ (v : Node S V). v.label.up) (table_at w b (record_of_place r R T M labs' U) (blank_node r R T) room) ∙ ap or_no_up x.1))))
-      ∙ sym (append_assoc (table w (record_of_place r R T L labs (ups (L ∷ M ∷ Ls)))) (VS ++ X) later)
-      ∙ ap (λ x. (table w (record_of_place r R T L labs (ups (L ∷ M ∷ Ls))) ++ (VS ++ X)) ++ x) end
+      linked U VS b (blank_node by.rule by.tally) x.0 (omega (arith, table-long by.width (record_of_place by M labs' U))) x.1
+      (ap (λ (v : Node S V). v.label.up) (table_at by.width b (record_of_place by M labs' U) (blank_node by.rule by.tally) room) ∙ ap or_no_up x.1))))
+      ∙ sym (append_assoc (table by.width (record_of_place by L labs (ups (L ∷ M ∷ Ls)))) (VS ++ X) later)
+      ∙ ap (λ x. (table by.width (record_of_place by L labs (ups (L ∷ M ∷ Ls))) ++ (VS ++ X)) ++ x) end
 
   -- ---- both passes
-  first_block : (L : Layer) (us : List (Node S V)) → map arcs_of us ≡ table w (arcs_at L) → map bare (first_layer r R T us) ≡ table w (record_of_place r R T L (first_labels r R T) [])
+  first_block : (L : Layer) (us : List (Node S V)) → map arcs_of us ≡ table by.width (arcs_at L) → map bare (first_layer by.rule by.tally us) ≡ table by.width (record_of_place by L (first_labels by.rule by.tally) [])
   first_block L us e =
-      let many : length us ≡ w = sym (length-map us arcs_of) ∙ ap length e ∙ table-long w (arcs_at L) in
-      table-list w (record_of_place r R T L (first_labels r R T) []) (map bare (first_layer r R T us)) (length-map (first_layer r R T us) bare ∙ first-long r R T us ∙ many)
+      let many : length us ≡ by.width = sym (length-map us arcs_of) ∙ ap length e ∙ table-long by.width (arcs_at L) in
+      table-list by.width (record_of_place by L (first_labels by.rule by.tally) []) (map bare (first_layer by.rule by.tally us)) (length-map (first_layer by.rule by.tally us) bare ∙ first-long by.rule by.tally us ∙ many)
       (λ a d h.
-      let arcs : (get_or us a (blank_node r R T)).arcs ≡ arcs_at L a =
-      sym (get_or-map arcs_of us a (blank_node r R T) (arcs_at L a) (omega (arith, many))) ∙ ap (λ xs. get_or xs a (arcs_at L a)) e ∙ table_at w a (arcs_at L) (arcs_at L a) h in
-      at_first us a d (omega (arith, many)) ∙ ap (λ (x : Arcs). record { arcs = x; label = record { down = or_blank r R T (get_or (first_labels r R T) a None); up = no_up } }) arcs)
+      let arcs : (get_or us a (blank_node by.rule by.tally)).arcs ≡ arcs_at L a =
+      sym (get_or-map arcs_of us a (blank_node by.rule by.tally) (arcs_at L a) (omega (arith, many))) ∙ ap (λ xs. get_or xs a (arcs_at L a)) e ∙ table_at by.width a (arcs_at L) (arcs_at L a) h in
+      at_first us a d (omega (arith, many)) ∙ ap (λ (x : Arcs). record { arcs = x; label = record { down = or_blank by.rule by.tally (get_or (first_labels by.rule by.tally) a None); up = no_up } }) arcs)
     where
-      at_rest : (us : List (Node S V)) (a : ℕ) (d : Node S V) → a < length us → get_or (map bare (map (cleared r R T) us)) a d ≡ record { arcs = (get_or us a (blank_node r R T)).arcs; label = record { down = blank r R T; up = no_up } }
+      at_rest : (us : List (Node S V)) (a : ℕ) (d : Node S V) → a < length us → get_or (map bare (map (cleared by.rule by.tally) us)) a d ≡ record { arcs = (get_or us a (blank_node by.rule by.tally)).arcs; label = record { down = blank_label by.rule by.tally; up = no_up } }
       at_rest [] a d h = absurd (omega arith)
       at_rest (u ∷ us) zero d h = refl
       at_rest (u ∷ us) (suc a) d h = at_rest us a d (omega arith)
 
-      at_first : (us : List (Node S V)) (a : ℕ) (d : Node S V) → a < length us → get_or (map bare (first_layer r R T us)) a d ≡ record { arcs = (get_or us a (blank_node r R T)).arcs; label = record { down = or_blank r R T (get_or (first_labels r R T) a None); up = no_up } }
+      at_first : (us : List (Node S V)) (a : ℕ) (d : Node S V) → a < length us → get_or (map bare (first_layer by.rule by.tally us)) a d ≡ record { arcs = (get_or us a (blank_node by.rule by.tally)).arcs; label = record { down = or_blank by.rule by.tally (get_or (first_labels by.rule by.tally) a None); up = no_up } }
       at_first [] a d h = absurd (omega arith)
       at_first (u ∷ us) zero d h = refl
       at_first (u ∷ us) (suc a) d h = at_rest us a d (omega arith)
 
-  lasting-firsts : Lasting r R T (first_labels r R T)
-  lasting-firsts zero l e = let is : first_label r R T ≡ l = cc in subst (λ (y : Down S V). eqb y.lasts 0 ≡ false) is refl
+  lasting-firsts : Lasting by (first_labels by.rule by.tally)
+  lasting-firsts zero l e = let is : first_label by.rule by.tally ≡ l = cc in subst (λ (y : Down S V). eqb y.lasts 0 ≡ false) is refl
   lasting-firsts (suc a) l e = let z : ◌≡◌ {A = ℕ} 0 1 = cc in absurd (omega arith)
 
-  pub relabelled-laid : (k : ℕ) (L : Layer) (Ls : Net) (xs : List (Node S V)) → r.n ≡ suc k → length Ls ≡ k → Good w (L ∷ Ls) → IsTied (L ∷ Ls) → Arranged w (L ∷ Ls) xs
-      → relabelled r R T w xs ≡ labelled_records r R T w (L ∷ Ls) ++ drop (r.n * w + 1) xs
+  pub relabelled-laid : (k : ℕ) (L : Layer) (Ls : Net) (xs : List (Node S V)) → by.round.n ≡ suc k → length Ls ≡ k → Good by.width (L ∷ Ls) → IsTied (L ∷ Ls) → Arranged by.width (L ∷ Ls) xs
+      → relabelled by xs ≡ labelled_records by (L ∷ Ls) ++ drop (by.round.n * by.width + 1) xs
   unfolding relabelled labelled_records begun
   relabelled-laid k L Ls xs en el good tied arr =
-      let us = take w xs in
-      let many : length us ≡ w = sym (length-map us arcs_of) ∙ ap length arr.0 ∙ table-long w (arcs_at L) in
-      let F = first_layer r R T us in
-      let long : length F ≡ w = first-long r R T us ∙ many in
-      let B = begun r R T w xs in
-      let is : B ≡ F ++ drop w xs = ap (λ (i : ℕ). F ++ drop i xs) (zero-add (length F) ∙ long) in
-      let front : map bare (take w B) ≡ table w (record_of_place r R T L (first_labels r R T) []) = ap (λ ys. map bare (take w ys)) is ∙ ap (map bare) (take_at F (drop w xs) w long) ∙ first_block L us arr.0 in
-      let back : drop w B ≡ drop w xs = ap (drop w) is ∙ drop_at F (drop w xs) w long in
-      let d = down-laid r R T w k (first_labels r R T) L Ls B el good lasting-firsts front (subst (Arranged w Ls) (sym back) arr.1) in
-      let m = suc k * w + 1 in
-      let q = k * w + 1 in
-      let em : m ≡ w + q = omega (arith, suc-mul k w) in
-      let tail : drop m B ≡ drop m xs = ap (λ (i : ℕ). drop i B) em ∙ sym (drop-drop q w B) ∙ ap (drop q) back ∙ drop-drop q w xs ∙ ap (λ (i : ℕ). drop i xs) (sym em) in
-      ap₂ (λ (n : ℕ) ys. pass_up n w ys) en (down_is r R T w k xs en)
-      ∙ up_is w (suc k) k (flatDown r R T w k B) refl
-      ∙ up-laid k (first_labels r R T) L Ls (flatDown r R T w k B) el good tied d.0
-      ∙ ap (λ ys. labelled_from r R T w (first_labels r R T) (L ∷ Ls) ++ ys) (d.1 ∙ tail ∙ ap (λ (n : ℕ). drop (n * w + 1) xs) (sym en))
+      let us = take by.width xs in
+      let many : length us ≡ by.width = sym (length-map us arcs_of) ∙ ap length arr.0 ∙ table-long by.width (arcs_at L) in
+      let F = first_layer by.rule by.tally us in
+      let long : length F ≡ by.width = first-long by.rule by.tally us ∙ many in
+      let B = begun by.rule by.tally by.width xs in
+      let is : B ≡ F ++ drop by.width xs = ap (λ (i : ℕ). F ++ drop i xs) (zero-add (length F) ∙ long) in
+      let front : map bare (take by.width B) ≡ table by.width (record_of_place by L (first_labels by.rule by.tally) []) = ap (λ ys. map bare (take by.width ys)) is ∙ ap (map bare) (take_at F (drop by.width xs) by.width long) ∙ first_block L us arr.0 in
+      let back : drop by.width B ≡ drop by.width xs = ap (drop by.width) is ∙ drop_at F (drop by.width xs) by.width long in
+      let d = down-laid by k (first_labels by.rule by.tally) L Ls B el good lasting-firsts front (subst (Arranged by.width Ls) (sym back) arr.1) in
+      let m = suc k * by.width + 1 in
+      let q = k * by.width + 1 in
+      let em : m ≡ by.width + q = omega (arith, suc-mul k by.width) in
+      let tail : drop m B ≡ drop m xs = ap (λ (i : ℕ). drop i B) em ∙ sym (drop-drop q by.width B) ∙ ap (drop q) back ∙ drop-drop q by.width xs ∙ ap (λ (i : ℕ). drop i xs) (sym em) in
+      ap₂ (λ (n : ℕ) ys. pass_up n by.width ys) en (down_is by k xs en)
+      ∙ up_is by.width (suc k) k (flatDown by k B) refl
+      ∙ up-laid k (first_labels by.rule by.tally) L Ls (flatDown by k B) el good tied d.0
+      ∙ ap (λ ys. labelled_from by (first_labels by.rule by.tally) (L ∷ Ls) ++ ys) (d.1 ∙ tail ∙ ap (λ (n : ℕ). drop (n * by.width + 1) xs) (sym en))
 
   -- of arcs that a diagram may have
-  pub relabelled-lawful : (Ls : Net) (xs : List (Node S V)) → IsLawful r.n w Ls → Arranged w Ls xs → relabelled r R T w xs ≡ records_with r R T w xs Ls
+  pub relabelled-lawful : (Ls : Net) (xs : List (Node S V)) → IsLawful by.round.n by.width Ls → Arranged by.width Ls xs → relabelled by xs ≡ records_with by xs Ls
   unfolding records_with
-  relabelled-lawful [] xs p arr = let none : 0 ≡ r.n = p.deep in absurd (omega (arith, r.one))
+  relabelled-lawful [] xs p arr = let none : 0 ≡ by.round.n = p.deep in absurd (omega (arith, by.round.one))
   relabelled-lawful (L ∷ Ls) xs p arr =
-      let deep : suc (length Ls) ≡ r.n = p.deep in
-      relabelled-laid (length Ls) L Ls xs (sym deep) refl (good r.n w (L ∷ Ls) r.most p.even p.roomy p.tied) p.tied arr
+      let deep : suc (length Ls) ≡ by.round.n = p.deep in
+      relabelled-laid (length Ls) L Ls xs (sym deep) refl (good by.round.n by.width (L ∷ Ls) by.round.most p.even p.roomy p.tied) p.tied arr
 
   -- the same, of the flat list of arcs
-  pub relabelled-read : (Ls : Net) (xs : List (Node S V)) → IsLawful r.n w Ls → r.n * w + 1 ≤ length xs → arcs_read (take (r.n * w + 1) xs) ≡ laid_arcs w Ls → relabelled r R T w xs ≡ records_with r R T w xs Ls
+  pub relabelled-read : (Ls : Net) (xs : List (Node S V)) → IsLawful by.round.n by.width Ls → by.round.n * by.width + 1 ≤ length xs → arcs_read (take (by.round.n * by.width + 1) xs) ≡ laid_arcs by.width Ls → relabelled by xs ≡ records_with by xs Ls
   relabelled-read Ls xs p h e =
-      let n : length Ls * w + 1 ≡ r.n * w + 1 = ap (λ (k : ℕ). k * w + 1) p.deep in
-      relabelled-lawful Ls xs p (arranged-of w Ls xs (omega (arith, n)) (ap (λ (k : ℕ). arcs_read (take k xs)) n ∙ e))
+      let n : length Ls * by.width + 1 ≡ by.round.n * by.width + 1 = ap (λ (k : ℕ). k * by.width + 1) p.deep in
+      relabelled-lawful Ls xs p (arranged-of by.width Ls xs (omega (arith, n)) (ap (λ (k : ℕ). arcs_read (take k xs)) n ∙ e))

@@ -12,25 +12,25 @@ use Rattle.rules.specs.Rules.{RuleSense}
 use Rattle.tallies.specs.Tallies.{TallySense}
 use Rattle.layers.specs.declared.node.Node.{Node}
 use Rattle.layers.specs.declared.node.Down.{Down}
-use Rattle.layers.specs.Labels.{arrival_over, merge}
-use Rattle.layers.specs.Records.{blank}
+use Rattle.layers.specs.Labels.{arrival_over, merge, blank_label}
 use Rattle.labels.specs.Passes.{arrivals, with_down, blank_node, by_door, from_node, gathered, labelled, next_layer, cleared, taken, landed, hit, crossed, spread}
 use Rattle.labels.proofs.Folds.{folded_keeps, folded-view}
+use Rattle.layers.specs.Settings.{Setting}
 
-module _ {S V : Type 0} (r : Round) (R : RuleSense S) (T : TallySense V) where
+module _ {S V : Type 0} (by : Setting S V) where
   abbrev takes : Node S V → Down S V → Node S V
-  takes v x = with_down v (taken r R T v.label.down x)
+  takes v x = with_down v (taken by.rule by.tally v.label.down x)
 
   -- ---- one place of the targets
-  hit-long : (vs : List (Node S V)) (t : ℕ) (x : Down S V) → length (hit r R T vs t x) ≡ length vs
+  hit-long : (vs : List (Node S V)) (t : ℕ) (x : Down S V) → length (hit by.rule by.tally vs t x) ≡ length vs
   unfolding hit landed
-  hit-long vs t x = cond_both (eqb t 0) vs (landed r R T vs (t - 1) x) (λ ys. length ys ≡ length vs) (λ _. refl) (λ _. length-set vs (t - 1) _)
+  hit-long vs t x = cond_both (eqb t 0) vs (landed by.rule by.tally vs (t - 1) x) (λ ys. length ys ≡ length vs) (λ _. refl) (λ _. length-set vs (t - 1) _)
 
   hit-at : (vs : List (Node S V)) (b t : ℕ) (x : Down S V) → b < length vs
-      → get_or (hit r R T vs t x) b (blank_node r R T) ≡ fold (takes) (get_or vs b (blank_node r R T)) (cond (eqb t (b + 1)) (x ∷ []) [])
+      → get_or (hit by.rule by.tally vs t x) b (blank_node by.rule by.tally) ≡ fold (takes) (get_or vs b (blank_node by.rule by.tally)) (cond (eqb t (b + 1)) (x ∷ []) [])
   unfolding hit landed
   hit-at vs b t x lt =
-      let z = blank_node r R T in
+      let z = blank_node by.rule by.tally in
       let there : ℕ → Node S V = λ i. takes (get_or vs i z) x in
       ⊎_elim
       (λ (e : t ≡ 0).
@@ -47,61 +47,61 @@ module _ {S V : Type 0} (r : Round) (R : RuleSense S) (T : TallySense V) where
       (cases_eq t (b + 1))))
       (cases_eq t 0)
 
-  crossed-long : (u : Node S V) (vs : List (Node S V)) (k : ℕ) → length (crossed r R T u vs k) ≡ length vs
+  crossed-long : (u : Node S V) (vs : List (Node S V)) (k : ℕ) → length (crossed by u vs k) ≡ length vs
   unfolding crossed
-  crossed-long u vs k = hit-long vs (get_or u.arcs.to k 0) (arrival_over r R T u.label.down (k + 1))
+  crossed-long u vs k = hit-long vs (get_or u.arcs.to k 0) (arrival_over by u.label.down (k + 1))
 
-  pub spread-long : (vs : List (Node S V)) (u : Node S V) → length (spread r R T vs u) ≡ length vs
+  pub spread-long : (vs : List (Node S V)) (u : Node S V) → length (spread by vs u) ≡ length vs
   unfolding spread
   spread-long vs u =
-      cond_both (eqb u.label.down.lasts 0) vs (fold (crossed r R T u) vs (range_with_len 0 16)) (λ ys. length ys ≡ length vs) (λ _. refl)
-      (λ _. folded_keeps (λ ys. length ys ≡ length vs) (crossed r R T u) (λ ys k h. crossed-long u ys k ∙ h) vs (range_with_len 0 16) refl)
+      cond_both (eqb u.label.down.lasts 0) vs (fold (crossed by u) vs (range_with_len 0 16)) (λ ys. length ys ≡ length vs) (λ _. refl)
+      (λ _. folded_keeps (λ ys. length ys ≡ length vs) (crossed by u) (λ ys k h. crossed-long u ys k ∙ h) vs (range_with_len 0 16) refl)
 
   spread_at : (b : ℕ) (vs : List (Node S V)) (u : Node S V) → b < length vs
-      → get_or (spread r R T vs u) b (blank_node r R T) ≡ fold (takes) (get_or vs b (blank_node r R T)) (from_node r R T (b + 1) u)
+      → get_or (spread by vs u) b (blank_node by.rule by.tally) ≡ fold (takes) (get_or vs b (blank_node by.rule by.tally)) (from_node by (b + 1) u)
   unfolding spread from_node crossed by_door
   spread_at b vs u lt =
-      let z = blank_node r R T in
-      let doors : get_or (fold (crossed r R T u) vs (range_with_len 0 16)) b z ≡ fold (takes) (get_or vs b z) (flat_map (by_door r R T (b + 1) u) (range_with_len 0 16)) =
-      folded-view (λ ys. b < length ys) (λ ys. get_or ys b z) (crossed r R T u) (takes) (by_door r R T (b + 1) u)
+      let z = blank_node by.rule by.tally in
+      let doors : get_or (fold (crossed by u) vs (range_with_len 0 16)) b z ≡ fold (takes) (get_or vs b z) (flat_map (by_door by (b + 1) u) (range_with_len 0 16)) =
+      folded-view (λ ys. b < length ys) (λ ys. get_or ys b z) (crossed by u) (takes) (by_door by (b + 1) u)
       (λ ys k h. omega (arith, crossed-long u ys k))
-      (λ ys k h. hit-at ys b (get_or u.arcs.to k 0) (arrival_over r R T u.label.down (k + 1)) h)
+      (λ ys k h. hit-at ys b (get_or u.arcs.to k 0) (arrival_over by u.label.down (k + 1)) h)
       vs (range_with_len 0 16) lt in
       ⊎_elim
       (λ e. rw (eq-eqb u.label.down.lasts 0 e) refl)
       (λ n. rw (ne_eqb u.label.down.lasts 0 n) doors)
       (cases_eq u.label.down.lasts 0)
 
-  pub spreads-long : (vs us : List (Node S V)) → length (fold (spread r R T) vs us) ≡ length vs
-  spreads-long vs us = folded_keeps (λ ys. length ys ≡ length vs) (spread r R T) (λ ys u h. spread-long ys u ∙ h) vs us refl
+  pub spreads-long : (vs us : List (Node S V)) → length (fold (spread by) vs us) ≡ length vs
+  spreads-long vs us = folded_keeps (λ ys. length ys ≡ length vs) (spread by) (λ ys u h. spread-long ys u ∙ h) vs us refl
 
   spreads-at : (b : ℕ) (vs us : List (Node S V)) → b < length vs
-      → get_or (fold (spread r R T) vs us) b (blank_node r R T) ≡ fold (takes) (get_or vs b (blank_node r R T)) (arrivals r R T (b + 1) us)
+      → get_or (fold (spread by) vs us) b (blank_node by.rule by.tally) ≡ fold (takes) (get_or vs b (blank_node by.rule by.tally)) (arrivals by (b + 1) us)
   spreads-at b vs us lt =
-      folded-view (λ ys. b < length ys) (λ ys. get_or ys b (blank_node r R T)) (spread r R T) (takes) (from_node r R T (b + 1))
+      folded-view (λ ys. b < length ys) (λ ys. get_or ys b (blank_node by.rule by.tally)) (spread by) (takes) (from_node by (b + 1))
       (λ ys u h. omega (arith, spread-long ys u))
       (λ ys u h. spread_at b ys u h)
       vs us lt
 
   -- ---- what is taken in is what is gathered
-  takes-label : (v : Node S V) (xs : List (Down S V)) → fold (takes) v xs ≡ with_down v (fold (taken r R T) v.label.down xs)
+  takes-label : (v : Node S V) (xs : List (Down S V)) → fold (takes) v xs ≡ with_down v (fold (taken by.rule by.tally) v.label.down xs)
   takes-label v [] = refl
   takes-label v (x ∷ xs) = takes-label (takes v x) xs
 
   pub or_some : (a b : ℕ) → 0 < a → 0 < bit_or a b
   or_some a b h = omega (arith, or_add_and a b, and_le_r a b)
 
-  taken-merged : (got : Down S V) (xs : List (Down S V)) → 0 < got.lasts → fold (taken r R T) got xs ≡ fold (merge r R T) got xs
+  taken-merged : (got : Down S V) (xs : List (Down S V)) → 0 < got.lasts → fold (taken by.rule by.tally) got xs ≡ fold (merge by.rule by.tally) got xs
   unfolding taken merge
   taken-merged got [] h = refl
   taken-merged got (x ∷ xs) h =
-      ap (λ l. fold (taken r R T) l xs) (cond-false (eqb got.lasts 0) x (merge r R T got x) (ne_eqb got.lasts 0 (omega arith)))
-      ∙ taken-merged (merge r R T got x) xs (or_some got.lasts x.lasts h)
+      ap (λ l. fold (taken by.rule by.tally) l xs) (cond-false (eqb got.lasts 0) x (merge by.rule by.tally got x) (ne_eqb got.lasts 0 (omega arith)))
+      ∙ taken-merged (merge by.rule by.tally got x) xs (or_some got.lasts x.lasts h)
 
   abbrev Reached : Down S V → Type 0
   Reached x = 0 < x.lasts
 
-  taken-gathered : (xs : List (Down S V)) → All Reached xs → fold (taken r R T) (blank r R T) xs ≡ gathered r R T xs
+  taken-gathered : (xs : List (Down S V)) → All Reached xs → fold (taken by.rule by.tally) (blank_label by.rule by.tally) xs ≡ gathered by.rule by.tally xs
   unfolding gathered taken
   taken-gathered [] h = refl
   taken-gathered (x ∷ xs) h = taken-merged x xs h.0
@@ -110,23 +110,23 @@ module _ {S V : Type 0} (r : Round) (R : RuleSense S) (T : TallySense V) where
   all-joined P F [] h = tt
   all-joined P F (x ∷ xs) h = All-append P (F x) (flat_map F xs) (h x) (all-joined P F xs h)
 
-  reached : (t : ℕ) (us : List (Node S V)) → All Reached (arrivals r R T t us)
+  reached : (t : ℕ) (us : List (Node S V)) → All Reached (arrivals by t us)
   unfolding from_node by_door arrival_over
   reached t us =
-      all-joined Reached (from_node r R T t) us
-      (λ u. cond_both (eqb u.label.down.lasts 0) [] (flat_map (by_door r R T t u) (range_with_len 0 16)) (All Reached) (λ _. tt)
-      (λ _. all-joined Reached (by_door r R T t u) (range_with_len 0 16)
-      (λ k. cond_both (eqb (get_or u.arcs.to k 0) t) (arrival_over r R T u.label.down (k + 1) ∷ []) [] (All Reached) (λ _. (pow_pos (k + 1), tt)) (λ _. tt))))
+      all-joined Reached (from_node by t) us
+      (λ u. cond_both (eqb u.label.down.lasts 0) [] (flat_map (by_door by t u) (range_with_len 0 16)) (All Reached) (λ _. tt)
+      (λ _. all-joined Reached (by_door by t u) (range_with_len 0 16)
+      (λ k. cond_both (eqb (get_or u.arcs.to k 0) t) (arrival_over by u.label.down (k + 1) ∷ []) [] (All Reached) (λ _. (pow_pos (k + 1), tt)) (λ _. tt))))
 
   -- ---- the whole layer
-  pub spreads-layer : (us vs : List (Node S V)) → fold (spread r R T) (map (cleared r R T) vs) us ≡ next_layer r R T us vs
+  pub spreads-layer : (us vs : List (Node S V)) → fold (spread by) (map (cleared by.rule by.tally) vs) us ≡ next_layer by us vs
   unfolding next_layer labelled
   spreads-layer us vs =
-      let z = blank_node r R T in
-      let vs₀ = map (cleared r R T) vs in
-      fill_by_all (labelled r R T us vs) (fold (spread r R T) vs₀ us) (length vs) z (spreads-long vs₀ us ∙ length-map vs (cleared r R T))
+      let z = blank_node by.rule by.tally in
+      let vs₀ = map (cleared by.rule by.tally) vs in
+      fill_by_all (labelled by us vs) (fold (spread by) vs₀ us) (length vs) z (spreads-long vs₀ us ∙ length-map vs (cleared by.rule by.tally))
       (λ b lt.
-      spreads-at b vs₀ us (omega (arith, length-map vs (cleared r R T)))
-      ∙ ap (λ v. fold (takes) v (arrivals r R T (b + 1) us)) (get_or-map (cleared r R T) vs b z z lt)
-      ∙ takes-label (cleared r R T (get_or vs b z)) (arrivals r R T (b + 1) us)
-      ∙ ap (with_down (get_or vs b z)) (taken-gathered (arrivals r R T (b + 1) us) (reached (b + 1) us)))
+      spreads-at b vs₀ us (omega (arith, length-map vs (cleared by.rule by.tally)))
+      ∙ ap (λ v. fold (takes) v (arrivals by (b + 1) us)) (get_or-map (cleared by.rule by.tally) vs b z z lt)
+      ∙ takes-label (cleared by.rule by.tally (get_or vs b z)) (arrivals by (b + 1) us)
+      ∙ ap (with_down (get_or vs b z)) (taken-gathered (arrivals by (b + 1) us) (reached (b + 1) us)))

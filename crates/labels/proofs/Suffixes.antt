@@ -7,6 +7,7 @@ use Rattle.tallies.specs.Tallies.{TallySense}
 use Rattle.layers.specs.declared.node.Node.{Node}
 use Rattle.layers.specs.Labels.{no_up}
 use Rattle.labels.specs.Passes.{part, over, with_up, next_layer, layer_done, layers_done, begun, pass_down, risen, layer_up, layers_up, end_cleared, pass_up}
+use Rattle.layers.specs.Settings.{Setting}
 
 -- ---- past the first records
 take_past : {X : Type 0} (us : List X) (w k : ℕ) (zs : List X) → length us ≡ w → take (w + k) (us ++ zs) ≡ us ++ take k zs
@@ -39,46 +40,46 @@ first-place : (w : ℕ) → (0 + 1) * w ≡ w
 first-place w = let e : 0 + 1 ≡ 1 = omega arith in ap (λ (k : ℕ). k * w) e ∙ one-mul w
 
 -- ---- down
-module _ {S V : Type 0} (r : Round) (R : RuleSense S) (T : TallySense V) (w : ℕ) where
-  done-past : (us : List (Node S V)) (from count at : ℕ) (zs : List (Node S V)) → length us ≡ w
-      → layer_done r R T w (w + from) count (w + at) (us ++ zs) ≡ us ++ layer_done r R T w from count at zs
+module _ {S V : Type 0} (by : Setting S V) where
+  done-past : (us : List (Node S V)) (from count at : ℕ) (zs : List (Node S V)) → length us ≡ by.width
+      → layer_done by (by.width + from) count (by.width + at) (us ++ zs) ≡ us ++ layer_done by from count at zs
   unfolding layer_done
   done-past us from count at zs e =
-      ap₂ (λ a b. over (w + at) (next_layer r R T a b) (us ++ zs)) (part-past us w from w zs e) (part-past us w at count zs e)
-      ∙ over-past us w at (next_layer r R T (part from w zs) (part at count zs)) zs e
+      ap₂ (λ a b. over (by.width + at) (next_layer by a b) (us ++ zs)) (part-past us by.width from by.width zs e) (part-past us by.width at count zs e)
+      ∙ over-past us by.width at (next_layer by (part from by.width zs) (part at count zs)) zs e
 
-  -- the first layer of w records after the labelled one, and how long it is
+  -- the first layer of by.width records after the labelled one, and how long it is
   abbrev Stepped : List (Node S V) → List (Node S V)
-  Stepped xs = layer_done r R T w 0 w w xs
+  Stepped xs = layer_done by 0 by.width by.width xs
 
-  layers-front : (k : ℕ) (xs : List (Node S V)) → length (take w (Stepped xs)) ≡ w → layers_done r R T w (suc k) xs ≡ take w (Stepped xs) ++ layers_done r R T w k (drop w (Stepped xs))
+  layers-front : (k : ℕ) (xs : List (Node S V)) → length (take by.width (Stepped xs)) ≡ by.width → layers_done by (suc k) xs ≡ take by.width (Stepped xs) ++ layers_done by k (drop by.width (Stepped xs))
   layers-front zero xs e =
-      ap₂ (λ (a b : ℕ). layer_done r R T w a w b xs) (zero-mul w) (first-place w) ∙ sym (take-append-drop w (Stepped xs))
+      ap₂ (λ (a b : ℕ). layer_done by a by.width b xs) (zero-mul by.width) (first-place by.width) ∙ sym (take-append-drop by.width (Stepped xs))
   layers-front (suc k) xs e =
-      ap (layer_done r R T w (suc k * w) w ((suc k + 1) * w)) (layers-front k xs e)
-      ∙ ap₂ (λ (a b : ℕ). layer_done r R T w a w b (take w (Stepped xs) ++ layers_done r R T w k (drop w (Stepped xs)))) (next_place k w) (after-place k w)
-      ∙ done-past (take w (Stepped xs)) (k * w) w ((k + 1) * w) (layers_done r R T w k (drop w (Stepped xs))) e
+      ap (layer_done by (suc k * by.width) by.width ((suc k + 1) * by.width)) (layers-front k xs e)
+      ∙ ap₂ (λ (a b : ℕ). layer_done by a by.width b (take by.width (Stepped xs) ++ layers_done by k (drop by.width (Stepped xs)))) (next_place k by.width) (after-place k by.width)
+      ∙ done-past (take by.width (Stepped xs)) (k * by.width) by.width ((k + 1) * by.width) (layers_done by k (drop by.width (Stepped xs))) e
 
-  -- suc k layers of w records, of which the first is labelled, and the end
+  -- suc k layers of by.width records, of which the first is labelled, and the end
   pub flatDown : ℕ → List (Node S V) → List (Node S V)
-  flatDown k xs = layer_done r R T w (k * w) 1 (suc k * w) (layers_done r R T w k xs)
+  flatDown k xs = layer_done by (k * by.width) 1 (suc k * by.width) (layers_done by k xs)
 
-  pub down-last : (xs : List (Node S V)) → flatDown 0 xs ≡ layer_done r R T w 0 1 w xs
+  pub down-last : (xs : List (Node S V)) → flatDown 0 xs ≡ layer_done by 0 1 by.width xs
   unfolding flatDown
-  down-last xs = ap₂ (λ (a b : ℕ). layer_done r R T w a 1 b xs) (zero-mul w) (one-mul w)
+  down-last xs = ap₂ (λ (a b : ℕ). layer_done by a 1 b xs) (zero-mul by.width) (one-mul by.width)
 
-  pub down-front : (k : ℕ) (xs : List (Node S V)) → length (take w (Stepped xs)) ≡ w → flatDown (suc k) xs ≡ take w (Stepped xs) ++ flatDown k (drop w (Stepped xs))
+  pub down-front : (k : ℕ) (xs : List (Node S V)) → length (take by.width (Stepped xs)) ≡ by.width → flatDown (suc k) xs ≡ take by.width (Stepped xs) ++ flatDown k (drop by.width (Stepped xs))
   unfolding flatDown
   down-front k xs e =
-      ap (layer_done r R T w (suc k * w) 1 (suc (suc k) * w)) (layers-front k xs e)
-      ∙ ap₂ (λ (a b : ℕ). layer_done r R T w a 1 b (take w (Stepped xs) ++ layers_done r R T w k (drop w (Stepped xs)))) (next_place k w) (next_place (suc k) w)
-      ∙ done-past (take w (Stepped xs)) (k * w) 1 (suc k * w) (layers_done r R T w k (drop w (Stepped xs))) e
+      ap (layer_done by (suc k * by.width) 1 (suc (suc k) * by.width)) (layers-front k xs e)
+      ∙ ap₂ (λ (a b : ℕ). layer_done by a 1 b (take by.width (Stepped xs) ++ layers_done by k (drop by.width (Stepped xs)))) (next_place k by.width) (next_place (suc k) by.width)
+      ∙ done-past (take by.width (Stepped xs)) (k * by.width) 1 (suc k * by.width) (layers_done by k (drop by.width (Stepped xs))) e
 
-  pub down_is : (k : ℕ) (xs : List (Node S V)) → r.n ≡ suc k → pass_down r R T w xs ≡ flatDown k (begun r R T w xs)
+  pub down_is : (k : ℕ) (xs : List (Node S V)) → by.round.n ≡ suc k → pass_down by xs ≡ flatDown k (begun by.rule by.tally by.width xs)
   unfolding pass_down flatDown
   down_is k xs e =
-      let p : r.n - 1 ≡ k = omega arith in
-      ap₂ (λ (a b : ℕ). layer_done r R T w (a * w) 1 (b * w) (layers_done r R T w a (begun r R T w xs))) p e
+      let p : by.round.n - 1 ≡ k = omega arith in
+      ap₂ (λ (a b : ℕ). layer_done by (a * by.width) 1 (b * by.width) (layers_done by a (begun by.rule by.tally by.width xs))) p e
 
 -- ---- up
 module _ {S V : Type 0} (w : ℕ) where

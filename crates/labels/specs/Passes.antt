@@ -1,15 +1,14 @@
--- Relabelling as the code does it, in two passes over the records: W records to a layer, 16 doors to a record.
--- What the passes come to is said in crate layers, by the arcs alone.
-use Rattle.std.specs.Prelude.{ℕ, zero, suc, ◌+◌, ◌-◌, ◌*◌, ◌≤◌, Bool, cond, ◌&&◌, List, [], ◌∷◌, ◌++◌, map, length, get_or, take, drop, replicate, Some, None, fold, Option, ◌==◌, nat_le, slice_index, slice_index_or, slice_set}
+-- Relabelling as the code does it, in two passes over the records of any list: so many records to a layer, 16 doors to a record.
+-- Nobody has to believe these steps: on the arcs of a diagram `labelled` of `relabel` says what they come to.
+use Rattle.std.specs.Prelude.{ℕ, zero, suc, ◌+◌, ◌-◌, ◌*◌, ◌≤◌, Bool, if◌then◌else◌, ◌&&◌, List, [], ◌∷◌, ◌++◌, map, length, take, drop, replicate, Some, None, fold, Option, ◌==◌, nat_le, slice_index, slice_index_or, slice_set}
 use Rattle.std.specs.List.{range_with_len, flat_map}
-use Rattle.round.specs.declared.table.Round.{Round}
 use Rattle.rules.specs.Rules.{RuleSense}
 use Rattle.tallies.specs.Tallies.{TallySense}
 use Rattle.layers.specs.declared.node.Node.{Node}
 use Rattle.layers.specs.declared.node.Down.{Down}
 use Rattle.layers.specs.declared.node.Up.{Up}
-use Rattle.layers.specs.Labels.{arrival_over, merge, first_label, climb, merge_up, no_up}
-use Rattle.layers.specs.Records.{blank}
+use Rattle.layers.specs.Settings.{Setting}
+use Rattle.layers.specs.Labels.{arrival_over, merge, first_label, blank_label, climb, merge_up, no_up}
 
 -- ---- parts of the list
 -- `count` records from `at` on, and the records with these overwritten
@@ -30,95 +29,96 @@ with_up x u = record { arcs = x.arcs; label = record { down = x.label.down; up =
 abbrev pub Early : {S V : Type 0} → ℕ → Node S V → Type 0
 Early m u = u.label.down.finish ≤ m
 
-module _ {S V : Type 0} (r : Round) (R : RuleSense S) (T : TallySense V) where
+module _ {S V : Type 0} (rule : RuleSense S) (tally : TallySense V) where
   -- a record of which nothing is known
   abbrev pub blank_node : Node S V
-  blank_node = record { arcs = record { to = replicate 16 0 }; label = record { down = blank r R T; up = no_up } }
+  blank_node = record { arcs = record { to = replicate 16 0 }; label = record { down = blank_label rule tally; up = no_up } }
 
   -- ---- down: what a node gathers
+  -- what a list of arrivals comes to
+  unfoldable pub gathered : List (Down S V) → Down S V
+  unfolding merge
+  gathered [] = blank_label rule tally
+  gathered (x ∷ xs) = fold (merge rule tally) x xs
+
+  abbrev pub cleared : Node S V → Node S V
+  cleared v = with_down v (blank_label rule tally)
+
+  -- the layer of the first node
+  abbrev pub first_layer : List (Node S V) → List (Node S V)
+  first_layer [] = []
+  first_layer (u ∷ us) = with_down u (first_label rule tally) ∷ map cleared us
+
+  unfoldable pub begun : ℕ → List (Node S V) → List (Node S V)
+  begun w xs = over 0 (first_layer (part 0 w xs)) xs
+
+  -- one arrival after another, each added to its target
+  unfoldable pub taken : Down S V → Down S V → Down S V
+  unfolding merge
+  taken got x = if got.lasts == 0 then x else merge rule tally got x
+
+  unfoldable pub landed : List (Node S V) → ℕ → Down S V → List (Node S V)
+  unfolding taken
+  landed vs b x = slice_set vs b (with_down (slice_index_or vs b blank_node) (taken (slice_index_or vs b blank_node).label.down x))
+
+  -- at the target t; 0 is none, and past the last too
+  unfoldable pub hit : List (Node S V) → ℕ → Down S V → List (Node S V)
+  unfolding landed
+  hit vs t x = if t == 0 then vs else landed vs (t - 1) x
+
+module _ {S V : Type 0} (by : Setting S V) where
   -- the arrival over one door, if its arc goes to the target t
   unfoldable pub by_door : ℕ → Node S V → ℕ → List (Down S V)
   unfolding arrival_over
-  by_door t u k = cond (slice_index u.arcs.to k == t) (arrival_over r R T u.label.down (k + 1) ∷ []) []
+  by_door t u k = if slice_index u.arcs.to k == t then arrival_over by u.label.down (k + 1) ∷ [] else []
 
   -- the arrivals from one record, by door; one that is not in use has none
   unfoldable pub from_node : ℕ → Node S V → List (Down S V)
   unfolding by_door
-  from_node t u = cond (u.label.down.lasts == 0) [] (flat_map (by_door t u) (range_with_len 0 16))
+  from_node t u = if u.label.down.lasts == 0 then [] else flat_map (by_door t u) (range_with_len 0 16)
 
   -- the arrivals at the target t out of the records us, by source number, then by door
   abbrev pub arrivals : ℕ → List (Node S V) → List (Down S V)
   arrivals t us = flat_map (from_node t) us
 
-  -- what a list of arrivals comes to
-  unfoldable pub gathered : List (Down S V) → Down S V
-  unfolding merge
-  gathered [] = blank r R T
-  gathered (x ∷ xs) = fold (merge r R T) x xs
-
   -- record b of the layer vs, with the label that it gathers out of the layer us before it
   unfoldable pub labelled : List (Node S V) → List (Node S V) → ℕ → Node S V
   unfolding gathered from_node
-  labelled us vs b = with_down (slice_index_or vs b blank_node) (gathered (arrivals (b + 1) us))
+  labelled us vs b = with_down (slice_index_or vs b (blank_node by.rule by.tally)) (gathered by.rule by.tally (arrivals (b + 1) us))
 
   unfoldable pub next_layer : List (Node S V) → List (Node S V) → List (Node S V)
   unfolding labelled
   next_layer us vs = map (labelled us vs) (range_with_len 0 (length vs))
 
-  -- `count` records at `at`, labelled out of the w records at `from`
-  unfoldable pub layer_done : ℕ → ℕ → ℕ → ℕ → List (Node S V) → List (Node S V)
+  -- `count` records at `at`, labelled out of a layer of records at `from`
+  unfoldable pub layer_done : ℕ → ℕ → ℕ → List (Node S V) → List (Node S V)
   unfolding next_layer
-  layer_done w from count at xs = over at (next_layer (part from w xs) (part at count xs)) xs
-
-  abbrev pub cleared : Node S V → Node S V
-  cleared v = with_down v (blank r R T)
-
-  -- the layer of the first node
-  abbrev pub first_layer : List (Node S V) → List (Node S V)
-  first_layer [] = []
-  first_layer (u ∷ us) = with_down u (first_label r R T) ∷ map cleared us
-
-  unfoldable pub begun : ℕ → List (Node S V) → List (Node S V)
-  begun w xs = over 0 (first_layer (part 0 w xs)) xs
+  layer_done from count at xs = over at (next_layer (part from by.width xs) (part at count xs)) xs
 
   -- layers 1 to i
-  abbrev pub layers_done : ℕ → ℕ → List (Node S V) → List (Node S V)
-  layers_done w zero xs = xs
-  layers_done w (suc i) xs = layer_done w (i * w) w ((i + 1) * w) (layers_done w i xs)
+  abbrev pub layers_done : ℕ → List (Node S V) → List (Node S V)
+  layers_done zero xs = xs
+  layers_done (suc i) xs = layer_done (i * by.width) by.width ((i + 1) * by.width) (layers_done i xs)
 
   -- the whole pass
-  unfoldable pub pass_down : ℕ → List (Node S V) → List (Node S V)
+  unfoldable pub pass_down : List (Node S V) → List (Node S V)
   unfolding layer_done begun
-  pass_down w xs = layer_done w ((r.n - 1) * w) 1 (r.n * w) (layers_done w (r.n - 1) (begun w xs))
-
-  -- ---- down: one arrival after another, each added to its target
-  unfoldable pub taken : Down S V → Down S V → Down S V
-  unfolding merge
-  taken got x = cond (got.lasts == 0) x (merge r R T got x)
-
-  unfoldable pub landed : List (Node S V) → ℕ → Down S V → List (Node S V)
-  unfolding taken
-  landed vs b x = slice_set vs b (with_down (slice_index_or vs b blank_node) (taken (get_or vs b blank_node).label.down x))
-
-  -- at the target t; 0 is none, and past the last too
-  unfoldable pub hit : List (Node S V) → ℕ → Down S V → List (Node S V)
-  unfolding landed
-  hit vs t x = cond (t == 0) vs (landed vs (t - 1) x)
+  pass_down xs = let n = by.round.n in layer_done ((n - 1) * by.width) 1 (n * by.width) (layers_done (n - 1) (begun by.rule by.tally by.width xs))
 
   -- over the door k + 1 of u
   unfoldable pub crossed : Node S V → List (Node S V) → ℕ → List (Node S V)
   unfolding hit arrival_over
-  crossed u vs k = hit vs (slice_index u.arcs.to k) (arrival_over r R T u.label.down (k + 1))
+  crossed u vs k = hit by.rule by.tally vs (slice_index u.arcs.to k) (arrival_over by u.label.down (k + 1))
 
   -- over all doors of u
   unfoldable pub spread : List (Node S V) → Node S V → List (Node S V)
   unfolding crossed
-  spread vs u = cond (u.label.down.lasts == 0) vs (fold (crossed u) vs (range_with_len 0 16))
+  spread vs u = if u.label.down.lasts == 0 then vs else fold (crossed u) vs (range_with_len 0 16)
 
 -- ---- up
 -- the record with the number t, if there is one
 abbrev pub numbered : {X : Type 0} → ℕ → List X → List X
-numbered t vs = cond (t == 0) [] (take 1 (drop (t - 1) vs))
+numbered t vs = if t == 0 then [] else take 1 (drop (t - 1) vs)
 
 -- what a list of those comes to
 unfoldable pub gathered_up : List Up → Up
@@ -163,10 +163,10 @@ abbrev pub taken_up : Option Up → Up → Option Up
 taken_up None x = Some x
 taken_up (Some a) x = Some (merge_up a x)
 
-module _ {S V : Type 0} (r : Round) (R : RuleSense S) (T : TallySense V) where
-  unfoldable pub relabelled : ℕ → List (Node S V) → List (Node S V)
-  unfolding pass_down pass_up
-  relabelled w xs = pass_up r.n w (pass_down r R T w xs)
+-- both passes
+unfoldable pub relabelled : {S V : Type 0} → Setting S V → List (Node S V) → List (Node S V)
+unfolding pass_down pass_up
+relabelled by xs = pass_up by.round.n by.width (pass_down by xs)
 
 -- a list of that length has room for a diagram of n doors and width w
 abbrev pub fits : ℕ → ℕ → ℕ → Bool

@@ -1,6 +1,5 @@
 //! A place that is not in use.
 ghost use Rattle.std.specs.Prelude.{◌≡◌};
-ghost use Rattle.round.specs.declared.table.Round.{Round as ARound};
 ghost use Rattle.labels.specs.Passes.{blank_node};
 
 use layers::node::{Arcs, Down, Label, Node, Up};
@@ -9,8 +8,7 @@ use tallies::tally::Tally;
 
 /// No arcs, empty sets, finish 0, and the starts of rule and tally.
 pub fn blank_node<R: Rule, T: Tally>(rule: &R, tally: &T) -> Node<R::State, T::Value>
-    ensures { (r : ARound)
-        → result ≡ blank_node r (R.Rule.sense rule.now) (T.Tally.sense tally.now) }
+    ensures { result ≡ blank_node (R.sense rule.now) (T.sense tally.now) }
 {
     let state = rule.start();
     let value = tally.start();

@@ -2,32 +2,30 @@
 ghost use Rattle.std.specs.Prelude.{◌≡◌, ℕ, ◌+◌, ◌*◌, ◌<◌, ◌≤◌, map, length, get_or, slice_index_or};
 ghost use Rattle.std.specs.List.{AllByRecursion};
 ghost use Rattle.round.specs.Clock.{latest};
-ghost use Rattle.round.specs.declared.table.Round.{Round as ARound};
 ghost use Rattle.layers.specs.declared.node.Node.{Node as ANode};
-ghost use Rattle.layers.specs.Labels.{arrival_over, merge, first_label};
-ghost use Rattle.layers.specs.Records.{blank};
+ghost use Rattle.layers.specs.Labels.{arrival_over, merge, first_label, blank_label};
+ghost use Rattle.layers.specs.Settings.{lent_setting};
 ghost use Rattle.labels.specs.Passes.{part, over, Early, cleared, first_layer, begun, layer_done, pass_down, landed, crossed, spread};
 
 use crate::leg::leg_from;
 use layers::node::{Down, Node};
-use round::table::Round;
+use layers::setting::Setting;
 use rules::rule::Rule;
 use tallies::tally::Tally;
 
 /// What the arc by door j brings from a node with the label u.
 pub(crate) fn arrive<R: Rule, T: Tally>(
-    round: &Round,
-    rule: &R,
-    tally: &T,
+    by: &Setting<'_, R, T>,
     u: &Down<R::State, T::Value>,
     j: usize,
 ) -> Down<R::State, T::Value>
     requires j_bound { j < 17 }
     requires finish_bound { u.now.finish ≤ latest 15 }
-    ensures { result ≡ arrival_over round.now (R.Rule.sense rule.now) (T.Tally.sense tally.now) u.now j }
+    ensures { let by = lent_setting by.now (R.sense by.now.rule.now) (T.sense by.now.tally.now) in
+        result ≡ arrival_over by u.now j }
 {
-    let leg = leg_from(round, u.lasts, j);
-    let minute = round.finish(u.finish, leg, j);
+    let leg = leg_from(by.round, u.lasts, j);
+    let minute = by.round.finish(u.finish, leg, j);
     let finish = minute as u32;
     let bit = 1u32 << j;
     Down {
@@ -35,8 +33,8 @@ pub(crate) fn arrive<R: Rule, T: Tally>(
         some: u.some | bit,
         finish,
         lasts: bit,
-        state: rule.step(u.state, j),
-        value: tally.step(u.value, j, leg, finish),
+        state: by.rule.step(u.state, j),
+        value: by.tally.step(u.value, j, leg, finish),
     }
 }
 
@@ -47,8 +45,7 @@ fn merge<R: Rule, T: Tally>(
     a: &Down<R::State, T::Value>,
     b: &Down<R::State, T::Value>,
 ) -> Down<R::State, T::Value>
-    ensures { (r : ARound)
-        → result ≡ merge r (R.Rule.sense rule.now) (T.Tally.sense tally.now) a.now b.now }
+    ensures { result ≡ merge (R.sense rule.now) (T.sense tally.now) a.now b.now }
 {
     Down {
         all: a.all & b.all,
@@ -69,8 +66,7 @@ fn land<R: Rule, T: Tally>(
     x: &Down<R::State, T::Value>,
 )
     requires { b < length vs.old }
-    ensures { (r : ARound)
-        → vs.new ≡ landed r (R.Rule.sense rule.now) (T.Tally.sense tally.now) vs.old b x.now }
+    ensures { vs.new ≡ landed (R.sense rule.now) (T.sense tally.now) vs.old b x.now }
 {
     let got = vs[b].label.down;
     let down = if got.lasts == 0 {
@@ -83,49 +79,45 @@ fn land<R: Rule, T: Tally>(
 
 /// Over the arc of u by the door k + 1, if there is one.
 fn cross<R: Rule, T: Tally>(
-    round: &Round,
-    rule: &R,
-    tally: &T,
+    by: &Setting<'_, R, T>,
     u: &Node<R::State, T::Value>,
     vs: &mut [Node<R::State, T::Value>],
     k: usize,
 )
     requires k_bound { k < 16 }
     requires finish_bound { u.now.label.down.finish ≤ latest 15 }
-    ensures { vs.new ≡ crossed round.now (R.Rule.sense rule.now) (T.Tally.sense tally.now) u.now
-        vs.old k }
+    ensures { let by = lent_setting by.now (R.sense by.now.rule.now) (T.sense by.now.tally.now) in
+        vs.new ≡ crossed by u.now vs.old k }
 {
     let t = u.arcs.to[k] as usize;
     if t == 0 || t > vs.len() {
         return;
     }
-    let x = arrive(round, rule, tally, &u.label.down, k + 1);
-    land(rule, tally, vs, t - 1, &x);
+    let x = arrive(by, &u.label.down, k + 1);
+    land(by.rule, by.tally, vs, t - 1, &x);
 }
 
 /// Over all arcs of u.
 fn spread_node<R: Rule, T: Tally>(
-    round: &Round,
-    rule: &R,
-    tally: &T,
+    by: &Setting<'_, R, T>,
     u: &Node<R::State, T::Value>,
     vs: &mut [Node<R::State, T::Value>],
 )
     requires { u.now.label.down.finish ≤ latest 15 }
-    ensures { vs.new ≡ spread round.now (R.Rule.sense rule.now) (T.Tally.sense tally.now) vs.old
-        u.now }
+    ensures { let by = lent_setting by.now (R.sense by.now.rule.now) (T.sense by.now.tally.now) in
+        vs.new ≡ spread by vs.old u.now }
 {
     if u.label.down.lasts == 0 {
         return;
     }
     for k in 0..16 {
-        cross(round, rule, tally, u, vs, k);
+        cross(by, u, vs, k);
     }
 }
 
 /// The label of a place that is not in use.
 fn unreached<R: Rule, T: Tally>(rule: &R, tally: &T) -> Down<R::State, T::Value>
-    ensures { (r : ARound) → result ≡ blank r (R.Rule.sense rule.now) (T.Tally.sense tally.now) }
+    ensures { result ≡ blank_label (R.sense rule.now) (T.sense tally.now) }
 {
     Down {
         all: 0,
@@ -138,8 +130,7 @@ fn unreached<R: Rule, T: Tally>(rule: &R, tally: &T) -> Down<R::State, T::Value>
 }
 
 fn clear<R: Rule, T: Tally>(rule: &R, tally: &T, vs: &mut [Node<R::State, T::Value>])
-    ensures { (r : ARound)
-        → vs.new ≡ map (cleared r (R.Rule.sense rule.now) (T.Tally.sense tally.now)) vs.old }
+    ensures { vs.new ≡ map (cleared (R.sense rule.now) (T.sense tally.now)) vs.old }
 {
     let blank = unreached(rule, tally);
     for v in vs.iter_mut() {
@@ -147,34 +138,31 @@ fn clear<R: Rule, T: Tally>(rule: &R, tally: &T, vs: &mut [Node<R::State, T::Val
     }
 }
 
-/// Works out anew the labels of the `count` records from `at` on, from the `width` records at `from`.
+/// Works out anew the labels of the `count` records from `at` on, from the layer of records at `from`.
 fn relabel_layer<R: Rule, T: Tally>(
-    round: &Round,
-    rule: &R,
-    tally: &T,
+    by: &Setting<'_, R, T>,
     nodes: &mut [Node<R::State, T::Value>],
-    width: usize,
     from: usize,
     count: usize,
     at: usize,
 )
-    requires width_bound { from + width ≤ at }
+    requires width_bound { from + by.now.width ≤ at }
     requires count_in_bounds { at + count ≤ length nodes.old }
-    requires all_early { AllByRecursion (Early (latest 15)) (part from width nodes.old) }
-    ensures { nodes.new ≡ layer_done round.now (R.Rule.sense rule.now) (T.Tally.sense tally.now)
-        width from count at nodes.old }
+    requires all_early { AllByRecursion (Early (latest 15)) (part from by.now.width nodes.old) }
+    ensures { let by = lent_setting by.now (R.sense by.now.rule.now) (T.sense by.now.tally.now) in
+        nodes.new ≡ layer_done by from count at nodes.old }
 {
     let (before, rest) = nodes.split_at_mut(at);
     let targets = &mut rest[..count];
-    clear(rule, tally, targets);
-    for a in 0..width {
-        spread_node(round, rule, tally, &before[from + a], targets);
+    clear(by.rule, by.tally, targets);
+    for a in 0..by.width {
+        spread_node(by, &before[from + a], targets);
     }
 }
 
 /// The label of the first node.
 fn at_first<R: Rule, T: Tally>(rule: &R, tally: &T) -> Down<R::State, T::Value>
-    ensures { (r : ARound) → result ≡ first_label r (R.Rule.sense rule.now) (T.Tally.sense tally.now) }
+    ensures { result ≡ first_label (R.sense rule.now) (T.sense tally.now) }
 {
     Down {
         all: 0,
@@ -195,8 +183,7 @@ fn begin<R: Rule, T: Tally>(
 )
     requires width_nonzero { 0 < width }
     requires width_in_bounds { width ≤ length nodes.old }
-    ensures { (r : ARound)
-        → nodes.new ≡ begun r (R.Rule.sense rule.now) (T.Tally.sense tally.now) width nodes.old }
+    ensures { nodes.new ≡ begun (R.sense rule.now) (T.sense tally.now) width nodes.old }
 {
     clear(rule, tally, &mut nodes[..width]);
     nodes[0].label.down = at_first(rule, tally);
@@ -204,40 +191,20 @@ fn begin<R: Rule, T: Tally>(
 
 /// Works out anew all that is worked out from the first node.
 pub(crate) fn label_down<R: Rule, T: Tally>(
-    round: &Round,
-    rule: &R,
-    tally: &T,
+    by: &Setting<'_, R, T>,
     nodes: &mut [Node<R::State, T::Value>],
-    width: usize,
 )
-    requires one_le_width { 1 ≤ width }
-    requires width_bound { width ≤ 128 }
-    requires width_in_bounds { round.now.n * width + 1 ≤ length nodes.old }
-    ensures { nodes.new ≡ pass_down round.now (R.Rule.sense rule.now) (T.Tally.sense tally.now)
-        width nodes.old }
+    requires one_le_width { 1 ≤ by.now.width }
+    requires width_bound { by.now.width ≤ 128 }
+    requires width_in_bounds { by.now.round.now.n * by.now.width + 1 ≤ length nodes.old }
+    ensures { let by = lent_setting by.now (R.sense by.now.rule.now) (T.sense by.now.tally.now) in
+        nodes.new ≡ pass_down by nodes.old }
 {
-    let n = round.n;
-    begin(rule, tally, nodes, width);
+    let n = by.round.n;
+    let width = by.width;
+    begin(by.rule, by.tally, nodes, width);
     for i in 0..n - 1 {
-        relabel_layer(
-            round,
-            rule,
-            tally,
-            nodes,
-            width,
-            i * width,
-            width,
-            (i + 1) * width,
-        );
+        relabel_layer(by, nodes, i * width, width, (i + 1) * width);
     }
-    relabel_layer(
-        round,
-        rule,
-        tally,
-        nodes,
-        width,
-        (n - 1) * width,
-        1,
-        n * width,
-    );
+    relabel_layer(by, nodes, (n - 1) * width, 1, n * width);
 }

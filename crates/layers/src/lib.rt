@@ -6,3 +6,4 @@ pub mod claim;
 pub mod node;
 pub mod refined;
 pub mod refusal;
+pub mod setting;

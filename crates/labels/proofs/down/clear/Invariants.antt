@@ -1,7 +1,6 @@
 use Rattle.std.proofs.Common.{◌≡◌, ◌++◌, map, take, drop}
-use Rattle.round.specs.declared.table.Round.{Round}
 use Rattle.labels.specs.Passes.{cleared}
 use Rattle.labels.proofs.down.clear.Given as goal
 
 abbrev pub invariant-loop-v : goal.invariant-loop-v
-invariant-loop-v g l = (r : Round) → l.vs ≡ map (cleared r (g.R.Rule.sense l.rule) (g.T.Tally.sense l.tally)) (take l.v-index l.initial.vs) ++ drop l.v-index l.initial.vs
+invariant-loop-v g l = l.vs ≡ map (cleared (g.R.Rule.sense l.rule) (g.T.Tally.sense l.tally)) (take l.v-index l.initial.vs) ++ drop l.v-index l.initial.vs

@@ -1,4 +1,5 @@
 use Rattle.std.proofs.Common.{◌-◌, get_or, sym, ap, ◌∙◌, arith}
+use Rattle.layers.specs.Settings.{lent_setting}
 use Rattle.std.proofs.lemmas.Bool.{eq-eqb, ne_eqb}
 use Rattle.std.proofs.lemmas.List.{set_past}
 use Rattle.labels.specs.Passes.{landed, hit, crossed}
@@ -19,9 +20,7 @@ returns-then-t-eq0 g c =
 pub returns : goal.returns
 unfolding crossed hit
 returns g c =
-    let r = c.args.round.now in
-    let R = g.R.Rule.sense c.args.rule.now in
-    let T = g.T.Tally.sense c.args.tally.now in
+    let by = lent_setting c.args.by.now (g.R.Rule.sense c.args.by.now.rule.now) (g.T.Tally.sense c.args.by.now.tally.now) in
     let t = get_or c.args.u.now.arcs.to c.args.k 0 in
     let e = ne_eqb t 0 c.if-t-eq0.false in
-    rw e (c.land.ensures r ∙ ap (landed r R T c.args.vs.now (t - 1)) c.arrive-x.ensures)
+    rw e (c.land.ensures ∙ ap (landed by.rule by.tally c.args.vs.now (t - 1)) c.arrive-x.ensures)

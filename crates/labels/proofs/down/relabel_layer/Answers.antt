@@ -1,4 +1,5 @@
 use Rattle.std.proofs.Common.{◌≡◌, ◌+◌, ◌<◌, ◌++◌, map, length, get_or, take, drop, fold, sym, ap, ◌∙◌, subst, ap₂, arith, rules}
+use Rattle.layers.specs.Settings.{lent_setting}
 use Rattle.std.proofs.lemmas.List.Sums.{fold_more}
 use Rattle.std.proofs.ByRecursion.{All-get_or}
 use Rattle.std.proofs.lemmas.List.{length-map, length-take-le, take_all, drop-drop}
@@ -20,7 +21,7 @@ pub spread_node-requires : goal.spread_node-requires
 spread_node-requires g c =
     let xs = c.args.nodes.now in
     let from = c.args.from in
-    let w = c.args.width in
+    let w = c.args.by.now.width in
     let a = c.loop-a.a in
     let before = c.split_at_mut-before.result.0.now in
     let d = c.index-before-from.result in
@@ -31,10 +32,10 @@ spread_node-requires g c =
 
 pub loop-a-preserved : goal.loop-a-preserved
 loop-a-preserved g c =
-    let f = spread c.args.round.now (g.R.Rule.sense c.args.rule.now) (g.T.Tally.sense c.args.tally.now) in
+    let f = spread (lent_setting c.args.by.now (g.R.Rule.sense c.args.by.now.rule.now) (g.T.Tally.sense c.args.by.now.tally.now)) in
     let xs = c.args.nodes.now in
     let from = c.args.from in
-    let w = c.args.width in
+    let w = c.args.by.now.width in
     let a = c.loop-a.a in
     let before = c.split_at_mut-before.result.0.now in
     let d = c.index-before-from.result in
@@ -48,26 +49,23 @@ loop-a-preserved g c =
 pub returns : goal.returns
 unfolding layer_done
 returns g c =
-    let r = c.args.round.now in
-    let R = g.R.Rule.sense c.args.rule.now in
-    let T = g.T.Tally.sense c.args.tally.now in
-    let f = spread r R T in
+    let by = lent_setting c.args.by.now (g.R.Rule.sense c.args.by.now.rule.now) (g.T.Tally.sense c.args.by.now.tally.now) in
+    let f = spread by in
     let xs = c.args.nodes.now in
     let at = c.args.at in
     let n = c.args.count in
     let from = c.args.from in
-    let w = c.args.width in
     let before = c.split_at_mut-before.result.0.now in
     let rest = c.split_at_mut-before.result.1.now in
-    let us = part from w xs in
+    let us = part from by.width xs in
     let vs = part at n xs in
-    let done = next_layer r R T us vs in
+    let done = next_layer by us vs in
     let front : before ≡ take at xs = cc in
     let back : rest ≡ drop at xs = cc in
-    let sources : part from w before ≡ us = ap (part from w) front ∙ part-front from w at xs (omega arith) in
-    let all : take c.loop-a.a (part from w before) ≡ us = take_all c.loop-a.a (part from w before) (omega (arith, ap length sources, length_part from w xs (omega arith))) ∙ sources in
-    let targets : c.clear.new.vs ≡ map (cleared r R T) vs = c.clear.ensures r ∙ ap (λ ys. map (cleared r R T) (take n ys)) back in
-    let gathered : c.loop-a.targets ≡ done = c.loop-a.invariant ∙ ap₂ (fold f) targets all ∙ spreads-layer r R T us vs in
+    let sources : part from by.width before ≡ us = ap (part from by.width) front ∙ part-front from by.width at xs (omega arith) in
+    let all : take c.loop-a.a (part from by.width before) ≡ us = take_all c.loop-a.a (part from by.width before) (omega (arith, ap length sources, length_part from by.width xs (omega arith))) ∙ sources in
+    let targets : c.clear.new.vs ≡ map (cleared by.rule by.tally) vs = c.clear.ensures ∙ ap (λ ys. map (cleared by.rule by.tally) (take n ys)) back in
+    let gathered : c.loop-a.targets ≡ done = c.loop-a.invariant ∙ ap₂ (fold f) targets all ∙ spreads-layer by us vs in
     let long : length done ≡ n =
-    sym (ap length (spreads-layer r R T us vs)) ∙ spreads-long r R T (map (cleared r R T) vs) us ∙ length-map vs (cleared r R T) ∙ length_part at n xs (omega arith) in
+    sym (ap length (spreads-layer by us vs)) ∙ spreads-long by (map (cleared by.rule by.tally) vs) us ∙ length-map vs (cleared by.rule by.tally) ∙ length_part at n xs (omega arith) in
     ap₂ (λ ys zs. ys ++ zs) front (ap₂ (λ ys zs. ys ++ zs) gathered (ap (drop n) back ∙ drop-drop n at xs ∙ ap (λ k. drop (at + k) xs) (sym long)))

@@ -1,4 +1,5 @@
 use Rattle.std.proofs.Common.{◌≡◌, fold, sym, ap, ◌∙◌, arith}
+use Rattle.layers.specs.Settings.{lent_setting}
 use Rattle.std.specs.List.{range_with_len}
 use Rattle.std.proofs.lemmas.Bool.{eq-eqb, ne_eqb}
 use Rattle.labels.specs.Passes.{crossed, spread}
@@ -11,13 +12,13 @@ returns-then-u-eq0 g c = let e = eq-eqb _ 0 c.if-u-eq0.true in rw e
 
 pub loop-k-preserved : goal.loop-k-preserved
 loop-k-preserved g c =
-    let f = crossed c.args.round.now (g.R.Rule.sense c.args.rule.now) (g.T.Tally.sense c.args.tally.now) c.args.u.now in
+    let f = crossed (lent_setting c.args.by.now (g.R.Rule.sense c.args.by.now.rule.now) (g.T.Tally.sense c.args.by.now.tally.now)) c.args.u.now in
     c.cross.ensures ∙ ap (λ ys. f ys c.loop-k.k) c.loop-k.invariant ∙ sym (folded-counting f c.args.vs.now c.loop-k.k)
 
 pub returns : goal.returns
 unfolding spread
 returns g c =
-    let f = crossed c.args.round.now (g.R.Rule.sense c.args.rule.now) (g.T.Tally.sense c.args.tally.now) c.args.u.now in
+    let f = crossed (lent_setting c.args.by.now (g.R.Rule.sense c.args.by.now.rule.now) (g.T.Tally.sense c.args.by.now.tally.now)) c.args.u.now in
     let all : c.loop-k.k ≡ 16 = omega arith in
     let e = ne_eqb _ 0 c.if-u-eq0.false in
     rw e (c.loop-k.invariant ∙ ap (λ k. fold f c.args.vs.now (range_with_len 0 k)) all)

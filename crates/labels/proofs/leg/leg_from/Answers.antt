@@ -1,30 +1,26 @@
-use Rattle.std.proofs.Common.{◌≡◌, ℕ, ◌+◌, Bool, true, false, not, ◌&&◌, Some, None, fold, Option, sym, refl, ap, ◌∙◌, ap₂, arith, eq-eqb, ne_eqb, eqb}
+use Rattle.std.proofs.Common.{◌≡◌, ℕ, ◌+◌, Bool, true, false, cond, not, ◌&&◌, Some, None, fold, Option, sym, refl, ap, ◌∙◌, ap₂, arith, eq-eqb, ne_eqb, eqb}
 use Rattle.std.specs.List.{range_with_len}
 use Rattle.std.specs.Option.{unwrap_or}
 use Rattle.doors.specs.Sets.{has}
 use Rattle.round.specs.declared.table.Round.{Round}
 use Rattle.round.specs.Clock.{drive}
-use Rattle.layers.specs.Labels.{nearest, nearest_if, leg_step, or_zero, leg}
+use Rattle.layers.specs.Labels.{nearest, leg_step, leg}
 use Rattle.labels.proofs.Folds.{folded-counting}
 use Rattle.labels.proofs.leg.leg_from.Goals as goal
 use Rattle.labels.proofs.leg.leg_from.Goals.{then-contains+then-i-j, else-contains, else-contains-via-then-contains+else-i-j, else-contains-via-else-contains}
 
-or_zero_is : (o : Option ℕ) → unwrap_or o 0 ≡ or_zero o
-or_zero_is None = refl
-or_zero_is (Some d) = refl
-
 module _ (r : Round) (m j : ℕ) (o : Option ℕ) (i : ℕ) where
   came : has m i ≡ true → (i ≡ j → ⊥) → nearest o (drive r i j) ≡ leg_step r m j o i
   unfolding leg_step
-  came h ne = ap₂ (λ (a b : Bool). nearest_if (a && not b) o (drive r i j)) (sym h) (sym (ne_eqb i j ne))
+  came h ne = ap₂ (λ (a b : Bool). cond (a && not b) (nearest o (drive r i j)) o) (sym h) (sym (ne_eqb i j ne))
 
   stayed : has m i ≡ true → i ≡ j → o ≡ leg_step r m j o i
   unfolding leg_step
-  stayed h e = ap₂ (λ (a b : Bool). nearest_if (a && not b) o (drive r i j)) (sym h) (sym (eq-eqb i j e))
+  stayed h e = ap₂ (λ (a b : Bool). cond (a && not b) (nearest o (drive r i j)) o) (sym h) (sym (eq-eqb i j e))
 
   absent : has m i ≡ false → o ≡ leg_step r m j o i
   unfolding leg_step
-  absent h = ap (λ (a : Bool). nearest_if (a && not (eqb i j)) o (drive r i j)) (sym h)
+  absent h = ap (λ (a : Bool). cond (a && not (eqb i j)) (nearest o (drive r i j)) o) (sym h)
 
 pub loop-i-preserved : goal.loop-i-preserved
 loop-i-preserved c =
@@ -50,4 +46,4 @@ unfolding leg
 returns c =
     let f = leg_step c.args.round.now c.args.lasts c.args.j in
     let all : c.loop-i.i ≡ c.args.round.now.n + 1 = omega arith in
-    c.unwrap_or.ensures ∙ or_zero_is c.loop-i.best ∙ ap or_zero (c.loop-i.invariant ∙ ap (λ k. fold f None (range_with_len 0 k)) all)
+    c.unwrap_or.ensures ∙ ap (λ o. unwrap_or o 0) (c.loop-i.invariant ∙ ap (λ k. fold f None (range_with_len 0 k)) all)

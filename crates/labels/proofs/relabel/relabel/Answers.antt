@@ -1,4 +1,5 @@
 use Rattle.std.proofs.Common.{◌≡◌, true, false, length, sym, ap, ◌∙◌, arith}
+use Rattle.layers.specs.Settings.{lent_setting}
 use Rattle.std.proofs.lemmas.Bool.{cond-true, cond-false}
 use Rattle.labels.specs.Passes.{fits, pass_up, relabelled}
 use Rattle.labels.proofs.Laying.{relabelled-read}
@@ -18,26 +19,13 @@ label_up-requires g c =
 pub returns-then-has_room : goal.returns-then-has_room
 unfolding relabelled
 returns-then-has_room g c =
-    let w = c.args.width in
-    let r = c.args.round.now in
     let xs = c.args.nodes.now in
-    let R = g.R.Rule.sense c.args.rule.now in
-    let T = g.T.Tally.sense c.args.tally.now in
-    let is : c.label_up.new.nodes ≡ relabelled r R T w xs = c.label_up.ensures ∙ ap (pass_up r.n w) c.label_down.ensures in
-    let f = room-facts _ _ _ (sym c.if-has_room.ensures) in
-    let yes : fits r.n w (length xs) ≡ true = room-from r.n w (length xs) f.low f.high (omega (arith, f.enough)) in
-    record {
-      passes = is ∙ sym (cond-true (fits r.n w (length xs)) _ _ yes);
-      labelled = λ Ls a b h p e. is ∙ relabelled-read r R T w Ls xs p h e;
-    }
+    let by = lent_setting c.args.by.now (g.R.Rule.sense c.args.by.now.rule.now) (g.T.Tally.sense c.args.by.now.tally.now) in
+    let is : c.label_up.new.nodes ≡ relabelled by xs = c.label_up.ensures ∙ ap (pass_up by.round.n by.width) c.label_down.ensures in
+    let yes : fits by.round.n by.width (length xs) ≡ true = sym c.if-has_room.ensures in
+    record { passes = is ∙ sym (cond-true (fits by.round.n by.width (length xs)) _ _ yes); labelled = λ Ls f p e. is ∙ relabelled-read by Ls xs p (room-facts _ _ _ f).enough e }
 
 pub returns-else-has_room : goal.returns-else-has_room
 returns-else-has_room g c =
-    let w = c.args.width in
-    let n = c.args.round.now.n in
-    let long = length c.args.nodes.now in
-    let no' : fits n w long ≡ false = sym c.if-has_room.ensures in
-    record {
-      passes = sym (cond-false (fits n w long) _ _ no');
-      labelled = λ Ls a b h p e. let yes = room-from n w long a b h in cc (yes, no');
-    }
+    let no' : fits c.args.by.now.round.now.n c.args.by.now.width (length c.args.nodes.now) ≡ false = sym c.if-has_room.ensures in
+    record { passes = sym (cond-false (fits c.args.by.now.round.now.n c.args.by.now.width (length c.args.nodes.now)) _ _ no'); labelled = λ Ls f p e. cc (f, no') }
