@@ -2,10 +2,8 @@
 use Rattle.std.proofs.Common.{◌≡◌, ℕ, true, eqb, List, [], ◌∷◌, sym, refl, ap, ◌∙◌, inl, inr, arith}
 use lib.Bits.{bit_and, bit_or, and_self, or_self}
 use Rattle.std.proofs.lemmas.Bool.{eqb-true, eq-eqb, and_parts}
-use Rattle.round.specs.declared.table.Round.{Round}
 use Rattle.round.specs.Clock.{finish}
-use Rattle.rules.specs.Rules.{RuleLaws, RuleSense}
-use Rattle.tallies.specs.Tallies.{TallySense}
+use Rattle.rules.specs.Rules.{RuleLaws}
 use Rattle.layers.specs.Labels.{bit_of, leg, arrival_over, merge, agree, agrees_with_all, all_agree}
 use Rattle.layers.proofs.Flows.{Among}
 use Rattle.layers.specs.Settings.{Setting}

@@ -1,20 +1,17 @@
 -- What stands in records that were laid: their arcs can be read back, and the labels that stand are those worked out from the arcs.
-use Rattle.std.proofs.Common.{◌≡◌, ℕ, zero, suc, ◌+◌, ◌-◌, ◌*◌, ◌<◌, ◌≤◌, Bool, true, false, cond, not, ◌&&◌, eqb, List, [], ◌∷◌, ◌++◌, map, length, get_or, take, drop, Some, None, Option, sym, refl, ap, ◌∙◌, ap₂, append_assoc, le_of_suc-le-suc, not-suc-le-zero, suc-mul, zero-mul, arith, length-append}
+use Rattle.std.proofs.Common.{◌≡◌, ℕ, zero, suc, ◌+◌, ◌*◌, ◌<◌, ◌≤◌, Bool, true, false, cond, not, ◌&&◌, eqb, List, [], ◌∷◌, ◌++◌, map, length, get_or, take, drop, Some, None, Option, sym, refl, ap, ◌∙◌, ap₂, append_assoc, le_of_suc-le-suc, not-suc-le-zero, suc-mul, zero-mul, arith, length-append}
 use Rattle.std.proofs.lemmas.Bool.{ne_eqb}
 use Rattle.std.proofs.lemmas.List.{drop_at}
 use Rattle.doors.specs.Sets.{has}
-use Rattle.round.specs.declared.table.Round.{Round}
-use Rattle.rules.specs.Rules.{RuleSense}
-use Rattle.tallies.specs.Tallies.{TallySense}
 use Rattle.layers.specs.declared.node.Node.{Node}
 use Rattle.layers.specs.declared.node.Up.{Up}
 use Rattle.layers.specs.Flow.{table, Outs, Layer, Net, node, target, width, each_door, each_node, redirect, every_door, every_arc, arrivals_at, gather, next, up, end_label, IsLed, IsTied, IsRoomy}
-use Rattle.layers.specs.Labels.{first_label, first_labels, arrival_over, merge, labels_next, no_up, ups, is_barred, is_above_ceiling, all_agree}
+use Rattle.layers.specs.Labels.{first_label, first_labels, arrival_over, merge, labels_next, no_up, ups, all_agree}
 use Rattle.layers.specs.Records.{is_used, nodes_in, layers, arcs_in, downs_in, ups_in, arcs_of_layers, padded_targets, record_of_place, labelled_from, labelled_records}
-use Rattle.layers.specs.Calls.{unbarred_arcs, affordable_arcs, arrivals, parted_arcs, places_agree, in_arcs_agree, nothing_barred, value_in, labels_in, LayerLabels}
+use Rattle.layers.specs.Calls.{places_agree, in_arcs_agree, value_in, labels_in, LayerLabels, kept_arcs, keeps_all_arcs}
 use Rattle.layers.proofs.Flows.{ins-from, next-some, next-at, gather-all, table_at, has-arc}
 use Rattle.layers.proofs.Sets.{or_left, one-self, none_has}
-use Rattle.layers.proofs.Model.{sweeps, cuts, part_at, one_group, agrees, quiet, valueO, or_blank, or_no_up, labels_at}
+use Rattle.layers.proofs.Model.{kept, labels_from, one_group, agrees, valueO, or_blank, or_no_up, labels_at}
 use Rattle.layers.proofs.Lively.{labels_full, ups-full}
 use Rattle.layers.specs.Settings.{Setting}
 use Rattle.layers.specs.declared.node.Down.{Down}
@@ -244,37 +241,31 @@ module _ {S V : Type 0} (by : Setting S V) (w : 1 ≤ by.width) where
   abbrev pub Standing : Labs → Net → List (LayerLabels S V)
   Standing labs Ls = labels_in (stood labs Ls)
 
-  pub thinned-stood : (i : ℕ) (labs : Labs) (Ls : Net) → Full labs Ls → unbarred_arcs by.round by.rule i Ls (Standing labs Ls) ≡ sweeps by i labs Ls
-  unfolding unbarred_arcs
-  thinned-stood i labs [] f = refl
-  thinned-stood i labs (L ∷ Ls) f =
-      let labs' = labels_next by labs L (width Ls) in
-      let Q : Labs → ℕ → ℕ → Option Up → ℕ → ℕ = λ x a j u b. cond (is_barred by.round by.rule i (suc (length Ls)) j (get_or x a None) u) 0 (suc b) in
-      let F : Labs → List (Option Up) → ℕ → ℕ → ℕ → ℕ = λ x y a j b. Q x a j (get_or y b None) b in
-      ap₂ (λ (x : Layer) (y : Net). x ∷ y)
-      (ap (λ (x : Labs). redirect (F x (ups_in (top labs' Ls))) L) (row-downs labs L Ls f.0)
-      ∙ redirect-cong (F labs (ups_in (top labs' Ls))) (F labs (ups Ls)) L (λ a j b g. ap (λ (u : Option Up). Q labs a j u b) (f.0.tops a j b g)))
-      (thinned-stood (suc i) labs' Ls f.1)
+  -- a filter sees the same labels at each arc
+  module _ (goes : ℕ → ℕ → ℕ → Option (Down S V) → Option Up → Bool) where
+    pub kept-stood : (i : ℕ) (labs : Labs) (Ls : Net) → Full labs Ls → kept_arcs goes i Ls (Standing labs Ls) ≡ kept by goes i labs Ls
+    unfolding kept_arcs
+    kept-stood i labs [] f = refl
+    kept-stood i labs (L ∷ Ls) f =
+        let labs' = labels_next by labs L (width Ls) in
+        let Q : Labs → ℕ → ℕ → Option Up → ℕ → ℕ = λ x a j u b. cond (goes i (suc (length Ls)) j (get_or x a None) u) 0 (suc b) in
+        let F : Labs → List (Option Up) → ℕ → ℕ → ℕ → ℕ = λ x y a j b. Q x a j (get_or y b None) b in
+        ap₂ (λ (x : Layer) (y : Net). x ∷ y)
+        (ap (λ (x : Labs). redirect (F x (ups_in (top labs' Ls))) L) (row-downs labs L Ls f.0)
+        ∙ redirect-cong (F labs (ups_in (top labs' Ls))) (F labs (ups Ls)) L (λ a j b g. ap (λ (u : Option Up). Q labs a j u b) (f.0.tops a j b g)))
+        (kept-stood (suc i) labs' Ls f.1)
 
-  pub quiet-stood : (i : ℕ) (labs : Labs) (Ls : Net) → Full labs Ls → nothing_barred by.round by.rule i Ls (Standing labs Ls) ≡ quiet by i labs Ls
-  unfolding nothing_barred
-  quiet-stood i labs [] f = refl
-  quiet-stood i labs (L ∷ Ls) f =
-      let labs' = labels_next by labs L (width Ls) in
-      let Q : Labs → ℕ → ℕ → Option Up → Bool = λ x a j u. not (is_barred by.round by.rule i (suc (length Ls)) j (get_or x a None) u) in
-      let F : Labs → List (Option Up) → ℕ → ℕ → ℕ → Bool = λ x y a j b. Q x a j (get_or y b None) in
-      ap₂ ◌&&◌
-      (ap (λ (x : Labs). every_arc (F x (ups_in (top labs' Ls))) 0 L) (row-downs labs L Ls f.0)
-      ∙ every_arc-cong (F labs (ups_in (top labs' Ls))) (F labs (ups Ls)) 0 L (λ a j b g. ap (λ (u : Option Up). Q labs (0 + a) j u) (f.0.tops a j b g)))
-      (quiet-stood (suc i) labs' Ls f.1)
-
-  pub trimmed-stood : (c : V) (labs : Labs) (Ls : Net) → Full labs Ls → affordable_arcs by.round by.tally c Ls (Standing labs Ls) ≡ cuts by c labs Ls
-  unfolding affordable_arcs
-  trimmed-stood c labs [] f = refl
-  trimmed-stood c labs (L ∷ Ls) f =
-      ap₂ (λ (x : Layer) (y : Net). x ∷ y)
-      (ap (λ (x : Labs). redirect (λ a j b. cond (is_above_ceiling by.round by.tally c j (get_or x a None)) 0 (suc b)) L) (row-downs labs L Ls f.0))
-      (trimmed-stood c (labels_next by labs L (width Ls)) Ls f.1)
+    pub all-kept-stood : (i : ℕ) (labs : Labs) (Ls : Net) → Full labs Ls → keeps_all_arcs goes i Ls (Standing labs Ls) ≡ keeps_all_arcs goes i Ls (labels_from by labs Ls)
+    unfolding keeps_all_arcs
+    all-kept-stood i labs [] f = refl
+    all-kept-stood i labs (L ∷ Ls) f =
+        let labs' = labels_next by labs L (width Ls) in
+        let Q : Labs → ℕ → ℕ → Option Up → Bool = λ x a j u. not (goes i (suc (length Ls)) j (get_or x a None) u) in
+        let F : Labs → List (Option Up) → ℕ → ℕ → ℕ → Bool = λ x y a j b. Q x a j (get_or y b None) in
+        ap₂ ◌&&◌
+        (ap (λ (x : Labs). every_arc (F x (ups_in (top labs' Ls))) 0 L) (row-downs labs L Ls f.0)
+        ∙ every_arc-cong (F labs (ups_in (top labs' Ls))) (F labs (ups Ls)) 0 L (λ a j b g. ap (λ (u : Option Up). Q labs (0 + a) j u) (f.0.tops a j b g)))
+        (all-kept-stood (suc i) labs' Ls f.1)
 
   pub agrees-stood : (labs : Labs) (Ls : Net) → Full labs Ls → in_arcs_agree by Ls (Standing labs Ls) ≡ agrees by labs Ls
   unfolding in_arcs_agree

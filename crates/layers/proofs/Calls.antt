@@ -3,15 +3,14 @@ use Rattle.std.proofs.Common.{◌≡◌, ℕ, zero, suc, ◌<◌, ◌≤◌, Boo
 use Rattle.doors.specs.Orders.{Door, PartOrder}
 use Rattle.round.proofs.Clocks.{clock-laws}
 use Rattle.round.specs.Clock.{drive}
-use Rattle.round.specs.declared.table.Round.{Round}
-use Rattle.rules.specs.Rules.{RuleLaws, RuleSense}
-use Rattle.tallies.specs.Tallies.{TallyLaws, TallySense}
+use Rattle.rules.specs.Rules.{RuleLaws}
+use Rattle.tallies.specs.Tallies.{TallyLaws}
 use Rattle.orders.specs.Allowed.{Allowed}
 use Rattle.orders.specs.Costs.{Trip, cost, rides, trip_after}
 use Rattle.layers.specs.Flow.{table, Net, node, target, width, PathFrom, clash, joined_arcs, end_label}
-use Rattle.layers.specs.Labels.{arrival_over, merge, first_labels, labels_next, is_above_ceiling, opening_arcs, all_doors}
+use Rattle.layers.specs.Labels.{arrival_over, merge, first_labels, labels_next, is_above_ceiling, opening_arcs, all_doors, ups}
 use Rattle.layers.specs.declared.call.Call.{Call}
-use Rattle.layers.specs.Calls.{EachCut, affordable_arcs}
+use Rattle.layers.specs.Calls.{EachCut, kept_arcs}
 use Rattle.layers.proofs.Flows.{redirect-arc, inside, table_at, tidy-keeps}
 use Rattle.layers.proofs.Ways.{trip-snoc, length-snoc, snoc-assoc}
 use Rattle.layers.proofs.Model.{part_at, one_group, sweep, cuts, cut, after, bound, valueO}
@@ -36,13 +35,13 @@ module _ {S V : Type 0} {Keeps : List ℕ → Type 0} {Stands : S → List ℕ �
       (tallied.step_above (length p) (cost by.round by.tally p) j (drive by.round (trip_after by.round by.tally p).van.last j) (rides by.round by.tally (trip_after by.round by.tally p) j).van.finish facts.2 facts.0 dl (within (length p) _ facts.2 s) t.fine))
       (subst (λ (q : List ℕ). by.tally.not_above (cost by.round by.tally (p ++ (j ∷ []))) (cost by.round by.tally q) ≡ true) (snoc-assoc p w j) rest)
 
-  cuts-keep : (c : V) (p w : List ℕ) (labs : List (Option (Down S V))) (Ls : Net) (a : ℕ) → by.tally.not_above (cost by.round by.tally (p ++ w)) c ≡ true → Going by ruled tallied p w → Told by ruled tallied p
-      → At by ruled tallied labs a p → Good by ruled tallied (length p) labs → Neat by.round.n Ls → PathFrom Ls a w → PathFrom (cuts by c labs Ls) a w
-  unfolding affordable_arcs At arrival_over
-  cuts-keep c p [] labs [] a u g t at good neat q = q
-  cuts-keep c p (j ∷ w) labs [] a u g t at good neat q = absurd q
-  cuts-keep c p [] labs (L ∷ Ls) a u g t at good neat q = absurd q
-  cuts-keep c p (j ∷ w) labs (L ∷ Ls) a u g t at good neat q =
+  cuts-keep : (c : V) (i : ℕ) (p w : List ℕ) (labs : List (Option (Down S V))) (Ls : Net) (a : ℕ) → by.tally.not_above (cost by.round by.tally (p ++ w)) c ≡ true → Going by ruled tallied p w → Told by ruled tallied p
+      → At by ruled tallied labs a p → Good by ruled tallied (length p) labs → Neat by.round.n Ls → PathFrom Ls a w → PathFrom (cuts by c i labs Ls) a w
+  unfolding kept_arcs At arrival_over
+  cuts-keep c i p [] labs [] a u g t at good neat q = q
+  cuts-keep c i p (j ∷ w) labs [] a u g t at good neat q = absurd q
+  cuts-keep c i p [] labs (L ∷ Ls) a u g t at good neat q = absurd q
+  cuts-keep c i p (j ∷ w) labs (L ∷ Ls) a u g t at good neat q =
       let b = q.0 in
       let facts = going-facts by ruled tallied p w j g in
       let g' = going_next by ruled tallied p w j g in
@@ -51,19 +50,19 @@ module _ {S V : Type 0} {Keeps : List ℕ → Type 0} {Stands : S → List ℕ �
       let fits = arrive-fits by ruled tallied at.0 p j at.2 t (unfold Good in (good a at.0 at.1).0) facts.0 facts.2 facts.1 in
       let low : by.tally.not_above (arrival_over by at.0 j).value c ≡ true =
       tallied.order_chain _ (cost by.round by.tally (p ++ (j ∷ []))) c fits.value (tallied.order_chain _ (cost by.round by.tally ((p ++ (j ∷ [])) ++ w)) c (cost-rises (p ++ (j ∷ [])) w g' t') u') in
-      let nd : is_above_ceiling by.round by.tally c j (get_or labs a None) ≡ false = rw at.1 (ap not low) in
+      let nd : is_above_ceiling by.round by.tally c i (suc (length Ls)) j (get_or labs a None) (get_or (ups Ls) b None) ≡ false = rw at.1 (ap not low) in
       let next' = at_next by ruled tallied labs L (width Ls) a j b p q.1 (inside Ls b w q.2) at t good facts.0 facts.2 facts.1 in
       let good' = good-next by ruled tallied (length p) labs L (width Ls) facts.2 good neat.0 in (
         b,
-        redirect-arc (λ a j b. cond (is_above_ceiling by.round by.tally c j (get_or labs a None)) 0 (suc b)) L a j b q.1 ∙ ap (λ (z : Bool). cond z 0 (suc b)) nd,
-        cuts-keep c (p ++ (j ∷ [])) w (labels_next by labs L (width Ls)) Ls b u' g' t' next'
+        redirect-arc (λ a j b. cond (is_above_ceiling by.round by.tally c i (suc (length Ls)) j (get_or labs a None) (get_or (ups Ls) b None)) 0 (suc b)) L a j b q.1 ∙ ap (λ (z : Bool). cond z 0 (suc b)) nd,
+        cuts-keep c (suc i) (p ++ (j ∷ [])) w (labels_next by labs L (width Ls)) Ls b u' g' t' next'
             (rw (length-snoc p j) good') neat.1 q.2,
       )
 
   cut_keeps : (c : V) (w : List ℕ) (Ls : Net) → Allowed by.round Keeps w → by.tally.not_above (cost by.round by.tally w) c ≡ true → Neat by.round.n Ls → PathFrom Ls 0 w → PathFrom (cut by c Ls) 0 w
   unfolding cut
-  cut_keeps c w Ls o u neat q = tidy-keeps (cuts by c (first_labels by.rule by.tally) Ls) w
-      (cuts-keep c [] w (first_labels by.rule by.tally) Ls 0 u (setting-out by ruled tallied w o) (told_none by ruled tallied) (at_first by ruled tallied) (good-first by ruled tallied) neat q)
+  cut_keeps c w Ls o u neat q = tidy-keeps (cuts by c 0 (first_labels by.rule by.tally) Ls) w
+      (cuts-keep c 0 [] w (first_labels by.rule by.tally) Ls 0 u (setting-out by ruled tallied w o) (told_none by ruled tallied) (at_first by ruled tallied) (good-first by ruled tallied) neat q)
 
   -- the label at the end fits an allowed order that is a path
   final-fits : (p w : List ℕ) (labs : List (Option (Down S V))) (Ls : Net) (a : ℕ) → Going by ruled tallied p w → Told by ruled tallied p

@@ -1,18 +1,16 @@
 -- A sweep adds no arc; so refine's last sweeps end with one that answers 0. A tied diagram is left as it is by tidying.
-use Rattle.std.proofs.Common.{◌≡◌, ℕ, zero, suc, ◌+◌, ◌<◌, ◌≤◌, Bool, true, false, cond, not, ◌&&◌, List, [], ◌∷◌, length, get_or, Some, None, Option, refl, ap, ◌∙◌, ap₂, le_of_suc-le-suc, not-suc-le-zero, arith}
-use Rattle.std.proofs.lemmas.Bool.{false≢true, not-true, and_parts}
-use Rattle.round.specs.declared.table.Round.{Round}
-use Rattle.rules.specs.Rules.{RuleSense}
-use Rattle.tallies.specs.Tallies.{TallySense}
+use Rattle.std.proofs.Common.{◌≡◌, ℕ, zero, suc, ◌+◌, ◌<◌, ◌≤◌, Bool, true, false, cond, not, ◌&&◌, eqb, List, [], ◌∷◌, length, get_or, Some, None, Option, refl, ap, ◌∙◌, ap₂, le_of_suc-le-suc, not-suc-le-zero, arith}
+use Rattle.std.proofs.lemmas.Bool.{false≢true, not-true, and_parts, eqb-true, eq-eqb}
 use Rattle.layers.specs.Flow.{Outs, Layer, Net, node, target, width, each_door, each_node, redirect, count_doors, count_layer, count_arcs, every_door, every_arc, up, Mark, marks_next, marks_up, flags, rank, compress, renumber, tidy, tidied_arcs, IsLed, IsTied}
-use Rattle.layers.specs.Labels.{first_labels, labels_next, is_barred, ups}
+use Rattle.layers.specs.Labels.{first_labels, is_barred}
 use Rattle.layers.proofs.Flows.{has-arc, mark-next, flags-at, renumber-at}
-use Rattle.layers.proofs.Model.{sweeps, sweep, settles, settled, agrees, quiet}
+use Rattle.layers.proofs.Model.{labels_from, sweep, settles, settled, agrees, quiet}
 use Rattle.layers.proofs.Exact.{every_arc-at}
 use Rattle.layers.proofs.Tied.{climbs}
 use Rattle.layers.specs.Settings.{Setting}
 use Rattle.layers.specs.declared.node.Down.{Down}
-use Rattle.layers.specs.Calls.{unbarred_arcs, nothing_barred}
+use Rattle.layers.specs.Calls.{LayerLabels, kept_arcs, keeps_all_arcs}
+use Rattle.layers.specs.declared.node.Up.{Up}
 
 count-one : (t : ℕ) (ts : Outs) → count_doors (t ∷ ts) ≤ suc (count_doors ts)
 unfolding count_doors
@@ -54,18 +52,6 @@ tidied-fewer [] = omega arith
 tidied-fewer (L ∷ Ls) =
     let f : ℕ → ℕ → ℕ → ℕ = λ a j b. renumber (flags (marks_next (Some tt ∷ []) L (width Ls)) (marks_up Ls)) b in
     omega (arith, redirect-fewer f L, tidy-fewer (marks_next (Some tt ∷ []) L (width Ls)) Ls)
-
-module _ {S V : Type 0} (by : Setting S V) where
-  sweeps-fewer : (i : ℕ) (labs : List (Option (Down S V))) (Ls : Net) → count_arcs (sweeps by i labs Ls) ≤ count_arcs Ls
-  unfolding count_arcs unbarred_arcs
-  sweeps-fewer i labs [] = omega arith
-  sweeps-fewer i labs (L ∷ Ls) =
-      let f : ℕ → ℕ → ℕ → ℕ = λ a j b. cond (is_barred by.round by.rule i (suc (length Ls)) j (get_or labs a None) (get_or (ups Ls) b None)) 0 (suc b) in
-      omega (arith, redirect-fewer f L, sweeps-fewer (suc i) (labels_next by labs L (width Ls)) Ls)
-
-  pub sweep-fewer : (Ls : Net) → count_arcs (sweep by Ls) ≤ count_arcs Ls
-  unfolding sweep
-  sweep-fewer Ls = omega (arith, tidied-fewer (sweeps by 0 (first_labels by.rule by.tally) Ls), sweeps-fewer 0 (first_labels by.rule by.tally) Ls)
 
 -- ---- tidying leaves a tied diagram as it is
 each_door-same : (f : ℕ → ℕ → ℕ) (j : ℕ) (ts : Outs) → ((k b : ℕ) → get_or ts k 0 ≡ suc b → f (j + k) b ≡ suc b) → each_door f j ts ≡ ts
@@ -177,48 +163,86 @@ layer-quiet t i (nd ∷ L) e =
     let y = nodes-fewer (λ a j b. cond (t a j b) 0 (suc b)) (suc i) L in
     rw (doors-quiet (t i) 1 nd (omega arith)) (layer-quiet t (suc i) L (omega arith))
 
+-- ---- a filter takes out arcs, and where it takes out none, none goes
+pub same_bool : (p q : Bool) → (p ≡ true → q ≡ true) → (q ≡ true → p ≡ true) → p ≡ q
+same_bool p q f g = grind arith
+
+-- a layer of which no arc fails the test stays as it is
+kept-layer : (t : ℕ → ℕ → ℕ → Bool) (L : Layer) → every_arc (λ a j b. not (t a j b)) 0 L ≡ true → redirect (λ a j b. cond (t a j b) 0 (suc b)) L ≡ L
+kept-layer t L e = redirect-same (λ a j b. cond (t a j b) 0 (suc b)) L
+    (λ a j b g. ap (λ (q : Bool). cond q 0 (suc b)) (not-true (t a j b) (every_arc-at (λ a j b. not (t a j b)) 0 L a a j b (omega arith) e g)))
+
+module _ {S V : Type 0} (goes : ℕ → ℕ → ℕ → Option (Down S V) → Option Up → Bool) where
+  -- whether the arc by j from place a to place b goes, with the labels x of a layer i that has h layers of arcs from there on
+  abbrev gone : ℕ → ℕ → LayerLabels S V → ℕ → ℕ → ℕ → Bool
+  gone i h x a j b = goes i h j (get_or x.downs a None) (get_or x.ups b None)
+
+  pub kept-fewer : (i : ℕ) (Ls : Net) (labs : List (LayerLabels S V)) → count_arcs (kept_arcs goes i Ls labs) ≤ count_arcs Ls
+  unfolding count_arcs kept_arcs
+  kept-fewer i [] labs = omega arith
+  kept-fewer i (L ∷ Ls) [] = omega arith
+  kept-fewer i (L ∷ Ls) (x ∷ labs) = omega (arith, redirect-fewer (λ a j b. cond (gone i (suc (length Ls)) x a j b) 0 (suc b)) L, kept-fewer (suc i) Ls labs)
+
+  -- if none goes, the arcs stay as they are
+  pub all-kept : (i : ℕ) (Ls : Net) (labs : List (LayerLabels S V)) → keeps_all_arcs goes i Ls labs ≡ true → kept_arcs goes i Ls labs ≡ Ls
+  unfolding kept_arcs keeps_all_arcs
+  all-kept i [] labs e = refl
+  all-kept i (L ∷ Ls) [] e = refl
+  all-kept i (L ∷ Ls) (x ∷ labs) e =
+      let t = gone i (suc (length Ls)) x in
+      let q = and_parts (every_arc (λ a j b. not (t a j b)) 0 L) (keeps_all_arcs goes (suc i) Ls labs) e in
+      ap₂ (λ (x : Layer) (y : Net). x ∷ y) (kept-layer t L q.0) (all-kept (suc i) Ls labs q.1)
+
+  -- if as many arcs stay, none goes
+  pub none-gone : (i : ℕ) (Ls : Net) (labs : List (LayerLabels S V)) → count_arcs (kept_arcs goes i Ls labs) ≡ count_arcs Ls → keeps_all_arcs goes i Ls labs ≡ true
+  unfolding kept_arcs keeps_all_arcs count_arcs redirect
+  none-gone i [] labs e = refl
+  none-gone i (L ∷ Ls) [] e = refl
+  none-gone i (L ∷ Ls) (l ∷ labs) e =
+      let t : ℕ → ℕ → ℕ → Bool = gone i (suc (length Ls)) l in
+      let x = nodes-fewer (λ a j b. cond (t a j b) 0 (suc b)) 0 L in
+      let y = kept-fewer (suc i) Ls labs in
+      let p : every_arc (λ a j b. not (t a j b)) 0 L ≡ true = layer-quiet t 0 L (omega arith) in
+      rw p (none-gone (suc i) Ls labs (omega arith))
+
+  -- as many arcs stay exactly when none goes
+  pub kept-same : (i : ℕ) (Ls : Net) (labs : List (LayerLabels S V)) → eqb (count_arcs (kept_arcs goes i Ls labs)) (count_arcs Ls) ≡ keeps_all_arcs goes i Ls labs
+  kept-same i Ls labs =
+      let a = count_arcs (kept_arcs goes i Ls labs) in
+      let b = count_arcs Ls in
+      same_bool (eqb a b) (keeps_all_arcs goes i Ls labs) (λ e. none-gone i Ls labs (eqb-true a b e)) (λ e. eq-eqb a b (ap count_arcs (all-kept i Ls labs e)))
+
 -- ---- settled: a sweep would change nothing
 module _ {S V : Type 0} (by : Setting S V) where
-  kept-arcs : (i h : ℕ) (labs : List (Option (Down S V))) (Ls : Net) (L : Layer) → every_arc (λ a j b. not (is_barred by.round by.rule i h j (get_or labs a None) (get_or (ups Ls) b None))) 0 L ≡ true
-      → redirect (λ a j b. cond (is_barred by.round by.rule i h j (get_or labs a None) (get_or (ups Ls) b None)) 0 (suc b)) L ≡ L
-  kept-arcs i h labs Ls L e = redirect-same (λ a j b. cond (is_barred by.round by.rule i h j (get_or labs a None) (get_or (ups Ls) b None)) 0 (suc b)) L (λ a j b g.
-      ap (λ (q : Bool). cond q 0 (suc b)) (not-true (is_barred by.round by.rule i h j (get_or labs a None) (get_or (ups Ls) b None)) (every_arc-at (λ a j b. not (is_barred by.round by.rule i h j (get_or labs a None) (get_or (ups Ls) b None))) 0 L a a j b (omega arith) e g)))
+  abbrev Tests : ℕ → ℕ → ℕ → Option (Down S V) → Option Up → Bool
+  Tests = is_barred by.round by.rule
 
-  quiet_same : (i : ℕ) (labs : List (Option (Down S V))) (Ls : Net) → quiet by i labs Ls ≡ true → sweeps by i labs Ls ≡ Ls
-  unfolding unbarred_arcs nothing_barred
-  quiet_same i labs [] e = refl
-  quiet_same i labs (L ∷ Ls) e =
-      let q = and_parts (every_arc (λ a j b. not (is_barred by.round by.rule i (suc (length Ls)) j (get_or labs a None) (get_or (ups Ls) b None))) 0 L) (quiet by (suc i) (labels_next by labs L (width Ls)) Ls) e in
-      ap₂ (λ (x : Layer) (y : Net). x ∷ y) (kept-arcs i (suc (length Ls)) labs Ls L q.0) (quiet_same (suc i) (labels_next by labs L (width Ls)) Ls q.1)
+  -- the labels worked out for all layers
+  abbrev All : Net → List (LayerLabels S V)
+  All Ls = labels_from by (first_labels by.rule by.tally) Ls
 
-  sweeps-quiet : (i : ℕ) (labs : List (Option (Down S V))) (Ls : Net) → count_arcs (sweeps by i labs Ls) ≡ count_arcs Ls → quiet by i labs Ls ≡ true
-  unfolding unbarred_arcs nothing_barred count_arcs redirect
-  sweeps-quiet i labs [] e = refl
-  sweeps-quiet i labs (L ∷ Ls) e =
-      let t : ℕ → ℕ → ℕ → Bool = λ a j b. is_barred by.round by.rule i (suc (length Ls)) j (get_or labs a None) (get_or (ups Ls) b None) in
-      let x = nodes-fewer (λ a j b. cond (t a j b) 0 (suc b)) 0 L in
-      let y = sweeps-fewer by (suc i) (labels_next by labs L (width Ls)) Ls in
-      let p : every_arc (λ a j b. not (t a j b)) 0 L ≡ true = layer-quiet t 0 L (omega arith) in
-      rw p (sweeps-quiet (suc i) (labels_next by labs L (width Ls)) Ls (omega arith))
+  pub sweep-fewer : (Ls : Net) → count_arcs (sweep by Ls) ≤ count_arcs Ls
+  unfolding sweep
+  sweep-fewer Ls = omega (arith, tidied-fewer (kept_arcs Tests 0 Ls (All Ls)), kept-fewer Tests 0 Ls (All Ls))
 
   -- a sweep that takes out no arc leaves all as it is
   pub sweep-same : (Ls : Net) → width Ls ≡ 1 → IsTied Ls → count_arcs (sweep by Ls) ≡ count_arcs Ls → sweep by Ls ≡ Ls
   unfolding sweep
   sweep-same Ls w t c =
-      let x = tidied-fewer (sweeps by 0 (first_labels by.rule by.tally) Ls) in
-      let y = sweeps-fewer by 0 (first_labels by.rule by.tally) Ls in
-      ap tidied_arcs (quiet_same 0 (first_labels by.rule by.tally) Ls (sweeps-quiet 0 (first_labels by.rule by.tally) Ls (omega arith))) ∙ tidied-same Ls w t
+      let x = tidied-fewer (kept_arcs Tests 0 Ls (All Ls)) in
+      let y = kept-fewer Tests 0 Ls (All Ls) in
+      ap tidied_arcs (all-kept Tests 0 Ls (All Ls) (none-gone Tests 0 Ls (All Ls) (omega arith))) ∙ tidied-same Ls w t
 
   -- settled is yes exactly when the in-arcs agree and a sweep would answer 0
   pub settled-yes : (Ls : Net) → width Ls ≡ 1 → IsTied Ls → settled by Ls ≡ true → (agrees by (first_labels by.rule by.tally) Ls ≡ true) × (sweep by Ls ≡ Ls)
   unfolding settled settles sweep
   settled-yes Ls w t e =
       let p = and_parts (agrees by (first_labels by.rule by.tally) Ls) (quiet by 0 (first_labels by.rule by.tally) Ls) e in
-      (p.0, ap tidied_arcs (quiet_same 0 (first_labels by.rule by.tally) Ls p.1) ∙ tidied-same Ls w t)
+      (p.0, ap tidied_arcs (all-kept Tests 0 Ls (All Ls) p.1) ∙ tidied-same Ls w t)
 
   pub settled-if : (Ls : Net) → agrees by (first_labels by.rule by.tally) Ls ≡ true → count_arcs (sweep by Ls) ≡ count_arcs Ls → settled by Ls ≡ true
   unfolding settled settles sweep
   settled-if Ls a c =
-      let x = tidied-fewer (sweeps by 0 (first_labels by.rule by.tally) Ls) in
-      let y = sweeps-fewer by 0 (first_labels by.rule by.tally) Ls in
-      rw a (sweeps-quiet 0 (first_labels by.rule by.tally) Ls (omega arith))
+      let x = tidied-fewer (kept_arcs Tests 0 Ls (All Ls)) in
+      let y = kept-fewer Tests 0 Ls (All Ls) in
+      rw a (none-gone Tests 0 Ls (All Ls) (omega arith))

@@ -7,9 +7,8 @@ use Rattle.doors.proofs.Orders.{each_none, each_more}
 use Rattle.doors.specs.Orders.{Door, In}
 use Rattle.doors.specs.Sets.{has}
 use Rattle.round.specs.Clock.{door, drive, finish}
-use Rattle.round.specs.declared.table.Round.{Round}
-use Rattle.rules.specs.Rules.{RuleLaws, RuleSense, state_of}
-use Rattle.tallies.specs.Tallies.{TallyLaws, TallySense}
+use Rattle.rules.specs.Rules.{RuleLaws, state_of}
+use Rattle.tallies.specs.Tallies.{TallyLaws}
 use Rattle.orders.proofs.Times.{trip-van}
 use Rattle.orders.specs.Allowed.{Allowed}
 use Rattle.orders.specs.Costs.{Trip, cost, rides, trip_after}
@@ -24,7 +23,7 @@ use Rattle.layers.proofs.Sets.{or_left, or_right, one-self}
 use Rattle.layers.proofs.Ways.{in_split, trip-snoc, state-snoc, length-snoc, snoc-assoc, leg-one}
 use Rattle.layers.proofs.Model.{agrees, quiet, settles, settled, bound, valueO}
 use Rattle.layers.proofs.Walk.{NeatLayer, Neat, neat-door, path-length, Told, told_none, told-next}
-use Rattle.layers.specs.Calls.{places_agree, in_arcs_agree, nothing_barred}
+use Rattle.layers.specs.Calls.{places_agree, in_arcs_agree, keeps_all_arcs}
 use Rattle.layers.specs.Settings.{Setting}
 use Rattle.layers.specs.declared.node.Down.{Down}
 
@@ -157,7 +156,7 @@ module _ {S V : Type 0} {Keeps : List ℕ → Type 0} {Stands : S → List ℕ �
   -- ---- settled
   settles-arc : (i : ℕ) (labs : List (Option (Down S V))) (L : Layer) (Ls : Net) (a j b : ℕ) (l : Down S V) → settles by i labs (L ∷ Ls) ≡ true
       → target (node L a) j ≡ suc b → get_or labs a None ≡ Some l → Clear l j
-  unfolding settles nothing_barred
+  unfolding settles keeps_all_arcs
   settles-arc i labs L Ls a j b l s e g =
       clear i (suc (length Ls)) j l (get_or (ups Ls) b None) (rw (← g) (not-true _ (every_arc-at (λ a j b. not (is_barred by.round by.rule i (suc (length Ls)) j (get_or labs a None) (get_or (ups Ls) b None))) 0 L a a j b (omega arith)
       (and_parts _ _ (and_parts (agrees by labs (L ∷ Ls)) (quiet by i labs (L ∷ Ls)) s).1).0 e)))
@@ -173,7 +172,7 @@ module _ {S V : Type 0} {Keeps : List ℕ → Type 0} {Stands : S → List ℕ �
 
   settles-next : (i : ℕ) (labs : List (Option (Down S V))) (L M : Layer) (Ls : Net) → settles by i labs (L ∷ M ∷ Ls) ≡ true
       → (places_agree by labs L (length M) ≡ true) × (settles by (suc i) (labels_next by labs L (length M)) (M ∷ Ls) ≡ true)
-  unfolding settles in_arcs_agree nothing_barred
+  unfolding settles in_arcs_agree keeps_all_arcs
   settles-next i labs L M Ls s =
       let p = and_parts (agrees by labs (L ∷ M ∷ Ls)) (quiet by i labs (L ∷ M ∷ Ls)) s in
       let q = and_parts (places_agree by labs L (length M)) (agrees by (labels_next by labs L (length M)) (M ∷ Ls)) p.0 in

@@ -1,18 +1,14 @@
 -- What sweep, part, join and cut keep, every list of calls keeps; and no call alters how many layers there are.
 use Rattle.std.proofs.Common.{◌≡◌, ℕ, zero, suc, ◌-◌, ◌<◌, ◌≤◌, min, max, Bool, true, false, List, [], ◌∷◌, length, get_or, Some, Option, refl, ap, arith}
 use Rattle.std.proofs.lemmas.Bool.Decides.{nat_tests}
-use Rattle.round.specs.declared.table.Round.{Round}
-use Rattle.rules.specs.Rules.{RuleSense}
-use Rattle.tallies.specs.Tallies.{TallySense}
 use Rattle.layers.specs.Flow.{Net, node, width, clash, joined_arcs, count_arcs}
-use Rattle.layers.specs.Labels.{first_labels, labels_next}
+use Rattle.layers.specs.Labels.{first_labels}
 use Rattle.layers.specs.declared.call.Call.{Call}
 use Rattle.layers.specs.declared.call.Call.TheVariants.{Sweep, Part, Join, Cut, Refine}
-use Rattle.layers.specs.Calls.{EachCut, unbarred_arcs, affordable_arcs}
-use Rattle.layers.proofs.Model.{part_at, one_group, sweeps, sweep, cuts, cut, bad_layer, part, join, swept, parted, refines, refine, unless, act, after}
+use Rattle.layers.specs.Calls.{EachCut}
+use Rattle.layers.proofs.Model.{part_at, one_group, sweep, cut, bad_layer, part, join, swept, parted, refines, refine, unless, act, after}
 use Rattle.layers.specs.Flow.{Mark, marks_next, tidy, tidied_arcs}
 use Rattle.layers.specs.Settings.{Setting}
-use Rattle.layers.specs.declared.node.Down.{Down}
 
 -- a test with two outcomes keeps what both keep
 pub either : {X : Type 0} (P : X → Type 0) (q : Bool) (x y : X) → (q ≡ true → P x) → (q ≡ false → P y) → P (elim q [ true ↦ x | false ↦ y ])
@@ -94,16 +90,6 @@ join-length zero lo hi (L ∷ M ∷ Ls) = refl
 join-length (suc d) lo hi (L ∷ Ls) = ap suc (join-length d lo hi Ls)
 
 module _ {S V : Type 0} (by : Setting S V) where
-  pub sweeps-length : (i : ℕ) (labs : List (Option (Down S V))) (Ls : Net) → length (sweeps by i labs Ls) ≡ length Ls
-  unfolding unbarred_arcs
-  sweeps-length i labs [] = refl
-  sweeps-length i labs (L ∷ Ls) = ap suc (sweeps-length (suc i) (labels_next by labs L (width Ls)) Ls)
-
-  pub cuts-length : (c : V) (labs : List (Option (Down S V))) (Ls : Net) → length (cuts by c labs Ls) ≡ length Ls
-  unfolding affordable_arcs
-  cuts-length c labs [] = refl
-  cuts-length c labs (L ∷ Ls) = ap suc (cuts-length c (labels_next by labs L (width Ls)) Ls)
-
   module _ where
     pub any-cut : (cs : List (Call V)) → EachCut (λ c. Unit {0}) cs
     any-cut [] = tt

@@ -1,9 +1,7 @@
 -- A key for each node of the first layers, such that every arc leads from key to key: so the in-arcs there agree, whichever arcs go, and however nodes are renumbered or parted.
 use Rattle.std.proofs.Common.{◌≡◌, ℕ, zero, suc, ◌<◌, ◌≤◌, Bool, true, false, cond, ◌&&◌, eqb, List, [], ◌∷◌, ◌++◌, length, get_or, Some, None, Option, sym, refl, ap, ◌∙◌, inl, inr, arith}
 use Rattle.std.proofs.lemmas.Bool.{false≢true, eqb-true, eq-eqb, ne_eqb, and_parts}
-use Rattle.round.specs.declared.table.Round.{Round}
-use Rattle.rules.specs.Rules.{RuleLaws, RuleSense}
-use Rattle.tallies.specs.Tallies.{TallySense}
+use Rattle.rules.specs.Rules.{RuleLaws}
 use Rattle.layers.specs.Flow.{Layer, Net, node, target, width, redirect, arrivals_at, Mark, marks_next, marks_up, flags, rank, compress, renumber, tidy, tidied_arcs, IsTied}
 use Rattle.layers.specs.Labels.{ups, first_label, first_labels, arrival_over, merge, labels_next, is_barred, first_arrival, differs_from_first}
 use Rattle.layers.proofs.Flows.{Among, has-arc, ins-from, next-some, gather-all, compress-at}
@@ -12,7 +10,7 @@ use Rattle.layers.proofs.Model.{sweeps, sweep, part_at, agrees}
 use Rattle.layers.proofs.Tied.{redirect-back, compress-back, renumber-back}
 use Rattle.layers.proofs.Ties.{more-back}
 use Rattle.layers.proofs.Agreeing.{Agree, agree-self, agree-back, agree-merge, agree-arrive, by-pairs}
-use Rattle.layers.specs.Calls.{places_agree, unbarred_arcs, parted_arcs, in_arcs_agree}
+use Rattle.layers.specs.Calls.{places_agree, kept_arcs, parted_arcs, in_arcs_agree}
 use Rattle.layers.specs.Settings.{Setting}
 use Rattle.layers.specs.declared.node.Down.{Down}
 
@@ -77,7 +75,7 @@ tied-tail L (M ∷ Ls) t = t.3
 module _ {S V : Type 0} (by : Setting S V) where
   -- sweeping, before tidying
   sub-sweeps : (i : ℕ) (labs : List (Option (Down S V))) (Ls : Net) → Sub (λ a. a) (sweeps by i labs Ls) Ls
-  unfolding unbarred_arcs
+  unfolding kept_arcs
   sub-sweeps i labs [] = tt
   sub-sweeps i labs (L ∷ Ls) = (λ b. b, stays, sub-sweeps (suc i) (labels_next by labs L (width Ls)) Ls)
     where

@@ -14,7 +14,6 @@ pub mod Means
 pub mod Model
 pub mod Places
 pub mod Proper
-pub mod Quiet
 pub mod Seeks
 pub mod Sets
 pub mod Shaped

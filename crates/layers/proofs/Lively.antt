@@ -1,18 +1,13 @@
 -- After every list of calls each node lies on a path, and no layer has more than W nodes.
 use Rattle.std.proofs.Common.{◌≡◌, ℕ, zero, suc, ◌<◌, ◌≤◌, Bool, true, false, List, [], ◌∷◌, length, get_or, set, Some, None, Option, ap, le_of_suc-le-suc, not-suc-le-zero, arith, length-set}
-use Rattle.round.specs.declared.table.Round.{Round}
-use Rattle.rules.specs.Rules.{RuleSense}
-use Rattle.tallies.specs.Tallies.{TallySense}
 use Rattle.layers.specs.declared.node.Up.{Up}
 use Rattle.layers.specs.Flow.{table, Layer, Net, node, width, PathFrom, redirect, up, Mark, marks_next, marks_up, flags, compress, renumber, tidy, tidied_arcs, place_after_join, both_out, joined_arcs, IsLed, IsTied, IsRoomy}
 use Rattle.layers.specs.Labels.{arrival_over, merge, labels_next, climb, merge_up, no_up, ups, all_doors}
 use Rattle.layers.proofs.Flows.{next-at, up_at, has-arc}
-use Rattle.layers.proofs.Model.{sweeps, cuts}
 use Rattle.layers.proofs.Tied.{redirect-length}
 use Rattle.layers.proofs.Ties.{drop-length}
 use Rattle.layers.specs.Settings.{Setting}
 use Rattle.layers.specs.declared.node.Down.{Down}
-use Rattle.layers.specs.Calls.{unbarred_arcs, affordable_arcs}
 
 compress-short : (fs : List Bool) (L : Layer) (m : ℕ) → length L ≤ m → length (compress fs L) ≤ m
 unfolding compress
@@ -49,16 +44,6 @@ module _ (W : ℕ) where
   roomy-join (suc d) lo hi (L ∷ Ls) k h = (h.0, roomy-join d lo hi Ls k h.1)
 
 module _ {S V : Type 0} (by : Setting S V) (w : 1 ≤ by.width) where
-  pub roomy-sweeps : (i : ℕ) (labs : List (Option (Down S V))) (Ls : Net) → IsRoomy by.width Ls → IsRoomy by.width (sweeps by i labs Ls)
-  unfolding unbarred_arcs
-  roomy-sweeps i labs [] h = tt
-  roomy-sweeps i labs (L ∷ Ls) h = (simp redirect-length h.0, roomy-sweeps (suc i) (labels_next by labs L (width Ls)) Ls h.1)
-
-  pub roomy-cuts : (c : V) (labs : List (Option (Down S V))) (Ls : Net) → IsRoomy by.width Ls → IsRoomy by.width (cuts by c labs Ls)
-  unfolding affordable_arcs
-  roomy-cuts c labs [] h = tt
-  roomy-cuts c labs (L ∷ Ls) h = (simp redirect-length h.0, roomy-cuts c (labels_next by labs L (width Ls)) Ls h.1)
-
   pub roomy-open : (k : ℕ) → IsRoomy by.width (table k (λ i. all_doors by.round.n ∷ []))
   roomy-open zero = tt
   roomy-open (suc k) = (w, roomy-open k)

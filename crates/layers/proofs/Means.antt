@@ -5,9 +5,8 @@ use Rattle.std.proofs.lemmas.Bool.{cases_eq}
 use Rattle.doors.proofs.Sets.{digit_and, has-true, true-has}
 use Rattle.doors.specs.Orders.{In}
 use Rattle.doors.specs.Sets.{has}
-use Rattle.round.specs.declared.table.Round.{Round}
-use Rattle.rules.specs.Rules.{RuleLaws, RuleSense}
-use Rattle.tallies.specs.Tallies.{TallyLaws, TallySense}
+use Rattle.rules.specs.Rules.{RuleLaws}
+use Rattle.tallies.specs.Tallies.{TallyLaws}
 use Rattle.layers.specs.declared.node.Up.{Up}
 use Rattle.layers.specs.Flow.{Layer, Net, node, target, width, PathFrom, arrivals_at, gather, climbs_of, up, IsRanged, IsTied}
 use Rattle.layers.specs.Labels.{bit_of, climb, merge_up, no_up, ups, first_label, arrival_over, merge, first_labels, labels_next}

@@ -1,14 +1,14 @@
 -- The calls on arcs alone, with the labels worked out on the way. A device of the proofs: in a run with one rule and one tally the calls on records come to the same.
-use Rattle.std.proofs.Common.{ℕ, zero, suc, ◌-◌, min, max, Bool, true, false, cond, not, ◌&&◌, ◌||◌, eqb, ltb, leb, List, [], ◌∷◌, ◌++◌, length, get_or, Some, None, Option, unwrap_or}
-use Rattle.round.specs.declared.table.Round.{Round}
+use Rattle.std.proofs.Common.{ℕ, zero, suc, ◌-◌, min, max, Bool, true, false, not, ◌&&◌, ◌||◌, eqb, ltb, leb, List, [], ◌∷◌, length, get_or, Some, None, Option, unwrap_or}
 use Rattle.rules.specs.Rules.{RuleSense}
 use Rattle.tallies.specs.Tallies.{TallySense}
 use Rattle.layers.specs.declared.refined.Refined.{Refined}
 use Rattle.layers.specs.declared.refined.Refined.TheVariants.{Whole, Full}
 use Rattle.layers.specs.declared.node.Up.{Up}
 use Rattle.layers.specs.Flow.{Net, node, width, count_arcs, arrivals_at, end_label, tidied_arcs, clash, joined_arcs, has_path_with}
-use Rattle.layers.specs.Calls.{LayerLabels, unbarred_arcs, affordable_arcs, parted_arcs, in_arcs_agree, nothing_barred}
-use Rattle.layers.specs.Labels.{ups, no_up, first_labels, blank_label, arrival_over, merge, labels_next, all_agree}
+use Rattle.layers.specs.Calls.{LayerLabels, kept_arcs, keeps_all_arcs, parted_arcs, in_arcs_agree}
+use Rattle.round.specs.Clock.{finish}
+use Rattle.layers.specs.Labels.{leg, is_barred, is_above_ceiling, ups, no_up, first_labels, blank_label, arrival_over, merge, labels_next, all_agree}
 use Rattle.layers.specs.declared.call.Call.{Call}
 use Rattle.layers.specs.declared.call.Call.TheVariants.{Sweep, Part, Join, Cut, Refine}
 use Rattle.layers.specs.Settings.{Setting}
@@ -33,19 +33,23 @@ module _ {S V : Type 0} (by : Setting S V) where
   labels_at (suc d) labs [] = []
   labels_at (suc d) labs (L ∷ Ls) = labels_at d (labels_next by labs L (width Ls)) Ls
 
+  -- what a filter leaves by those labels
+  abbrev pub kept : (ℕ → ℕ → ℕ → Option (Down S V) → Option Up → Bool) → ℕ → List (Option (Down S V)) → Net → Net
+  kept goes i labs Ls = kept_arcs goes i Ls (labels_from labs Ls)
+
   abbrev pub sweeps : ℕ → List (Option (Down S V)) → Net → Net
-  sweeps i labs Ls = unbarred_arcs by.round by.rule i Ls (labels_from labs Ls)
+  sweeps = kept (is_barred by.round by.rule)
 
   unfoldable pub sweep : Net → Net
-  unfolding unbarred_arcs tidied_arcs
+  unfolding kept_arcs leg finish tidied_arcs
   sweep Ls = tidied_arcs (sweeps 0 (first_labels by.rule by.tally) Ls)
 
-  abbrev pub cuts : V → List (Option (Down S V)) → Net → Net
-  cuts c labs Ls = affordable_arcs by.round by.tally c Ls (labels_from labs Ls)
+  abbrev pub cuts : V → ℕ → List (Option (Down S V)) → Net → Net
+  cuts c = kept (is_above_ceiling by.round by.tally c)
 
   unfoldable pub cut : V → Net → Net
-  unfolding affordable_arcs tidied_arcs
-  cut c Ls = tidied_arcs (cuts c (first_labels by.rule by.tally) Ls)
+  unfolding kept_arcs leg finish tidied_arcs
+  cut c Ls = tidied_arcs (cuts c 0 (first_labels by.rule by.tally) Ls)
 
   -- d is the layer less one, a the place of the node
   abbrev pub part_at : ℕ → ℕ → List (Option (Down S V)) → Net → Net
@@ -173,10 +177,10 @@ module _ {S V : Type 0} (by : Setting S V) where
   agrees labs Ls = in_arcs_agree by Ls (labels_from labs Ls)
 
   abbrev pub quiet : ℕ → List (Option (Down S V)) → Net → Bool
-  quiet i labs Ls = nothing_barred by.round by.rule i Ls (labels_from labs Ls)
+  quiet i labs Ls = keeps_all_arcs (is_barred by.round by.rule) i Ls (labels_from labs Ls)
 
   unfoldable pub settles : ℕ → List (Option (Down S V)) → Net → Bool
-  unfolding in_arcs_agree nothing_barred
+  unfolding in_arcs_agree keeps_all_arcs leg finish
   settles i labs Ls = agrees labs Ls && quiet i labs Ls
 
   unfoldable pub settled : Net → Bool

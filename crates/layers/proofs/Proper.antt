@@ -1,21 +1,19 @@
 -- What every diagram is, after every list of calls; and so the calls on records are the calls on arcs.
-use Rattle.std.proofs.Common.{◌≡◌, ℕ, zero, suc, ◌<◌, ◌≤◌, Bool, true, false, List, [], ◌∷◌, length, get_or, set, Some, Option, sym, refl, ap, ◌∙◌, inl, inr, arith}
-use Rattle.round.specs.declared.table.Round.{Round}
-use Rattle.rules.specs.Rules.{RuleSense}
-use Rattle.tallies.specs.Tallies.{TallySense}
-use Rattle.layers.specs.Flow.{table, Outs, Layer, Net, node, width, each_node, redirect, arrivals_at, Mark, marks_next, marks_up, flags, compress, renumber, tidy, tidied_arcs, without_place, place_after_join, both_out, clash, joined_arcs, IsTied, IsRoomy, IsLawful}
-use Rattle.layers.specs.Labels.{first_labels, arrival_over, labels_next, all_agree, opening_arcs, all_doors}
+use Rattle.std.proofs.Common.{◌≡◌, ℕ, zero, suc, ◌<◌, ◌≤◌, Bool, true, false, cond, List, [], ◌∷◌, length, get_or, set, Some, None, Option, sym, refl, ap, ◌∙◌, inl, inr, arith}
+use Rattle.layers.specs.Flow.{table, Outs, Layer, Net, node, width, each_node, redirect, arrivals_at, Mark, marks_next, marks_up, flags, compress, renumber, tidy, tidied_arcs, without_place, place_after_join, both_out, clash, joined_arcs, IsRanged, IsTied, IsRoomy, IsLawful}
+use Rattle.layers.specs.declared.node.Up.{Up}
+use Rattle.layers.specs.Labels.{is_barred, is_above_ceiling, first_labels, arrival_over, all_agree, opening_arcs, all_doors}
 use Rattle.layers.specs.declared.call.Call.{Call}
-use Rattle.layers.specs.Calls.{parted_arcs, unbarred_arcs, affordable_arcs}
+use Rattle.layers.specs.Calls.{LayerLabels, parted_arcs, kept_arcs}
 use Rattle.layers.proofs.Ways.{length-snoc}
 use Rattle.layers.proofs.Flows.{Among, among-split}
-use Rattle.layers.proofs.Model.{one_group, parted, refines, sweeps, sweep, cuts, cut, part_at, after, labels_at}
+use Rattle.layers.proofs.Model.{labels_from, one_group, parted, refines, sweep, cut, part_at, after, labels_at}
 use Rattle.layers.proofs.Walk.{node-among, Neat}
 use Rattle.layers.proofs.Shapes.{each_door-length}
-use Rattle.layers.proofs.Keeping.{safe-after, safe-parted, safe-refines, any-cut, tidied-length, join-length, sweeps-length, cuts-length}
-use Rattle.layers.proofs.Tied.{redirect-length, tidied-tied}
+use Rattle.layers.proofs.Keeping.{safe-after, safe-parted, safe-refines, any-cut, tidied-length, join-length}
+use Rattle.layers.proofs.Tied.{redirect-back, redirect-length, tidied-tied}
 use Rattle.layers.proofs.Ties.{opened-tied, parted-tied, join_tied}
-use Rattle.layers.proofs.Lively.{roomy-tidied, roomy-join, roomy-sweeps, roomy-cuts, roomy-open}
+use Rattle.layers.proofs.Lively.{roomy-tidied, roomy-join, roomy-open}
 use Rattle.layers.proofs.Bridge.{IsEven, table-long, group_at}
 use Rattle.layers.specs.Settings.{Setting}
 use Rattle.layers.specs.declared.node.Down.{Down}
@@ -127,17 +125,57 @@ pub record Proper (n W : ℕ) (Ls : Net) : Type 0 where
 pub lawful : (n W : ℕ) (Ls : Net) → Proper n W Ls → IsLawful n W Ls
 lawful n W Ls p = record { deep = p.deep; one_first = p.one_first; even = even-of n Ls p.even; roomy = p.roomy; tied = p.tied }
 
+-- ---- no arc leads out of the next layer
+abbrev pub RangedAll : Net → Type 0
+RangedAll [] = Unit {0}
+RangedAll (L ∷ Ls) = IsRanged L (width Ls) × RangedAll Ls
+
+pub tied-ranged : (Ls : Net) → IsTied Ls → RangedAll Ls
+tied-ranged [] t = tt
+tied-ranged (L ∷ []) t = (t, tt)
+tied-ranged (L ∷ M ∷ Ls) t = (t.0, tied-ranged (M ∷ Ls) t.3)
+
+-- ---- arcs taken out, layer by layer
+either-back : (q : Bool) (b c : ℕ) → cond q 0 (suc b) ≡ suc c → b ≡ c
+either-back true b c e = absurd (omega arith)
+either-back false b c e = omega arith
+
+less-ranged : (t : ℕ → ℕ → ℕ → Bool) (L : Layer) (m : ℕ) → IsRanged L m → IsRanged (redirect (λ a j b. cond (t a j b) 0 (suc b)) L) m
+less-ranged t L m h a j c e =
+    let q = redirect-back (λ a j b. cond (t a j b) 0 (suc b)) L a j c e in
+    let same = either-back (t a j q.0) q.0 c q.2 in
+    let k = h a j q.0 q.1 in
+    omega arith
+
+-- what is left has the form of what was there
+pub record Less (n W : ℕ) (Ls Ms : Net) : Type 0 where
+  pub deep : length Ms ≡ length Ls
+  pub wide : width Ms ≡ width Ls
+  pub even : EvenIn n Ls → EvenIn n Ms
+  pub roomy : IsRoomy W Ls → IsRoomy W Ms
+  pub ranged : RangedAll Ls → RangedAll Ms
+
+less-layer : (n W : ℕ) (t : ℕ → ℕ → ℕ → Bool) (L : Layer) (Ls Ms : Net) → Less n W Ls Ms → Less n W (L ∷ Ls) (redirect (λ a j b. cond (t a j b) 0 (suc b)) L ∷ Ms)
+less-layer n W t L Ls Ms l = record {
+  deep = ap suc l.deep;
+  wide = redirect-length (λ a j b. cond (t a j b) 0 (suc b)) L;
+  even = λ h. (even-redirect n (λ a j b. cond (t a j b) 0 (suc b)) L h.0, l.even h.1);
+  roomy = λ h. (omega (arith, h.0, redirect-length (λ a j b. cond (t a j b) 0 (suc b)) L), l.roomy h.1);
+  ranged = λ h. (rw l.wide (less-ranged t L (width Ls) h.0), l.ranged h.1);
+}
+
+less_refl : (n W : ℕ) (Ls : Net) → Less n W Ls Ls
+less_refl n W Ls = record { deep = refl; wide = refl; even = λ h. h; roomy = λ h. h; ranged = λ h. h }
+
+-- what a filter leaves
+pub kept-less : {S V : Type 0} (n W : ℕ) (goes : ℕ → ℕ → ℕ → Option (Down S V) → Option Up → Bool) (i : ℕ) (Ls : Net) (labs : List (LayerLabels S V)) → Less n W Ls (kept_arcs goes i Ls labs)
+unfolding kept_arcs
+kept-less n W goes i [] labs = less_refl n W []
+kept-less n W goes i (L ∷ Ls) [] = less_refl n W (L ∷ Ls)
+kept-less n W goes i (L ∷ Ls) (x ∷ labs) =
+    less-layer n W (λ a j b. goes i (suc (length Ls)) j (get_or x.downs a None) (get_or x.ups b None)) L Ls (kept_arcs goes (suc i) Ls labs) (kept-less n W goes (suc i) Ls labs)
+
 module _ {S V : Type 0} (by : Setting S V) (w : 1 ≤ by.width) where
-  even-sweeps : (i : ℕ) (labs : List (Option (Down S V))) (Ls : Net) → EvenIn by.round.n Ls → EvenIn by.round.n (sweeps by i labs Ls) × (width (sweeps by i labs Ls) ≡ width Ls)
-  unfolding unbarred_arcs
-  even-sweeps i labs [] h = (tt, refl)
-  even-sweeps i labs (L ∷ Ls) h = ((even-redirect by.round.n _ L h.0, (even-sweeps (suc i) (labels_next by labs L (width Ls)) Ls h.1).0), simp redirect-length)
-
-  even-cuts : (c : V) (labs : List (Option (Down S V))) (Ls : Net) → EvenIn by.round.n Ls → EvenIn by.round.n (cuts by c labs Ls) × (width (cuts by c labs Ls) ≡ width Ls)
-  unfolding affordable_arcs
-  even-cuts c labs [] h = (tt, refl)
-  even-cuts c labs (L ∷ Ls) h = ((even-redirect by.round.n _ L h.0, (even-cuts c (labels_next by labs L (width Ls)) Ls h.1).0), simp redirect-length)
-
   pub proper-opened : Proper by.round.n by.width (opening_arcs by.round.n)
   proper-opened = record {
     deep = unfold opening_arcs in table-long by.round.n (λ i. all_doors by.round.n ∷ []);
@@ -158,15 +196,20 @@ module _ {S V : Type 0} (by : Setting S V) (w : 1 ≤ by.width) where
   pub proper-tidied : (Ls : Net) → length Ls ≡ by.round.n → width Ls ≡ 1 → EvenIn by.round.n Ls → IsRoomy by.width Ls → Proper by.round.n by.width (tidied_arcs Ls)
   proper-tidied Ls a b c d = record { deep = tidied-length Ls ∙ a; one_first = first-tidied Ls ∙ b; even = even-tidied by.round.n Ls c; roomy = roomy-tidied by.width Ls d; tied = tidied-tied Ls }
 
+  -- what is left of a proper net, tidied, is proper
+  pub proper-less : (Ls Ms : Net) → Less by.round.n by.width Ls Ms → Proper by.round.n by.width Ls → Proper by.round.n by.width (tidied_arcs Ms)
+  proper-less Ls Ms l p = proper-tidied Ms (l.deep ∙ p.deep) (l.wide ∙ p.one_first) (l.even p.even) (l.roomy p.roomy)
+
+  pub proper-kept : (goes : ℕ → ℕ → ℕ → Option (Down S V) → Option Up → Bool) (Ls : Net) (labs : List (LayerLabels S V)) → Proper by.round.n by.width Ls → Proper by.round.n by.width (tidied_arcs (kept_arcs goes 0 Ls labs))
+  proper-kept goes Ls labs p = proper-less Ls _ (kept-less by.round.n by.width goes 0 Ls labs) p
+
   pub proper-sweep : (Ls : Net) → Proper by.round.n by.width Ls → Proper by.round.n by.width (sweep by Ls)
   unfolding sweep
-  proper-sweep Ls p = let e = even-sweeps 0 (first_labels by.rule by.tally) Ls p.even in
-      proper-tidied (sweeps by 0 (first_labels by.rule by.tally) Ls) (sweeps-length by 0 (first_labels by.rule by.tally) Ls ∙ p.deep) (e.1 ∙ p.one_first) e.0 (roomy-sweeps by w 0 (first_labels by.rule by.tally) Ls p.roomy)
+  proper-sweep Ls p = proper-kept (is_barred by.round by.rule) Ls (labels_from by (first_labels by.rule by.tally) Ls) p
 
   pub proper-cut : (c : V) (Ls : Net) → Unit {0} → Proper by.round.n by.width Ls → Proper by.round.n by.width (cut by c Ls)
   unfolding cut
-  proper-cut c Ls u p = let e = even-cuts c (first_labels by.rule by.tally) Ls p.even in
-      proper-tidied (cuts by c (first_labels by.rule by.tally) Ls) (cuts-length by c (first_labels by.rule by.tally) Ls ∙ p.deep) (e.1 ∙ p.one_first) e.0 (roomy-cuts by w c (first_labels by.rule by.tally) Ls p.roomy)
+  proper-cut c Ls u p = proper-kept (is_above_ceiling by.round by.tally c) Ls (labels_from by (first_labels by.rule by.tally) Ls) p
 
   pub proper-join : (d lo hi : ℕ) (Ls : Net) → lo < hi → hi < length (get_or Ls (suc d) []) → clash (node (get_or Ls (suc d) []) lo) (node (get_or Ls (suc d) []) hi) ≡ false → Proper by.round.n by.width Ls → Proper by.round.n by.width (joined_arcs d lo hi Ls)
   proper-join d lo hi Ls x y z p =

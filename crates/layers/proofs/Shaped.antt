@@ -4,22 +4,20 @@ use lib.ListN.{length-map}
 use Rattle.std.proofs.lemmas.List.{length-take, length-take-le}
 use Rattle.std.proofs.lemmas.Bool.{cases_lt}
 use Rattle.round.specs.declared.table.Round.{Round}
-use Rattle.rules.specs.Rules.{RuleSense}
-use Rattle.tallies.specs.Tallies.{TallySense}
 use Rattle.layers.specs.declared.node.Node.{Node}
-use Rattle.layers.specs.Flow.{table, Outs, Layer, Net, node, target, width, redirect, count_doors, count_layer, tidied_arcs, IsRanged, IsTied, IsRoomy}
+use Rattle.layers.specs.Flow.{table, Outs, Layer, Net, node, target, width, count_doors, count_layer, tidied_arcs, IsTied, IsRoomy}
 use Rattle.layers.specs.declared.node.Up.{Up}
-use Rattle.layers.specs.Labels.{first_labels, labels_next, no_up, is_barred, is_above_ceiling}
-use Rattle.layers.specs.Records.{is_used, nodes_in, layers, arcs_in, downs_in, ups_in, arcs_of_layers, arcs_at, laid_arcs, arcs_read, record_of_place}
-use Rattle.layers.specs.Calls.{arcs, layer, unbarred_arcs, affordable_arcs, records_with, LayerLabels}
+use Rattle.layers.specs.Labels.{first_labels, labels_next, no_up}
+use Rattle.layers.specs.Records.{is_used, nodes_in, layers, arcs_in, arcs_of_layers, arcs_at, laid_arcs, arcs_read, record_of_place}
+use Rattle.layers.specs.Calls.{arcs, layer, records_with}
 use Rattle.layers.specs.Shape.{targets_of, HasEnd, IsShaped}
 use Rattle.layers.proofs.Flows.{Among}
 use Rattle.layers.proofs.Bridge.{ups-end, Full, top, stood, table-long}
 use Rattle.layers.proofs.Counts.{tidied-same}
-use Rattle.layers.proofs.Tied.{tidied-tied, redirect-back, redirect-length}
+use Rattle.layers.proofs.Tied.{tidied-tied}
 use Rattle.layers.proofs.Places.{end-at}
 use Rattle.layers.proofs.Laid.{full, nodes-laid, arcs-laid, written}
-use Rattle.layers.proofs.Proper.{EvenLayer, EvenIn, Proper, even-redirect, proper-tidied}
+use Rattle.layers.proofs.Proper.{EvenLayer, EvenIn, Proper}
 use Rattle.layers.specs.Settings.{Setting}
 use Rattle.layers.specs.declared.node.Down.{Down}
 
@@ -212,64 +210,3 @@ module _ {S V : Type 0} (by : Setting S V) (w : 1 ≤ by.width) (xs : List (Node
     first = ap width arcs-relaid ∙ p.one_first;
     ended = ended';
   }
-
--- ---- no arc leads out of the next layer
-abbrev pub RangedAll : Net → Type 0
-RangedAll [] = Unit {0}
-RangedAll (L ∷ Ls) = IsRanged L (width Ls) × RangedAll Ls
-
-pub tied-ranged : (Ls : Net) → IsTied Ls → RangedAll Ls
-tied-ranged [] t = tt
-tied-ranged (L ∷ []) t = (t, tt)
-tied-ranged (L ∷ M ∷ Ls) t = (t.0, tied-ranged (M ∷ Ls) t.3)
-
--- ---- arcs taken out, layer by layer
-either-back : (q : Bool) (b c : ℕ) → cond q 0 (suc b) ≡ suc c → b ≡ c
-either-back true b c e = absurd (omega arith)
-either-back false b c e = omega arith
-
-less-ranged : (t : ℕ → ℕ → ℕ → Bool) (L : Layer) (m : ℕ) → IsRanged L m → IsRanged (redirect (λ a j b. cond (t a j b) 0 (suc b)) L) m
-less-ranged t L m h a j c e =
-    let q = redirect-back (λ a j b. cond (t a j b) 0 (suc b)) L a j c e in
-    let same = either-back (t a j q.0) q.0 c q.2 in
-    let k = h a j q.0 q.1 in
-    omega arith
-
--- what is left has the form of what was there
-pub record Less (n W : ℕ) (Ls Ms : Net) : Type 0 where
-  pub deep : length Ms ≡ length Ls
-  pub wide : width Ms ≡ width Ls
-  pub even : EvenIn n Ls → EvenIn n Ms
-  pub roomy : IsRoomy W Ls → IsRoomy W Ms
-  pub ranged : RangedAll Ls → RangedAll Ms
-
-less-layer : (n W : ℕ) (t : ℕ → ℕ → ℕ → Bool) (L : Layer) (Ls Ms : Net) → Less n W Ls Ms → Less n W (L ∷ Ls) (redirect (λ a j b. cond (t a j b) 0 (suc b)) L ∷ Ms)
-less-layer n W t L Ls Ms l = record {
-  deep = ap suc l.deep;
-  wide = redirect-length (λ a j b. cond (t a j b) 0 (suc b)) L;
-  even = λ h. (even-redirect n (λ a j b. cond (t a j b) 0 (suc b)) L h.0, l.even h.1);
-  roomy = λ h. (omega (arith, h.0, redirect-length (λ a j b. cond (t a j b) 0 (suc b)) L), l.roomy h.1);
-  ranged = λ h. (rw l.wide (less-ranged t L (width Ls) h.0), l.ranged h.1);
-}
-
-less_refl : (n W : ℕ) (Ls : Net) → Less n W Ls Ls
-less_refl n W Ls = record { deep = refl; wide = refl; even = λ h. h; roomy = λ h. h; ranged = λ h. h }
-
-module _ {S V : Type 0} (by : Setting S V) where
-  pub thinned-less : (i : ℕ) (Ls : Net) (labs : List (LayerLabels S V)) → Less by.round.n by.width Ls (unbarred_arcs by.round by.rule i Ls labs)
-  unfolding unbarred_arcs
-  thinned-less i [] labs = less_refl by.round.n by.width []
-  thinned-less i (L ∷ Ls) [] = less_refl by.round.n by.width (L ∷ Ls)
-  thinned-less i (L ∷ Ls) (x ∷ labs) =
-      less-layer by.round.n by.width (λ a j b. is_barred by.round by.rule i (suc (length Ls)) j (get_or x.downs a None) (get_or x.ups b None)) L Ls (unbarred_arcs by.round by.rule (suc i) Ls labs) (thinned-less (suc i) Ls labs)
-
-  pub trimmed-less : (c : V) (Ls : Net) (labs : List (LayerLabels S V)) → Less by.round.n by.width Ls (affordable_arcs by.round by.tally c Ls labs)
-  unfolding affordable_arcs
-  trimmed-less c [] labs = less_refl by.round.n by.width []
-  trimmed-less c (L ∷ Ls) [] = less_refl by.round.n by.width (L ∷ Ls)
-  trimmed-less c (L ∷ Ls) (x ∷ labs) =
-      less-layer by.round.n by.width (λ a j b. is_above_ceiling by.round by.tally c j (get_or x.downs a None)) L Ls (affordable_arcs by.round by.tally c Ls labs) (trimmed-less c Ls labs)
-
-  -- what is left of a proper net, tidied, is proper
-  pub proper-less : 1 ≤ by.width → (Ls Ms : Net) → Less by.round.n by.width Ls Ms → Proper by.round.n by.width Ls → Proper by.round.n by.width (tidied_arcs Ms)
-  proper-less w Ls Ms l p = proper-tidied by w Ms (l.deep ∙ p.deep) (l.wide ∙ p.one_first) (l.even p.even) (l.roomy p.roomy)

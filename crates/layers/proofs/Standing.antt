@@ -2,26 +2,20 @@
 use Rattle.std.proofs.Common.{◌≡◌, ℕ, zero, suc, ◌+◌, ◌-◌, ◌*◌, ◌<◌, ◌≤◌, min, max, Bool, true, false, not, ◌&&◌, eqb, ltb, leb, List, [], ◌∷◌, ◌++◌, length, get_or, drop, sym, refl, ap, ◌∙◌, ap₂, arith}
 use Rattle.std.proofs.lemmas.Bool.Decides.{nat_tests}
 use Rattle.std.proofs.lemmas.Bool.{leb-false, eqb-true, eq-eqb, and_parts}
-use Rattle.round.specs.declared.table.Round.{Round}
-use Rattle.rules.specs.Rules.{RuleSense}
-use Rattle.tallies.specs.Tallies.{TallySense}
 use Rattle.layers.specs.declared.node.Node.{Node}
 use Rattle.layers.specs.declared.refined.Refined.{Refined}
 use Rattle.layers.specs.Flow.{Net, count_arcs, arrivals_at, tidied_arcs, joined_arcs, has_path_with}
-use Rattle.layers.specs.Labels.{first_labels, arrival_over, opening_arcs}
+use Rattle.layers.specs.Labels.{is_barred, is_above_ceiling, first_labels, arrival_over, opening_arcs}
 use Rattle.layers.specs.Records.{arcs_in, downs_in, labelled_records}
 use Rattle.layers.specs.declared.call.Call.{Call}
 use Rattle.layers.specs.declared.call.Call.TheVariants.{Sweep, Part, Join, Cut, Refine}
-use Rattle.layers.specs.Calls.{arrivals, parted_arcs, nodes, arcs, labels, layer, records_with, after_open, arcs_lost, after_sweep, sweep_answer, after_cut, part_answer, parted_records, join_answer, after_join, parts_of_layer, refinement_from, after_sweeps, refinement, after_call, after_calls, bound, must, is_settled, in_arcs_agree, value_in, one_group as oneGroupIn, after_part as partedIn}
+use Rattle.layers.specs.Calls.{parted_arcs, nodes, arcs, labels, layer, records_with, after_open, arcs_lost, after_sweep, sweep_answer, after_cut, part_answer, parted_records, join_answer, after_join, parts_of_layer, refinement_from, after_sweeps, refinement, after_call, after_calls, bound, must, is_settled, in_arcs_agree, value_in, one_group as oneGroupIn, after_part as partedIn}
 use Rattle.layers.proofs.Model.{sweep, cut, one_group, part_at, count, bad_layer, part, join, unless, swept as untilQuiet, parted as partedArcs, refines, refine, act, after, agrees, settles, bound as boundOf, must as mustOf, settled as settled_of, labels_at}
-use Rattle.layers.proofs.Counts.{sweep-fewer, settled-yes, settled-if}
-use Rattle.layers.proofs.Bridge.{Full, stood, thinned-stood, trimmed-stood, quiet-stood, agrees-stood, stood-at, group_at, value-stood, later-stays}
+use Rattle.layers.proofs.Counts.{same_bool, sweep-fewer, settled-yes, settled-if}
+use Rattle.layers.proofs.Bridge.{Full, stood, kept-stood, all-kept-stood, agrees-stood, stood-at, group_at, value-stood, later-stays}
 use Rattle.layers.proofs.Laid.{full as full-laid, nodes-laid, arcs-laid}
 use Rattle.layers.proofs.Proper.{Proper, proper-opened, proper-sweep, proper-part, proper-after, proper-parted, proper-refines}
 use Rattle.layers.specs.Settings.{Setting}
-
-pub same_bool : (p q : Bool) → (p ≡ true → q ≡ true) → (q ≡ true → p ≡ true) → p ≡ q
-same_bool p q f g = grind arith
 
 past : (m a : ℕ) → ltb m (suc a) ≡ leb m a
 past m a = grind (arith, nat_tests)
@@ -55,11 +49,11 @@ module _ {S V : Type 0} (by : Setting S V) (self : (s : S) → by.rule.same s s 
 
   pub swept-X : (Ls : Net) → Well Ls → after_sweep by (X Ls) ≡ X (sweep by Ls)
   unfolding after_sweep sweep
-  swept-X Ls p = relaid-X Ls _ p ∙ rw (arcs-X Ls p, nodes-X Ls p) (ap (λ (z : Net). X (tidied_arcs z)) (thinned-stood by w 0 (first_labels by.rule by.tally) Ls (full Ls p)))
+  swept-X Ls p = relaid-X Ls _ p ∙ rw (arcs-X Ls p, nodes-X Ls p) (ap (λ (z : Net). X (tidied_arcs z)) (kept-stood by w (is_barred by.round by.rule) 0 (first_labels by.rule by.tally) Ls (full Ls p)))
 
   pub cut-X : (c : V) (Ls : Net) → Well Ls → after_cut by c (X Ls) ≡ X (cut by c Ls)
   unfolding after_cut cut
-  cut-X c Ls p = relaid-X Ls _ p ∙ rw (arcs-X Ls p, nodes-X Ls p) (ap (λ (z : Net). X (tidied_arcs z)) (trimmed-stood by w c (first_labels by.rule by.tally) Ls (full Ls p)))
+  cut-X c Ls p = relaid-X Ls _ p ∙ rw (arcs-X Ls p, nodes-X Ls p) (ap (λ (z : Net). X (tidied_arcs z)) (kept-stood by w (is_above_ceiling by.round by.tally c) 0 (first_labels by.rule by.tally) Ls (full Ls p)))
 
   pub at-X : (d : ℕ) (Ls : Net) (p : Well Ls) → d < by.round.n → (downs_in (layer by.round.n by.width d (X Ls)) ≡ labels_at by d (first_labels by.rule by.tally) Ls) × (arcs_in by.round.n (layer by.round.n by.width d (X Ls)) ≡ get_or Ls d []) × (length (layer by.round.n by.width d (X Ls)) ≡ length (get_or Ls d []))
   at-X d Ls p h =
@@ -182,7 +176,7 @@ module _ {S V : Type 0} (by : Setting S V) (self : (s : S) → by.rule.same s s 
   pub settled-X : (Ls : Net) → Well Ls → is_settled by (X Ls) ≡ settled_of by Ls
   unfolding is_settled settled_of settles
   settled-X Ls p =
-      rw (arcs-X Ls p, nodes-X Ls p) (ap₂ ◌&&◌ (agrees-stood by w (first_labels by.rule by.tally) Ls (full Ls p)) (quiet-stood by w 0 (first_labels by.rule by.tally) Ls (full Ls p)))
+      rw (arcs-X Ls p, nodes-X Ls p) (ap₂ ◌&&◌ (agrees-stood by w (first_labels by.rule by.tally) Ls (full Ls p)) (all-kept-stood by w (is_barred by.round by.rule) 0 (first_labels by.rule by.tally) Ls (full Ls p)))
 
   -- settled is yes exactly when the in-arcs agree and a sweep would answer 0
   pub settled-means-X : (Ls : Net) → Well Ls → is_settled by (X Ls) ≡ (in_arcs_agree by (arcs by.round.n by.width (X Ls)) (labels by.round.n by.width (X Ls)) && eqb (sweep_answer by (X Ls)) 0)

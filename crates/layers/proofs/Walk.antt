@@ -9,8 +9,8 @@ use Rattle.doors.specs.Sets.{has}
 use Rattle.round.proofs.Clocks.{clock-laws}
 use Rattle.round.specs.Clock.{door, drive, finish, latest}
 use Rattle.round.specs.declared.table.Round.{Round}
-use Rattle.rules.specs.Rules.{RuleLaws, RuleSense}
-use Rattle.tallies.specs.Tallies.{TallyLaws, TallySense}
+use Rattle.rules.specs.Rules.{RuleLaws}
+use Rattle.tallies.specs.Tallies.{TallyLaws}
 use Rattle.orders.proofs.Times.{trip-van}
 use Rattle.orders.specs.Allowed.{Allowed}
 use Rattle.orders.specs.Costs.{Trip, cost, rides, trip_after}
@@ -24,7 +24,7 @@ use Rattle.layers.proofs.Ways.{in_split, in-snd, part-tail, trip-snoc, van-snoc,
 use Rattle.layers.proofs.Model.{sweeps, sweep}
 use Rattle.layers.specs.Settings.{Setting}
 use Rattle.layers.specs.declared.node.Down.{Down}
-use Rattle.layers.specs.Calls.{unbarred_arcs}
+use Rattle.layers.specs.Calls.{kept_arcs}
 
 -- each node has no more targets than there are doors
 abbrev pub NeatLayer : ℕ → Layer → Type 0
@@ -286,7 +286,7 @@ module _ {S V : Type 0} {Keeps : List ℕ → Type 0} {Stands : S → List ℕ �
 
   pub sweeps-keep : (p w : List ℕ) (labs : List (Option (Down S V))) (Ls : Net) (a : ℕ) → Going by ruled tallied p w → Told by ruled tallied p → At by ruled tallied labs a p
       → Good by ruled tallied (length p) labs → Neat by.round.n Ls → PathFrom Ls a w → PathFrom (sweeps by (length p) labs Ls) a w
-  unfolding unbarred_arcs At
+  unfolding kept_arcs At
   sweeps-keep p [] labs [] a g t at good neat q = q
   sweeps-keep p (j ∷ w) labs [] a g t at good neat q = absurd q
   sweeps-keep p [] labs (L ∷ Ls) a g t at good neat q = absurd q

@@ -1,9 +1,6 @@
 -- The calls, on the lent list of records. Each goes by the labels as they stand in the records, whatever rule or tally wrote them,
 -- and ends with all labels worked out anew with the rule and the tally of this call. Places after the end's are never altered.
 use Rattle.std.specs.Prelude.{ℕ, zero, suc, ◌+◌, ◌-◌, ◌*◌, min, max, Bool, true, false, if◌then◌else◌, not, ◌&&◌, ◌||◌, List, [], ◌∷◌, ◌++◌, length, drop, Some, None, Option, Ok, Err, Result, is_ok, ◌==◌, nat_le, nat_lt, slice_index_or}
-use Rattle.round.specs.declared.table.Round.{Round}
-use Rattle.rules.specs.Rules.{RuleSense}
-use Rattle.tallies.specs.Tallies.{TallySense}
 use Rattle.layers.specs.declared.call.Answer.TheVariants as answer
 use Rattle.layers.specs.declared.call.Answer as calls
 use Rattle.layers.specs.declared.call.Call.{Call}
@@ -94,34 +91,28 @@ module _ {S V : Type 0} (n W : ℕ) where
   abbrev pub must_answer : ℕ → ℕ → List (Node S V) → Result Bool Refusal
   must_answer i j xs = if bad_door n i j then Err NoDoor else if i == j then Err SameDoor else Ok (must i j xs)
 
--- ---- arcs, with the labels that are given: layer by layer from layer i on
-module _ {S V : Type 0} (r : Round) where
-  -- the arcs that a sweep leaves, before tidying
-  unfoldable pub unbarred_arcs : RuleSense S → ℕ → Net → List (LayerLabels S V) → Net
-  unfolding redirect leg finish
-  unbarred_arcs rule i [] labs = []
-  unbarred_arcs rule i (L ∷ Ls) [] = L ∷ Ls
-  unbarred_arcs rule i (L ∷ Ls) (x ∷ labs) =
-      redirect (λ a j b. if is_barred r rule i (suc (length Ls)) j (slice_index_or x.downs a None) (slice_index_or x.ups b None) then 0 else suc b) L
-      ∷ unbarred_arcs rule (suc i) Ls labs
+-- ---- a filter, with the labels that are given: `goes` says which arcs go. It is told the layer, how many layers of arcs there are from
+-- it to the end, the door, the label of the source and the upward label of the target
+module _ {S V : Type 0} (goes : ℕ → ℕ → ℕ → Option (Down S V) → Option Up → Bool) where
+  -- the arcs that it leaves, before tidying: layer by layer from layer i on
+  unfoldable pub kept_arcs : ℕ → Net → List (LayerLabels S V) → Net
+  unfolding redirect
+  kept_arcs i [] labs = []
+  kept_arcs i (L ∷ Ls) [] = L ∷ Ls
+  kept_arcs i (L ∷ Ls) (x ∷ labs) =
+      redirect (λ a j b. if goes i (suc (length Ls)) j (slice_index_or x.downs a None) (slice_index_or x.ups b None) then 0 else suc b) L
+      ∷ kept_arcs (suc i) Ls labs
 
-  -- no arc is one that a sweep takes out
-  unfoldable pub nothing_barred : RuleSense S → ℕ → Net → List (LayerLabels S V) → Bool
-  unfolding every_arc leg finish
-  nothing_barred rule i [] labs = true
-  nothing_barred rule i (L ∷ Ls) [] = true
-  nothing_barred rule i (L ∷ Ls) (x ∷ labs) =
-      every_arc (λ a j b. not (is_barred r rule i (suc (length Ls)) j (slice_index_or x.downs a None) (slice_index_or x.ups b None))) 0 L
-      && nothing_barred rule (suc i) Ls labs
+  -- no arc goes
+  unfoldable pub keeps_all_arcs : ℕ → Net → List (LayerLabels S V) → Bool
+  unfolding every_arc
+  keeps_all_arcs i [] labs = true
+  keeps_all_arcs i (L ∷ Ls) [] = true
+  keeps_all_arcs i (L ∷ Ls) (x ∷ labs) =
+      every_arc (λ a j b. not (goes i (suc (length Ls)) j (slice_index_or x.downs a None) (slice_index_or x.ups b None))) 0 L
+      && keeps_all_arcs (suc i) Ls labs
 
-  -- the arcs that a cut at the ceiling c leaves, before tidying
-  unfoldable pub affordable_arcs : TallySense V → V → Net → List (LayerLabels S V) → Net
-  unfolding redirect leg finish
-  affordable_arcs tally c [] labs = []
-  affordable_arcs tally c (L ∷ Ls) [] = L ∷ Ls
-  affordable_arcs tally c (L ∷ Ls) (x ∷ labs) =
-      redirect (λ a j b. if is_above_ceiling r tally c j (slice_index_or x.downs a None) then 0 else suc b) L ∷ affordable_arcs tally c Ls labs
-
+-- ---- part and its test, with the labels that are given
 module _ {S V : Type 0} (by : Setting S V) where
   -- what arrives at the node at place a of the next layer, from a layer with the labels labs
   abbrev pub arrivals : List (Option (Down S V)) → Layer → ℕ → List (Down S V)
@@ -170,8 +161,8 @@ module _ {S V : Type 0} (by : Setting S V) where
 
   -- sweep
   unfoldable pub after_sweep : Recs → Recs
-  unfolding records_with tidied_arcs unbarred_arcs
-  after_sweep xs = records_with xs (tidied_arcs (unbarred_arcs by.round by.rule 0 (arcs by.round.n by.width xs) (labels by.round.n by.width xs)))
+  unfolding records_with tidied_arcs kept_arcs leg finish
+  after_sweep xs = records_with xs (tidied_arcs (kept_arcs (is_barred by.round by.rule) 0 (arcs by.round.n by.width xs) (labels by.round.n by.width xs)))
 
   -- how many arcs it took out
   abbrev pub sweep_answer : Recs → ℕ
@@ -179,8 +170,8 @@ module _ {S V : Type 0} (by : Setting S V) where
 
   -- cut at the ceiling c
   unfoldable pub after_cut : V → Recs → Recs
-  unfolding records_with tidied_arcs affordable_arcs
-  after_cut c xs = records_with xs (tidied_arcs (affordable_arcs by.round by.tally c (arcs by.round.n by.width xs) (labels by.round.n by.width xs)))
+  unfolding records_with tidied_arcs kept_arcs leg finish
+  after_cut c xs = records_with xs (tidied_arcs (kept_arcs (is_above_ceiling by.round by.tally c) 0 (arcs by.round.n by.width xs) (labels by.round.n by.width xs)))
 
   -- how many arcs it took out
   abbrev pub cut_answer : V → Recs → ℕ
@@ -305,7 +296,7 @@ module _ {S V : Type 0} (by : Setting S V) where
 
   -- settled: the in-arcs of each node agree, and no arc is one that a sweep takes out
   unfoldable pub is_settled : Recs → Bool
-  unfolding in_arcs_agree nothing_barred
+  unfolding in_arcs_agree keeps_all_arcs leg finish
   is_settled xs =
       in_arcs_agree by (arcs by.round.n by.width xs) (labels by.round.n by.width xs)
-      && nothing_barred by.round by.rule 0 (arcs by.round.n by.width xs) (labels by.round.n by.width xs)
+      && keeps_all_arcs (is_barred by.round by.rule) 0 (arcs by.round.n by.width xs) (labels by.round.n by.width xs)

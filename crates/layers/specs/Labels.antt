@@ -119,10 +119,10 @@ is_barred r rule i h j (Some l) (Some u) =
     || (has u.allup j
     || nat_lt (count_ones (bit_or u.someup (bit_of j))) h))))
 
--- ---- cut: the arrival's value is above the ceiling c
-abbrev pub is_above_ceiling : {S V : Type 0} → Round → TallySense V → V → ℕ → Option (Down S V) → Bool
-is_above_ceiling r tally c j None = true
-is_above_ceiling r tally c j (Some l) = not (tally.not_above (arrival_value r tally l j) c)
+-- ---- cut: the arrival's value is above the ceiling c; the layer and the target have no say in it
+abbrev pub is_above_ceiling : {S V : Type 0} → Round → TallySense V → V → ℕ → ℕ → ℕ → Option (Down S V) → Option Up → Bool
+is_above_ceiling r tally c i h j None u = true
+is_above_ceiling r tally c i h j (Some l) u = not (tally.not_above (arrival_value r tally l j) c)
 
 -- ---- part: which in-arcs stay
 module _ {S V : Type 0} (rule : RuleSense S) where

@@ -1,7 +1,5 @@
 -- The lent list of records: node a of layer i at place i * W + a - 1, the end at n * W.
 use Rattle.std.specs.Prelude.{ℕ, zero, suc, Bool, if◌then◌else◌, not, List, [], ◌∷◌, ◌++◌, map, take, drop, Some, None, Option, unwrap_or, ◌==◌, slice_index, slice_index_or}
-use Rattle.rules.specs.Rules.{RuleSense}
-use Rattle.tallies.specs.Tallies.{TallySense}
 use Rattle.layers.specs.declared.node.Arcs.{Arcs}
 use Rattle.layers.specs.declared.node.Node.{Node}
 use Rattle.layers.specs.declared.node.Down.{Down}

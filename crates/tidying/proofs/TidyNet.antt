@@ -5,7 +5,7 @@ use Rattle.std.proofs.lemmas.List.{get_or-map, get_or_past, get_or_append_left, 
 use Rattle.std.proofs.lemmas.Bool.{true≢false, false≢true, cases_lt}
 use Rattle.layers.specs.declared.node.Arcs.{Arcs}
 use Rattle.layers.specs.declared.node.Node.{Node}
-use Rattle.layers.specs.Flow.{table, Outs, Layer, Net, node, target, width, is_some, redirect, up, Mark, marks_next, marks_up, flags, rank, compress, renumber, tidy, tidied_arcs as tidiedNet, IsRanged}
+use Rattle.layers.specs.Flow.{table, Outs, Layer, Net, node, target, width, redirect, up, Mark, marks_next, marks_up, flags, rank, compress, renumber, tidy, tidied_arcs as tidiedNet, IsRanged}
 use Rattle.layers.specs.Records.{padded_targets, arcs_at}
 use Rattle.layers.proofs.Flows.{rank-zero, has-arc, redirect-arc, mark-next, flags-at, renumber-at}
 use Rattle.layers.proofs.Tied.{some_of, flags-back, redirect-back, redirect-length, renumber-back, marked_from, climbs, climbs-from}
@@ -22,6 +22,7 @@ use Rattle.tidying.proofs.Numbers.{zeros, number-here}
 use Rattle.tidying.proofs.Words.{on-or-off, zero-or-suc, lively-has, lively-from, number-shown, long-vs, renewed-here, numbers-zero}
 use Rattle.tidying.proofs.Stay.{kept-none, all-blank, long-together}
 use Rattle.labels.proofs.RedirectNet.{table-list, padded-is, padded-at, each_at, redirect-node, arranged-long, targets-is, targets-arranged}
+use Rattle.std.specs.Prelude.{is_some}
 
 -- ---- targets
 padded-back : (nd : Outs) (k b : ℕ) → get_or (padded_targets nd) k 0 ≡ suc b → get_or nd k 0 ≡ suc b
