@@ -1,16 +1,20 @@
--- Thinning, one layer more.
-use Rattle.std.proofs.Common.{◌≡◌, ℕ, zero, suc, ◌+◌, ◌-◌, ◌*◌, ◌<◌, ◌≤◌, ◌≢◌, List, ◌++◌, map, take, drop, ap, suc-mul, one-mul, arith}
-use Rattle.round.specs.declared.table.Round.{Round}
-use Rattle.rules.specs.Rules.{RuleSense}
-use Rattle.tallies.specs.Tallies.{TallySense}
+-- A filter, one layer more.
+use Rattle.std.proofs.Common.{◌≡◌, ℕ, zero, suc, ◌+◌, ◌-◌, ◌*◌, ◌<◌, ◌≤◌, ◌≢◌, Bool, List, [], ◌∷◌, ◌++◌, map, take, drop, Option, ap, subst, suc-mul, one-mul, arith}
+use Rattle.std.specs.List.{AllByRecursion as All}
 use Rattle.layers.specs.declared.node.Node.{Node}
+use Rattle.layers.specs.declared.node.Down.{Down}
+use Rattle.layers.specs.declared.node.Up.{Up}
 use Rattle.labels.specs.Passes.{part}
-use Rattle.filter.specs.Thinned.{after, thinned_node, thinned_from}
+use Rattle.labels.proofs.Rests.{one_more}
+use Rattle.filter.specs.Kept.{after, kept_node, kept_from}
 
-pub thinned-more : {S V : Type 0} (r : Round) (R : RuleSense S) (T : TallySense V) (w i left : ℕ) (xs : List (Node S V)) → left ≢ 0
-    → thinned_from r R T w i left xs ≡ map (thinned_node r R T i (part w (after w (left - 1)) xs)) (take w xs) ++ thinned_from r R T w (suc i) (left - 1) (drop w xs)
-unfolding thinned_from
-thinned-more r R T w i left xs ne = let e : left ≡ suc (left - 1) = omega arith in ap (λ (k : ℕ). thinned_from r R T w i k xs) e
+pub kept-more : {S V : Type 0} (goes : ℕ → ℕ → ℕ → Option (Down S V) → Option Up → Bool) (w i left : ℕ) (xs : List (Node S V)) → left ≢ 0
+    → kept_from goes w i left xs ≡ map (kept_node goes i left (part w (after w (left - 1)) xs)) (take w xs) ++ kept_from goes w (suc i) (left - 1) (drop w xs)
+unfolding kept_from
+kept-more goes w i zero xs ne = absurd (ne (omega arith))
+kept-more goes w i (suc k) xs ne =
+    let e : k ≡ suc k - 1 = omega arith in
+    ap (λ (m : ℕ). map (kept_node goes i (suc k) (part w (after w m) xs)) (take w xs) ++ kept_from goes w (suc i) m (drop w xs)) e
 
 after_one : (w k : ℕ) → k ≡ 0 → after w k ≡ 1
 after_one w k e = ap (after w) e
@@ -23,3 +27,25 @@ pub next-there : (w left m : ℕ) → left ≢ 0 → left * w < m → w + after 
 next-there w zero m ne h = absurd (ne (omega arith))
 next-there w (suc zero) m ne h = omega (arith, after_one w (suc zero - 1) (omega arith), one-mul w)
 next-there w (suc (suc k)) m ne h = omega (arith, after_more w (suc (suc k) - 1) k (omega arith), suc-mul (suc k) w, suc-mul k w)
+
+-- what holds of all records of the layers holds of those of the first, and of the others
+all-both : {X : Type 0} (P : X → Type 0) (w m : ℕ) (xs : List X) → All P (take (w + m) xs) → All P (take w xs) × All P (take m (drop w xs))
+all-both P zero m [] h = (tt, all-none m)
+  where
+    all-none : (m : ℕ) → All P (take m [])
+    all-none zero = tt
+    all-none (suc m) = tt
+all-both P zero m (x ∷ xs) h = (tt, subst (λ (k : ℕ). All P (take k (x ∷ xs))) (omega arith) h)
+all-both P (suc w) m [] h = (tt, all-none m)
+  where
+    all-none : (m : ℕ) → All P (take m [])
+    all-none zero = tt
+    all-none (suc m) = tt
+all-both P (suc w) m (x ∷ xs) h =
+    let e : suc w + m ≡ suc (w + m) = omega arith in
+    let p : All P (take (suc (w + m)) (x ∷ xs)) = subst (λ (k : ℕ). All P (take k (x ∷ xs))) e h in
+    let q = all-both P w m xs p.1 in
+    ((p.0, q.0), q.1)
+
+pub all-layers : {X : Type 0} (P : X → Type 0) (w left : ℕ) (xs : List X) → left ≢ 0 → All P (take (left * w) xs) → All P (take w xs) × All P (take ((left - 1) * w) (drop w xs))
+all-layers P w left xs ne h = all-both P w ((left - 1) * w) xs (subst (λ (k : ℕ). All P (take k xs)) (omega (arith, one_more left w ne)) h)

@@ -1,9 +1,8 @@
 mod CountNet
+mod Doors
 pub mod FilterWords
 mod Kept
+mod KeptNet
 mod Layering
 mod QuietWords
-mod ThinNet
-mod Thins
-mod TrimNet
-mod Trims
+mod Timely

@@ -1,3 +1,2 @@
+pub mod Kept
 pub mod Steps
-pub mod Thinned
-pub mod Trimmed

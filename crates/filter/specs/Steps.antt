@@ -1,18 +1,20 @@
--- Sweep and cut as the code does them, on the flat list: arcs are taken out by the labels that stand, then the list is tidied and labelled anew.
--- What this comes to on the records of a diagram is said in the words of the definitions of the calls.
-use Rattle.std.specs.Prelude.{◌≡◌, ℕ, ◌*◌, Bool, true, ◌&&◌, List, [], ◌∷◌, length, take, ◌==◌, nat_le}
+-- Sweep and cut as the code does them, on any list: arcs are taken out by the labels that stand, then the list is tidied and labelled anew.
+-- Nobody has to believe these steps: the facts at the end say, in the definitions of the calls, what they come to on the records of a diagram.
+use Rattle.std.specs.Prelude.{◌≡◌, ℕ, ◌*◌, Bool, true, ◌&&◌, List, [], ◌∷◌, length, take, Option, ◌==◌, nat_le}
 use Rattle.round.specs.declared.table.Round.{Round}
-use Rattle.round.specs.Clock.{latest}
+use Rattle.round.specs.Clock.{finish, latest}
 use Rattle.rules.specs.Rules.{RuleSense}
-use Rattle.tallies.specs.Tallies.{TallySense}
 use Rattle.layers.specs.declared.node.Node.{Node}
-use Rattle.layers.specs.Calls.{nodes, after_sweep, sweep_answer, after_cut, cut_answer, nothing_barred}
+use Rattle.layers.specs.declared.node.Down.{Down}
+use Rattle.layers.specs.declared.node.Up.{Up}
+use Rattle.layers.specs.Settings.{Setting}
+use Rattle.layers.specs.Labels.{leg, is_barred, is_above_ceiling}
+use Rattle.layers.specs.Calls.{arcs, labels, keeps_all_arcs, after_sweep, sweep_answer, after_cut, cut_answer}
 use Rattle.layers.specs.Shape.{IsShaped, IsTimely}
 use Rattle.labels.specs.Passes.{fits, blank_node, relabelled}
 use Rattle.tidying.specs.Counted.{arcs_within}
 use Rattle.tidying.specs.Tidied.{tidied, first_mark}
-use Rattle.filter.specs.Thinned.{thinned_from}
-use Rattle.filter.specs.Trimmed.{trimmed_all}
+use Rattle.filter.specs.Kept.{kept_from}
 
 -- no finish is above what the clock allows after 15 doors
 abbrev pub timely : {S V : Type 0} → List (Node S V) → Bool
@@ -31,31 +33,42 @@ pub record Done {S V A : Type 0} (n W : ℕ) (defined ys : List (Node S V)) (ans
   pub shaped : IsShaped n W ys
   pub timely : IsTimely n W ys
 
-module _ {S V : Type 0} (r : Round) (rule : RuleSense S) (tally : TallySense V) (W : ℕ) where
+module _ {S V : Type 0} (by : Setting S V) where
   -- tidied, and labelled anew
   unfoldable pub redone : List (Node S V) → List (Node S V)
   unfolding relabelled tidied
-  redone ys = relabelled r rule tally W (tidied W (blank_node r rule tally) r.n first_mark ys)
+  redone ys = relabelled by (tidied by.width (blank_node by.rule by.tally) by.round.n first_mark ys)
+
+  -- a filter: which arcs go
+  unfoldable pub filter_steps : (ℕ → ℕ → ℕ → Option (Down S V) → Option Up → Bool) → List (Node S V) → List (Node S V)
+  unfolding redone kept_from
+  filter_steps goes xs = redone (kept_from goes by.width 0 by.round.n xs)
 
   unfoldable pub sweep_steps : List (Node S V) → List (Node S V)
-  unfolding redone thinned_from
-  sweep_steps xs = redone (thinned_from r rule tally W 0 r.n xs)
+  unfolding filter_steps leg finish
+  sweep_steps = filter_steps (is_barred by.round by.rule)
 
   unfoldable pub cut_steps : V → List (Node S V) → List (Node S V)
-  unfolding redone trimmed_all
-  cut_steps c xs = redone (trimmed_all r rule tally c W xs)
-
-  -- no arc would be taken out: as many are left
-  unfoldable pub quiet_steps : List (Node S V) → Bool
-  unfolding arc_count thinned_from
-  quiet_steps xs = arc_count r.n W (thinned_from r rule tally W 0 r.n xs) == arc_count r.n W xs
+  unfolding filter_steps leg finish
+  cut_steps c = filter_steps (is_above_ceiling by.round by.tally c)
 
   -- on the records of a diagram: what the definitions of the calls say
   abbrev pub SweepDone : List (Node S V) → List (Node S V) → ℕ → Type 0
-  SweepDone xs ys m = fits r.n W (length xs) ≡ true → IsShaped r.n W xs → Done r.n W (after_sweep r rule tally W xs) ys (sweep_answer r rule tally W xs) m
+  SweepDone xs ys m =
+      fits by.round.n by.width (length xs) ≡ true → IsShaped by.round.n by.width xs
+      → Done by.round.n by.width (after_sweep by xs) ys (sweep_answer by xs) m
 
   abbrev pub CutDone : V → List (Node S V) → List (Node S V) → ℕ → Type 0
-  CutDone c xs ys m = fits r.n W (length xs) ≡ true → IsShaped r.n W xs → IsTimely r.n W xs → Done r.n W (after_cut r rule tally W c xs) ys (cut_answer r rule tally W c xs) m
+  CutDone c xs ys m =
+      fits by.round.n by.width (length xs) ≡ true → IsShaped by.round.n by.width xs → IsTimely by.round.n by.width xs
+      → Done by.round.n by.width (after_cut by c xs) ys (cut_answer by c xs) m
 
+module _ {S V : Type 0} (r : Round) (rule : RuleSense S) (W : ℕ) where
+  -- no arc would be taken out: as many are left
+  unfoldable pub quiet_steps : List (Node S V) → Bool
+  unfolding arc_count kept_from leg finish
+  quiet_steps xs = arc_count r.n W (kept_from (is_barred r rule) W 0 r.n xs) == arc_count r.n W xs
+
+  -- on the records of a diagram: no arc is one that a sweep takes out
   abbrev pub QuietDone : List (Node S V) → Bool → Type 0
-  QuietDone xs b = fits r.n W (length xs) ≡ true → IsShaped r.n W xs → b ≡ nothing_barred r rule tally 0 (nodes r.n W xs)
+  QuietDone xs b = fits r.n W (length xs) ≡ true → IsShaped r.n W xs → b ≡ keeps_all_arcs (is_barred r rule) 0 (arcs r.n W xs) (labels r.n W xs)

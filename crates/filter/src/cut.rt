@@ -1,19 +1,58 @@
 //! Cut: the filter by a ceiling.
 ghost use Rattle.std.specs.Prelude.{◌≡◌, ◌-◌, ◌*◌, ◌≤◌, ◌&&◌, length, take, if◌then◌else◌};
+ghost use Rattle.round.specs.Clock.{latest};
+ghost use Rattle.layers.specs.Settings.{lent_setting};
+ghost use Rattle.layers.specs.Labels.{is_above_ceiling};
 ghost use Rattle.labels.specs.Passes.{fits};
 ghost use Rattle.filter.specs.Steps.{timely, arc_count, cut_steps, CutDone};
 
-use crate::redo::redo;
-use crate::trim::trim;
+use crate::redo::filter;
+use crate::test::Test;
+use labels::leg::leg_from;
 use labels::room::has_room;
-use layers::node::Node;
+use layers::node::{Down, Node, Up};
+use layers::setting::Setting;
 use round::table::Round;
 use rules::rule::Rule;
+use std::marker::PhantomData;
 use tallies::tally::Tally;
-use tidying::count::count_arcs;
 
 /// The latest finish after 15 doors: 9,999 + 15 * 1,998.
 const LATEST: u32 = 39_969;
+
+/// The ceiling. A rule has no say in it: its states stand for themselves.
+#[derive(Drop)]
+pub(crate) struct Ceiling<'a, T, S, V> {
+    pub(crate) round: &'a Round,
+    pub(crate) tally: &'a T,
+    pub(crate) ceiling: V,
+    pub(crate) states: PhantomData<S>,
+}
+
+/// A finish that no label has could not be told to the tally, hence the bound.
+impl<'a, T: Tally, S: Copy> Test for Ceiling<'a, T, S, T::Value> {
+    type State = S;
+
+    type Value = T::Value;
+
+    ghost goes = { λ t. is_above_ceiling t.round.now (T.Tally.sense t.tally.now) t.ceiling };
+
+    ghost fits = { λ t u. u.finish ≤ latest 15 };
+
+    fn takes_out(
+        &self,
+        layer: usize,
+        left: usize,
+        j: usize,
+        u: &Down<S, T::Value>,
+        v: &Up,
+    ) -> bool {
+        let leg = leg_from(self.round, u.lasts, j);
+        let finish = self.round.finish(u.finish, leg, j) as u32;
+        let value = self.tally.step(u.value, j, leg, finish);
+        !self.tally.not_above(value, self.ceiling)
+    }
+}
 
 /// Whether no finish of the first `end` records is above the latest: one that is could not be told to a tally.
 fn all_timely<S: Copy, V: Copy>(nodes: &[Node<S, V>], end: usize) -> bool
@@ -33,28 +72,29 @@ fn may_cut<S: Copy, V: Copy>(round: &Round, nodes: &[Node<S, V>], width: usize) 
 /// Takes out each arc whose arrival has a value above the ceiling, by the labels that stand, tidies and labels anew, and answers
 /// how many arcs went. A list that has no room for the diagram, or has a finish that no diagram has, is left alone.
 pub fn cut<R: Rule, T: Tally>(
-    round: &Round,
-    rule: &R,
-    tally: &T,
+    by: &Setting<'_, R, T>,
     nodes: &mut [Node<R::State, T::Value>],
-    width: usize,
     ceiling: T::Value,
 ) -> usize
-    ensures steps { nodes.new ≡ (if fits round.now.n width (length nodes.old) && timely
-        (take (round.now.n * width) nodes.old) then cut_steps round.now (R.Rule.sense rule.now)
-        (T.Tally.sense tally.now) width ceiling nodes.old else nodes.old) }
-    ensures counted { result ≡ (if fits round.now.n width (length nodes.old) && timely
-        (take (round.now.n * width) nodes.old) then arc_count round.now.n width nodes.old -
-        arc_count round.now.n width nodes.new else 0) }
-    ensures words { CutDone round.now (R.Rule.sense rule.now) (T.Tally.sense tally.now) width
-        ceiling nodes.old nodes.new result }
+    ensures steps { let by = lent_setting by.now (R.sense by.now.rule.now) (T.sense by.now.tally.now) in
+        nodes.new ≡ (if fits by.round.n by.width (length nodes.old)
+        && timely (take (by.round.n * by.width) nodes.old)
+        then cut_steps by ceiling nodes.old else nodes.old) }
+    ensures counted { let n = by.now.round.now.n in
+        result ≡ (if fits n by.now.width (length nodes.old)
+        && timely (take (n * by.now.width) nodes.old)
+        then arc_count n by.now.width nodes.old - arc_count n by.now.width nodes.new else 0) }
+    ensures words { let by = lent_setting by.now (R.sense by.now.rule.now) (T.sense by.now.tally.now) in
+        CutDone by ceiling nodes.old nodes.new result }
 {
-    if !may_cut(round, nodes, width) {
+    if !may_cut(by.round, nodes, by.width) {
         return 0;
     }
-    let before = count_arcs(round, nodes, width);
-    trim(round, tally, nodes, width, ceiling);
-    redo(round, rule, tally, nodes, width);
-    let left = count_arcs(round, nodes, width);
-    before.saturating_sub(left)
+    let test = Ceiling {
+        round: by.round,
+        tally: by.tally,
+        ceiling,
+        states: PhantomData,
+    };
+    filter(by, &test, nodes)
 }

@@ -5,5 +5,5 @@ pub mod cut;
 pub mod quiet;
 mod redo;
 pub mod sweep;
-mod thin;
-mod trim;
+mod take;
+mod test;

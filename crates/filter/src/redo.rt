@@ -1,28 +1,50 @@
-//! What sweep and cut have in common: once arcs are taken out, the list is tidied and labelled anew.
-ghost use Rattle.std.specs.Prelude.{◌≡◌, true, length};
+//! What every filter does: arcs are taken out, then the list is tidied and labelled anew.
+ghost use Rattle.std.specs.Prelude.{◌≡◌, ◌-◌, ◌*◌, true, length, take};
+ghost use Rattle.std.specs.List.{AllByRecursion};
+ghost use Rattle.layers.specs.Settings.{lent_setting};
 ghost use Rattle.labels.specs.Passes.{fits};
-ghost use Rattle.filter.specs.Steps.{redone};
+ghost use Rattle.filter.specs.Kept.{HasLabel};
+ghost use Rattle.filter.specs.Steps.{arc_count, redone, filter_steps};
 
+use crate::take::take_from;
+use crate::test::Test;
 use labels::blank::blank_node;
 use labels::relabel::relabel;
 use layers::node::Node;
-use round::table::Round;
+use layers::setting::Setting;
 use rules::rule::Rule;
 use tallies::tally::Tally;
+use tidying::count::count_arcs;
 use tidying::tidy::tidy;
 
-pub(crate) fn redo<R: Rule, T: Tally>(
-    round: &Round,
-    rule: &R,
-    tally: &T,
-    nodes: &mut [Node<R::State, T::Value>],
-    width: usize,
-)
-    requires { fits round.now.n width (length nodes.old) ≡ true }
-    ensures { nodes.new ≡ redone round.now (R.Rule.sense rule.now) (T.Tally.sense tally.now) width
-        nodes.old }
+/// Tidied, and labelled anew.
+fn redo<R: Rule, T: Tally>(by: &Setting<'_, R, T>, nodes: &mut [Node<R::State, T::Value>])
+    requires { fits by.now.round.now.n by.now.width (length nodes.old) ≡ true }
+    ensures { let by = lent_setting by.now (R.sense by.now.rule.now) (T.sense by.now.tally.now) in
+        nodes.new ≡ redone by nodes.old }
 {
-    let blank = blank_node(rule, tally);
-    tidy(round, nodes, width, &blank);
-    relabel(round, rule, tally, nodes, width);
+    let blank = blank_node(by.rule, by.tally);
+    tidy(by.round, nodes, by.width, &blank);
+    relabel(by, nodes);
+}
+
+/// Takes out each arc that goes by the test, tidies and labels anew, and answers how many arcs went.
+pub(crate) fn filter<R: Rule, T: Tally, F: Test<State = R::State, Value = T::Value>>(
+    by: &Setting<'_, R, T>,
+    test: &F,
+    nodes: &mut [Node<R::State, T::Value>],
+) -> usize
+    requires room { fits by.now.round.now.n by.now.width (length nodes.old) ≡ true }
+    requires fits { AllByRecursion (HasLabel (F.fits test.now))
+        (take (by.now.round.now.n * by.now.width) nodes.old) }
+    ensures steps { let by = lent_setting by.now (R.sense by.now.rule.now) (T.sense by.now.tally.now) in
+        nodes.new ≡ filter_steps by (F.goes test.now) nodes.old }
+    ensures counted { result ≡ arc_count by.now.round.now.n by.now.width nodes.old -
+        arc_count by.now.round.now.n by.now.width nodes.new }
+{
+    let before = count_arcs(by.round, nodes, by.width);
+    take_from(test, 0, by.round.n, nodes, by.width);
+    redo(by, nodes);
+    let left = count_arcs(by.round, nodes, by.width);
+    before.saturating_sub(left)
 }

@@ -7,8 +7,8 @@ use Rattle.layers.specs.Flow.{Net, IsRoomy, IsEven}
 use Rattle.layers.specs.Records.{arcs_read, laid_arcs}
 use Rattle.layers.specs.Calls.{arcs}
 use Rattle.layers.specs.Shape.{targets_of, IsShaped}
-use Rattle.layers.proofs.Proper.{Proper, even-of}
-use Rattle.layers.proofs.Shaped.{shaped-proper, tied-ranged, RangedAll}
+use Rattle.layers.proofs.Proper.{Proper, even-of, tied-ranged, RangedAll}
+use Rattle.layers.proofs.Shaped.{shaped-proper}
 use Rattle.labels.proofs.Laying.{Arranged, Good, arranged-of, few}
 
 -- arcs are their targets

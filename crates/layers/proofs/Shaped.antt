@@ -54,7 +54,7 @@ drop-among (suc w) (suc m) [] x i = absurd i
 drop-among (suc w) m (y ∷ xs) x i = rw (suc-add w m) (inr (drop-among w m xs x i))
 
 module _ {S V : Type 0} (n W : ℕ) where
-  drawn-deep : (k : ℕ) (xs : List (Node S V)) → length (arcs_of_layers n (layers W k xs)) ≡ k
+  pub drawn-deep : (k : ℕ) (xs : List (Node S V)) → length (arcs_of_layers n (layers W k xs)) ≡ k
   drawn-deep zero xs = refl
   drawn-deep (suc zero) xs = refl
   drawn-deep (suc (suc k)) xs = ap suc (drawn-deep (suc k) (drop W xs))

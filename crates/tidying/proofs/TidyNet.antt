@@ -10,7 +10,7 @@ use Rattle.layers.specs.Records.{padded_targets, arcs_at}
 use Rattle.layers.proofs.Flows.{rank-zero, has-arc, redirect-arc, mark-next, flags-at, renumber-at}
 use Rattle.layers.proofs.Tied.{some_of, flags-back, redirect-back, redirect-length, renumber-back, marked_from, climbs, climbs-from}
 use Rattle.layers.proofs.Bridge.{table-ext}
-use Rattle.layers.proofs.Standing.{same_bool}
+use Rattle.layers.proofs.Counts.{same_bool}
 use Rattle.layers.proofs.Walk.{door-at}
 use Rattle.labels.proofs.Laying.{arcs_of, Arranged, Good}
 use Rattle.layers.specs.Targets.{targets, at_door}

@@ -3,7 +3,7 @@ use Rattle.std.proofs.lemmas.Iterator.{YieldsList-from_slice}
 use Rattle.std.proofs.lemmas.Iterator.Search.{all_from_yields_List}
 use Rattle.round.specs.Clock.{latest}
 use Rattle.layers.specs.declared.node.Node.{Node}
-use Rattle.filter.proofs.TrimNet.{timely-each}
+use Rattle.filter.proofs.Timely.{timely-each}
 use Rattle.filter.proofs.cut.all_timely.Goals as goal
 
 pub returns : goal.returns

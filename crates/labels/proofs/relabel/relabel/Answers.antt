@@ -3,7 +3,7 @@ use Rattle.layers.specs.Settings.{lent_setting}
 use Rattle.std.proofs.lemmas.Bool.{cond-true, cond-false}
 use Rattle.labels.specs.Passes.{fits, pass_up, relabelled}
 use Rattle.labels.proofs.Laying.{relabelled-read}
-use Rattle.labels.proofs.Rooms.{room-facts, room-from}
+use Rattle.labels.proofs.Rooms.{room-facts}
 use Rattle.labels.proofs.relabel.relabel.Goals as goal
 
 pub label_down-requires : goal.label_down-requires

@@ -1,0 +1,106 @@
+-- Taking out arcs on the flat list comes to taking them out of the net.
+use Rattle.std.proofs.Common.{◌≡◌, ℕ, zero, suc, ◌+◌, ◌*◌, ◌<◌, ◌≤◌, Bool, cond, List, [], ◌++◌, map, length, get_or, take, drop, Some, None, Option, sym, refl, ap, ◌∙◌, subst, ap₂, suc-mul, arith}
+use Rattle.std.proofs.lemmas.Bool.{lt-ltb}
+use Rattle.std.proofs.lemmas.List.{get_or-map, length-map, take_at, drop_at, drop-drop, length-append, length-drop, length-take-le}
+use Rattle.layers.specs.declared.node.Down.{Down}
+use Rattle.layers.specs.declared.node.Node.{Node}
+use Rattle.layers.specs.declared.node.Up.{Up}
+use Rattle.layers.specs.Flow.{table, Layer, Net, node, target, width, redirect}
+use Rattle.layers.specs.Records.{nodes_in, layers, arcs_in, downs_in, ups_in, arcs_of_layers, arcs_at}
+use Rattle.layers.specs.Calls.{kept_arcs, labels_in}
+use Rattle.layers.proofs.Shaped.{standing-at, standing-short, drawn-deep}
+use Rattle.layers.proofs.Proper.{RangedAll}
+use Rattle.labels.specs.Passes.{part}
+use Rattle.labels.proofs.Laying.{Arranged, arcs_of}
+use Rattle.labels.proofs.RedirectNet.{redirect-arranged, arranged-long}
+use Rattle.filter.specs.Kept.{after, kept_to, kept_node, kept_from}
+
+module _ {S V : Type 0} (n : ℕ) where
+  arcs-many : (N : List (Node S V)) → length (arcs_in n N) ≡ length N
+  arcs-many N = length-map N (λ (x : Node S V). take n x.arcs.to)
+
+-- the label of a node as it stands, read off the layer and off the list
+down-there : {S V : Type 0} (us : List (Node S V)) (a : ℕ) (d : Node S V) → a < length (nodes_in us) → get_or (downs_in (nodes_in us)) a None ≡ Some (get_or us a d).label.down
+down-there {S} {V} us a d h =
+    get_or-map (λ (x : Node S V). Some x.label.down) (nodes_in us) a d None h ∙ ap (λ (x : Node S V). Some x.label.down) (standing-at us a d h)
+
+up-there : {S V : Type 0} (vs : List (Node S V)) (b : ℕ) (d : Node S V) → b < length (nodes_in vs) → get_or (ups_in vs) b None ≡ get_or (ups_in (nodes_in vs)) b None
+up-there {S} {V} vs b d h =
+    get_or-map (λ (x : Node S V). Some x.label.up) vs b d None (omega (arith, standing-short vs))
+    ∙ sym (get_or-map (λ (x : Node S V). Some x.label.up) (nodes_in vs) b d None h ∙ ap (λ (x : Node S V). Some x.label.up) (standing-at vs b d h))
+
+-- ---- one layer
+module _ {S V : Type 0} (n : ℕ) (goes : ℕ → ℕ → ℕ → Option (Down S V) → Option Up → Bool) (W : ℕ) where
+  -- what becomes of an arc of the layer us, ahead of the layer vs
+  abbrev Left : ℕ → ℕ → List (Node S V) → List (Node S V) → ℕ → ℕ → ℕ → ℕ
+  Left i h us vs a j b = cond (goes i h j (get_or (downs_in (nodes_in us)) a None) (get_or (ups_in (nodes_in vs)) b None)) 0 (suc b)
+
+  kept_row : (i h : ℕ) (us vs : List (Node S V)) → length (arcs_in n (nodes_in us)) ≤ W → map arcs_of us ≡ table W (arcs_at (arcs_in n (nodes_in us)))
+      → ((a j b : ℕ) → target (node (arcs_in n (nodes_in us)) a) j ≡ suc b → b < length (nodes_in vs))
+      → map arcs_of (map (kept_node goes i h vs) us) ≡ table W (arcs_at (redirect (Left i h us vs) (arcs_in n (nodes_in us))))
+  unfolding kept_node kept_to
+  kept_row i h us vs fits e g =
+      redirect-arranged W (arcs_in n (nodes_in us)) us (kept_to goes i h vs) (Left i h us vs) fits e
+      (λ d a j b k t. let lt = g a j b t in
+      rw (lt-ltb b (length vs) (omega (arith, standing-short vs)))
+      (ap₂ (λ (x : Option (Down S V)) (y : Option Up). cond (goes i h j x y) 0 (suc b))
+      (sym (down-there us a d (omega (arith, arcs-many n (nodes_in us))))) (up-there vs b d lt)))
+
+  -- ---- all layers
+  pub front-row : (X Y : List (Node S V)) (L : Layer) → map arcs_of X ≡ table W (arcs_at L) → (take W (X ++ Y) ≡ X) × (drop W (X ++ Y) ≡ Y)
+  front-row X Y L e = let l = arranged-long W L X e in (take_at X Y W l, drop_at X Y W l)
+
+  -- an arc to the end finds it standing
+  abbrev pub EndedFrom : ℕ → List (Node S V) → Type 0
+  EndedFrom zero xs = Unit {0}
+  EndedFrom (suc zero) xs = (a j b : ℕ) → target (node (arcs_in n (nodes_in (take W xs))) a) j ≡ suc b → length (nodes_in (take 1 (drop W xs))) ≡ 1
+  EndedFrom (suc (suc k)) xs = EndedFrom (suc k) (drop W xs)
+
+  row-short : (us : List (Node S V)) (L : Layer) → map arcs_of us ≡ table W (arcs_at L) → length (arcs_in n (nodes_in us)) ≤ W
+  row-short us L e = omega (arith, arcs-many n (nodes_in us), standing-short us, arranged-long W L us e)
+
+  row-wide : (k : ℕ) (ys : List (Node S V)) → width (arcs_of_layers n (layers W (suc k) ys)) ≡ length (nodes_in (take W ys))
+  row-wide zero ys = arcs-many n (nodes_in (take W ys))
+  row-wide (suc k) ys = arcs-many n (nodes_in (take W ys))
+
+  -- the arcs that stand in k layers of the list, less those that go
+  abbrev pub Filtered : ℕ → ℕ → List (Node S V) → Net
+  Filtered i k xs = kept_arcs goes i (arcs_of_layers n (layers W k xs)) (labels_in (layers W k xs))
+
+  pub kept-arranged : (i k : ℕ) (xs : List (Node S V)) → Arranged W (arcs_of_layers n (layers W k xs)) xs → RangedAll (arcs_of_layers n (layers W k xs)) → EndedFrom k xs
+      → Arranged W (Filtered i k xs) (kept_from goes W i k xs)
+  unfolding kept_arcs kept_from
+  kept-arranged i zero xs e g s = e
+  kept-arranged i (suc zero) xs e g s =
+      let us = take W xs in
+      let vs = take 1 (drop W xs) in
+      let L = arcs_in n (nodes_in us) in
+      let row = kept_row i 1 us vs (row-short us L e.0) e.0 (λ a j b t. let z = s a j b t in let y = g.0 a j b t in omega arith) in
+      let f = front-row (map (kept_node goes i 1 vs) us) (drop W xs) _ row in
+      (ap (map arcs_of) f.0 ∙ row, subst (Arranged W []) (sym f.1) e.1)
+  kept-arranged i (suc (suc k)) xs e g s =
+      let us = take W xs in
+      let vs = take W (drop W xs) in
+      let L = arcs_in n (nodes_in us) in
+      let row = kept_row i (suc (suc k)) us vs (row-short us L e.0) e.0 (λ a j b t. let y = g.0 a j b t in omega (arith, row-wide k (drop W xs))) in
+      let rest = kept_from goes W (suc i) (suc k) (drop W xs) in
+      let f = front-row (map (kept_node goes i (suc (suc k)) vs) us) rest _ row in
+      let h : suc (suc k) ≡ suc (length (arcs_of_layers n (layers W (suc k) (drop W xs)))) = ap suc (sym (drawn-deep n W (suc k) (drop W xs))) in (
+        ap (map arcs_of) f.0 ∙ row ∙ ap (λ (h : ℕ). table W (arcs_at (redirect (Left i h us vs) L))) h,
+        subst (Arranged W (Filtered (suc i) (suc k) (drop W xs))) (sym f.1) (kept-arranged (suc i) (suc k) (drop W xs) e.1 g.1 s),
+      )
+
+  -- what follows the layers stays
+  pub kept-tail : (i k : ℕ) (xs : List (Node S V)) → k * W ≤ length xs → (length (kept_from goes W i k xs) ≡ length xs) × (drop (k * W) (kept_from goes W i k xs) ≡ drop (k * W) xs)
+  unfolding kept_from
+  kept-tail i zero xs h = (refl, refl)
+  kept-tail i (suc k) xs h =
+      let us = take W xs in
+      let f = kept_node goes i (suc k) (part W (after W k) xs) in
+      let rest = kept_from goes W (suc i) k (drop W xs) in
+      let e : suc k * W ≡ W + k * W = omega (arith, suc-mul k W) in
+      let long : length (map f us) ≡ W = length-map us f ∙ length-take-le W xs (omega (arith, e)) in
+      let ih = kept-tail (suc i) k (drop W xs) (omega (arith, e, length-drop W xs)) in (
+        omega (arith, e, length-append (map f us) rest, long, ih.0, length-drop W xs),
+        ap (λ (m : ℕ). drop m (map f us ++ rest)) e ∙ sym (drop-drop (k * W) W (map f us ++ rest)) ∙ ap (drop (k * W)) (drop_at (map f us) rest W long) ∙ ih.1 ∙ drop-drop (k * W) W xs ∙ ap (λ (m : ℕ). drop m xs) (sym e),
+      )

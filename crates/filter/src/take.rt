@@ -1,0 +1,117 @@
+//! Taking out arcs by a test, by the labels that stand.
+ghost use Rattle.std.specs.Prelude.{◌≡◌, ◌+◌, ◌-◌, ◌*◌, ◌<◌, ◌≤◌, map, length, take, slice_index};
+ghost use Rattle.std.specs.List.{AllByRecursion};
+ghost use Rattle.layers.specs.Targets.{at_door};
+ghost use Rattle.filter.specs.Kept.{HasLabel, after, kept_to, kept_node, kept_from};
+
+use crate::test::Test;
+use layers::node::{Arcs, Node};
+
+/// A layer that is filtered: the test, the layer's number, how many layers of arcs there are from it to the end, and the layer
+/// after it.
+#[derive(Drop)]
+pub(crate) struct Step<'a, F, S, V> {
+    pub(crate) test: &'a F,
+    pub(crate) layer: usize,
+    pub(crate) left: usize,
+    pub(crate) next: &'a [Node<S, V>],
+}
+
+/// What is left of u's arc by the door k + 1; one that leads out of the next layer goes.
+fn door_left<F: Test>(
+    at: &Step<'_, F, F::State, F::Value>,
+    u: &Node<F::State, F::Value>,
+    k: usize,
+) -> u8
+    requires layer_bound { at.now.layer ≤ 16 }
+    requires left_bound { at.now.left ≤ 16 }
+    requires k_bound { k < 16 }
+    requires fits { F.fits at.now.test.now u.now.label.down }
+    ensures { let goes = F.goes at.now.test.now in
+        result ≡ at_door (kept_to goes at.now.layer at.now.left at.now.next.now u.now) (k + 1)
+        (slice_index u.now.arcs.to k) }
+{
+    let to = u.arcs.to[k];
+    let t = to as usize;
+    if t == 0 || t > at.next.len() {
+        return 0;
+    }
+    let v = at.next[t - 1];
+    if at
+        .test
+        .takes_out(at.layer, at.left, k + 1, &u.label.down, &v.label.up)
+    {
+        0
+    } else {
+        to
+    }
+}
+
+pub(crate) fn node_left<F: Test>(
+    at: &Step<'_, F, F::State, F::Value>,
+    u: &Node<F::State, F::Value>,
+) -> Node<F::State, F::Value>
+    requires layer_bound { at.now.layer ≤ 16 }
+    requires left_bound { at.now.left ≤ 16 }
+    requires fits { F.fits at.now.test.now u.now.label.down }
+    ensures { let goes = F.goes at.now.test.now in
+        result ≡ kept_node goes at.now.layer at.now.left at.now.next.now u.now }
+{
+    let mut to = [0u8; 16];
+    for k in 0..16 {
+        to[k] = door_left(at, u, k);
+    }
+    Node {
+        arcs: Arcs { to },
+        label: u.label,
+    }
+}
+
+/// The layer us.
+fn take_out<F: Test>(at: &Step<'_, F, F::State, F::Value>, us: &mut [Node<F::State, F::Value>])
+    requires layer_bound { at.now.layer ≤ 16 }
+    requires left_bound { at.now.left ≤ 16 }
+    requires fits { AllByRecursion (HasLabel (F.fits at.now.test.now)) us.old }
+    ensures { let goes = F.goes at.now.test.now in
+        us.new ≡ map (kept_node goes at.now.layer at.now.left at.now.next.now) us.old }
+{
+    for u in us.iter_mut() {
+        *u = node_left(at, u);
+    }
+}
+
+/// How many records follow a layer of w, with `later` layers of arcs after it: after the last there is the end alone.
+pub(crate) fn next_count(w: usize, later: usize) -> usize
+    ensures { result ≡ after w later }
+{
+    if later == 0 { 1 } else { w }
+}
+
+/// Takes out each arc that goes, from a layer on, with `left` layers of arcs from it to the end.
+pub(crate) fn take_from<F: Test>(
+    test: &F,
+    layer: usize,
+    left: usize,
+    nodes: &mut [Node<F::State, F::Value>],
+    w: usize,
+)
+    requires layer_bound { layer + left ≤ 16 }
+    requires w_in_bounds { left * w < length nodes.old }
+    requires fits { AllByRecursion (HasLabel (F.fits test.now)) (take (left * w) nodes.old) }
+    ensures { nodes.new ≡ kept_from (F.goes test.now) w layer left nodes.old }
+{
+    if left == 0 {
+        return;
+    }
+    let m = next_count(w, left - 1);
+    let (us, rest) = nodes.split_at_mut(w);
+    let next = &rest[..m];
+    let at = Step {
+        test,
+        layer,
+        left,
+        next,
+    };
+    take_out(&at, us);
+    take_from(test, layer + 1, left - 1, rest, w);
+}
