@@ -8,7 +8,8 @@ use Rattle.layers.specs.Records.{layers, arcs_of_layers, labelled_records}
 use Rattle.layers.specs.Settings.{Setting}
 use Rattle.layers.specs.declared.node.Down.{Down}
 use Rattle.layers.specs.declared.node.Up.{Up}
-use Rattle.layers.specs.Calls.{arcs, labels, kept_arcs, records_with, arcs_lost}
+use Rattle.layers.specs.Calls.{arcs, labels, kept_arcs, records_with, arcs_lost, after_sweep}
+use Rattle.layers.specs.Labels.{is_barred}
 use Rattle.layers.specs.Shape.{IsShaped, IsTimely}
 use Rattle.layers.proofs.Proper.{Proper, even-of, lawful, tied-ranged, RangedAll, Less, kept-less, proper-less}
 use Rattle.layers.proofs.Shaped.{shaped-proper, relaid-shaped, ended-one}
@@ -20,7 +21,7 @@ use Rattle.labels.proofs.Shaped_arranged.{shaped-arranged, good-net}
 use Rattle.tidying.specs.Tidied.{first_mark}
 use Rattle.tidying.specs.Tidied.{tidied as tidiedFlat}
 use Rattle.tidying.proofs.TidyNet.{tidied-arranged, tidied-tail}
-use Rattle.filter.specs.Steps.{arc_count, redone, filter_steps}
+use Rattle.filter.specs.Steps.{arc_count, redone, filter_steps, sweep_steps}
 use Rattle.filter.specs.Kept.{kept_from}
 use Rattle.filter.proofs.CountNet.{arc-count}
 use Rattle.filter.proofs.KeptNet.{EndedFrom, kept-arranged, kept-tail}
@@ -108,6 +109,20 @@ module _ {S V : Type 0} (by : Setting S V) (xs : List (Node S V)) (fit : fits by
 
   pub filter-timely : IsTimely by.round.n by.width Defined
   filter-timely = relaid-timely by xs (tidied_arcs (Ms by.round by.width xs fit s goes)) tidy-proper.deep
+
+-- so of a sweep
+module _ {S V : Type 0} (by : Setting S V) (xs : List (Node S V)) (fit : fits by.round.n by.width (length xs) ≡ true) (s : IsShaped by.round.n by.width xs) where
+  pub sweep-words : sweep_steps by xs ≡ after_sweep by xs
+  unfolding sweep_steps after_sweep
+  sweep-words = filter-words by xs fit s (is_barred by.round by.rule)
+
+  pub swept-shaped : IsShaped by.round.n by.width (after_sweep by xs)
+  unfolding after_sweep
+  swept-shaped = filter-shaped by xs fit s (is_barred by.round by.rule)
+
+  pub swept-timely : IsTimely by.round.n by.width (after_sweep by xs)
+  unfolding after_sweep
+  swept-timely = filter-timely by xs fit s (is_barred by.round by.rule)
 
 -- the answer of a call that leaves the records ys
 pub fewer-words : {S V : Type 0} (r : Round) (W : ℕ) (xs ys : List (Node S V)) → fits r.n W (length xs) ≡ true → length ys ≡ length xs → IsShaped r.n W xs → IsShaped r.n W ys → arc_count r.n W xs - arc_count r.n W ys ≡ arcs_lost r.n W xs ys

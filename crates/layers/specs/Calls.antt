@@ -14,6 +14,7 @@ use Rattle.layers.specs.declared.refusal.Refusal.{Refusal}
 use Rattle.layers.specs.declared.refusal.Refusal.TheVariants.{Width, Short, NoLayer, NoNode, NoDoor, OneGroup, LayerFull, SameNode, Clash, SameDoor}
 use Rattle.layers.specs.Flow.{Layer, Net, node, redirect, count_arcs, every_arc, arrivals_at, tidied_arcs, clash, joined_arcs, has_path_with}
 use Rattle.layers.specs.Settings.{Setting}
+use Rattle.std.specs.Int.Count.{ones}
 use Rattle.round.specs.Clock.{finish}
 use Rattle.layers.specs.Labels.{leg, arrival_over, opening_arcs, is_barred, is_above_ceiling, agree, all_agree, first_arrival, differs_from_first}
 use Rattle.layers.specs.Records.{layers, arcs_in, downs_in, ups_in, arcs_of_layers, labelled_records}
@@ -161,7 +162,7 @@ module _ {S V : Type 0} (by : Setting S V) where
 
   -- sweep
   unfoldable pub after_sweep : Recs → Recs
-  unfolding records_with tidied_arcs kept_arcs leg finish
+  unfolding records_with tidied_arcs kept_arcs ones leg finish
   after_sweep xs = records_with xs (tidied_arcs (kept_arcs (is_barred by.round by.rule) 0 (arcs by.round.n by.width xs) (labels by.round.n by.width xs)))
 
   -- how many arcs it took out
@@ -170,7 +171,7 @@ module _ {S V : Type 0} (by : Setting S V) where
 
   -- cut at the ceiling c
   unfoldable pub after_cut : V → Recs → Recs
-  unfolding records_with tidied_arcs kept_arcs leg finish
+  unfolding records_with tidied_arcs kept_arcs ones leg finish
   after_cut c xs = records_with xs (tidied_arcs (kept_arcs (is_above_ceiling by.round by.tally c) 0 (arcs by.round.n by.width xs) (labels by.round.n by.width xs)))
 
   -- how many arcs it took out
@@ -296,7 +297,7 @@ module _ {S V : Type 0} (by : Setting S V) where
 
   -- settled: the in-arcs of each node agree, and no arc is one that a sweep takes out
   unfoldable pub is_settled : Recs → Bool
-  unfolding in_arcs_agree keeps_all_arcs leg finish
+  unfolding in_arcs_agree keeps_all_arcs ones leg finish
   is_settled xs =
       in_arcs_agree by (arcs by.round.n by.width xs) (labels by.round.n by.width xs)
       && keeps_all_arcs (is_barred by.round by.rule) 0 (arcs by.round.n by.width xs) (labels by.round.n by.width xs)

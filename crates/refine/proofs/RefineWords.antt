@@ -9,14 +9,14 @@ use Rattle.layers.specs.declared.node.Node.{Node}
 use Rattle.layers.specs.declared.refined.Refined.{Refined}
 use Rattle.layers.specs.declared.refined.Refined.TheVariants.{Full}
 use Rattle.layers.specs.Flow.{Net, count_arcs, tidied_arcs}
-use Rattle.layers.specs.Labels.{first_labels}
+use Rattle.layers.specs.Labels.{is_barred, first_labels}
 use Rattle.layers.specs.Records.{labelled_records}
-use Rattle.layers.specs.Calls.{nodes, arcs, unbarred_arcs, records_with, after_sweep, sweep_answer, parts_of_layer, refinement_from, after_sweeps, refinement}
+use Rattle.layers.specs.Calls.{arcs, labels, kept_arcs, records_with, after_sweep, sweep_answer, parts_of_layer, refinement_from, after_sweeps, refinement}
 use Rattle.layers.specs.Shape.{IsShaped, IsTimely}
 use Rattle.layers.proofs.Bridge.{laid-long, later-stays}
 use Rattle.layers.proofs.Model.{parted}
-use Rattle.layers.proofs.Proper.{Proper, lawful, proper-parted}
-use Rattle.layers.proofs.Shaped.{relaid-shaped, thinned-less, proper-less}
+use Rattle.layers.proofs.Proper.{Proper, lawful, proper-kept, proper-parted}
+use Rattle.layers.proofs.Shaped.{relaid-shaped}
 use Rattle.layers.proofs.Standing.{splits-X}
 use Rattle.labels.specs.Passes.{fits, relabelled}
 use Rattle.labels.proofs.Laying.{relabelled-lawful}
@@ -26,147 +26,148 @@ use Rattle.filter.proofs.FilterWords.{proper, sweep-words, swept-shaped, swept-t
 use Rattle.split.specs.Steps.{layer_steps}
 use Rattle.split.proofs.LayerWords.{Done, layer-net}
 use Rattle.refine.specs.Steps.{one_layer, some_layers, sweeps_out, refine_steps}
+use Rattle.layers.specs.Settings.{Setting}
 
-module _ {S V : Type 0} (r : Round) (R : RuleSense S) (self : (s : S) → R.same s s ≡ true) (T : TallySense V) (W : ℕ) where
+module _ {S V : Type 0} (by : Setting S V) (self : (s : S) → by.rule.same s s ≡ true) where
   abbrev Recs : Type 0
   Recs = List (Node S V)
 
   abbrev n : ℕ
-  n = r.n
+  n = by.round.n
 
   -- the arcs that a sweep of xs leaves
   abbrev left : Recs → Net
-  left xs = tidied_arcs (unbarred_arcs r R T 0 (nodes n W xs))
+  left xs = tidied_arcs (kept_arcs (is_barred by.round by.rule) 0 (arcs n by.width xs) (labels n by.width xs))
 
-  left-proper : (xs : Recs) → fits n W (length xs) ≡ true → IsShaped n W xs → Proper n W (left xs)
-  left-proper xs fit s = proper-less r R T W (room-facts n W (length xs) fit).low (arcs n W xs) (unbarred_arcs r R T 0 (nodes n W xs)) (thinned-less r R T W 0 (nodes n W xs)) (proper r R T W xs fit s)
+  left-proper : (xs : Recs) → fits n by.width (length xs) ≡ true → IsShaped n by.width xs → Proper n by.width (left xs)
+  left-proper xs fit s = proper-kept by (room-facts n by.width (length xs) fit).low (is_barred by.round by.rule) (arcs n by.width xs) (labels n by.width xs) (proper by.round by.width xs fit s)
 
   abbrev later : Recs → Recs
-  later xs = drop (n * W + 1) xs
+  later xs = drop (n * by.width + 1) xs
 
   -- the arcs that refining layer i leaves, after a sweep of xs
   abbrev after : ℕ → Recs → Bool × Net
-  after i xs = parted r R T W W i 0 (left xs)
+  after i xs = parted by by.width i 0 (left xs)
 
-  after-proper : (i : ℕ) (xs : Recs) → fits n W (length xs) ≡ true → IsShaped n W xs → 1 ≤ i → Proper n W (after i xs).1
-  after-proper i xs fit s lo = proper-parted r R self T W (room-facts n W (length xs) fit).low W i 0 (left xs) lo (left-proper xs fit s)
+  after-proper : (i : ℕ) (xs : Recs) → fits n by.width (length xs) ≡ true → IsShaped n by.width xs → 1 ≤ i → Proper n by.width (after i xs).1
+  after-proper i xs fit s lo = proper-parted by self (room-facts n by.width (length xs) fit).low by.width i 0 (left xs) lo (left-proper xs fit s)
 
   -- the parts of a layer on arcs alone
-  parts : (i : ℕ) (xs : Recs) → fits n W (length xs) ≡ true → IsShaped n W xs → 1 ≤ i → i < n → Done n W (after_sweep r R T W xs) (after i xs) (layer_steps r R T W i (after_sweep r R T W xs))
+  parts : (i : ℕ) (xs : Recs) → fits n by.width (length xs) ≡ true → IsShaped n by.width xs → 1 ≤ i → i < n → Done n by.width (after_sweep by xs) (after i xs) (layer_steps by i (after_sweep by xs))
   unfolding after_sweep records_with
   parts i xs fit s lo hi =
-      let f = room-facts n W (length xs) fit in
-      let ys = after_sweep r R T W xs in
-      let p = layer_steps r R T W i ys in
-      layer-net r R self T W i (later xs) (left xs) ys p.1 p.0 f.low f.high lo hi (left-proper xs fit s) refl refl
+      let f = room-facts n by.width (length xs) fit in
+      let ys = after_sweep by xs in
+      let p = layer_steps by i ys in
+      layer-net by self i (later xs) (left xs) ys p.1 p.0 f.low f.high lo hi (left-proper xs fit s) refl refl
 
-  layer-is : (i : ℕ) (xs : Recs) → fits n W (length xs) ≡ true → IsShaped n W xs → 1 ≤ i → i < n → one_layer r R T W i xs ≡ ((after i xs).0, records_with r R T W xs (after i xs).1)
+  layer-is : (i : ℕ) (xs : Recs) → fits n by.width (length xs) ≡ true → IsShaped n by.width xs → 1 ≤ i → i < n → one_layer by i xs ≡ ((after i xs).0, records_with by xs (after i xs).1)
   unfolding one_layer after_sweep records_with
   layer-is i xs fit s lo hi =
       let q = parts i xs fit s lo hi in
-      let zs = (layer_steps r R T W i (after_sweep r R T W xs)).1 in
-      ap (λ (ys : Recs). ((layer_steps r R T W i ys).0, relabelled r R T W (layer_steps r R T W i ys).1)) (sweep-words r R T W xs fit s)
+      let zs = (layer_steps by i (after_sweep by xs)).1 in
+      ap (λ (ys : Recs). ((layer_steps by i ys).0, relabelled by (layer_steps by i ys).1)) (sweep-words by xs fit s)
       ∙ ap₂ (λ (b : Bool) (ys : Recs). (b, ys)) q.answer
-      (relabelled-lawful r R T W (after i xs).1 zs (lawful n W (after i xs).1 (after-proper i xs fit s lo)) q.arranged
-      ∙ ap (λ (ys : Recs). labelled_records r R T W (after i xs).1 ++ ys) (q.tail ∙ later-stays r R T W (room-facts n W (length xs) fit).low (later xs) (left xs) (left-proper xs fit s).deep))
+      (relabelled-lawful by (after i xs).1 zs (lawful n by.width (after i xs).1 (after-proper i xs fit s lo)) q.arranged
+      ∙ ap (λ (ys : Recs). labelled_records by (after i xs).1 ++ ys) (q.tail ∙ later-stays by (room-facts n by.width (length xs) fit).low (later xs) (left xs) (left-proper xs fit s).deep))
 
-  layer-words : (i : ℕ) (xs : Recs) → fits n W (length xs) ≡ true → IsShaped n W xs → 1 ≤ i → i < n → one_layer r R T W i xs ≡ parts_of_layer r R T W W i 1 (after_sweep r R T W xs)
+  layer-words : (i : ℕ) (xs : Recs) → fits n by.width (length xs) ≡ true → IsShaped n by.width xs → 1 ≤ i → i < n → one_layer by i xs ≡ parts_of_layer by by.width i 1 (after_sweep by xs)
   unfolding after_sweep records_with
   layer-words i xs fit s lo hi =
-      layer-is i xs fit s lo hi ∙ sym (splits-X r R self T W (room-facts n W (length xs) fit).low (later xs) W i 0 (left xs) (left-proper xs fit s) lo hi)
+      layer-is i xs fit s lo hi ∙ sym (splits-X by self (room-facts n by.width (length xs) fit).low (later xs) by.width i 0 (left xs) (left-proper xs fit s) lo hi)
 
   -- records laid out anew have as many places
-  relaid-long : (xs : Recs) (Ls : Net) → fits n W (length xs) ≡ true → length Ls ≡ n → length (records_with r R T W xs Ls) ≡ length xs
+  relaid-long : (xs : Recs) (Ls : Net) → fits n by.width (length xs) ≡ true → length Ls ≡ n → length (records_with by xs Ls) ≡ length xs
   unfolding records_with labelled_records
   relaid-long xs Ls fit deep =
-      let f = room-facts n W (length xs) fit in
-      let l : length (labelled_records r R T W Ls) ≡ n * W + 1 = laid-long r R T W f.low (first_labels r R T) Ls ∙ ap (λ (k : ℕ). k * W + 1) deep in
-      omega (arith, length-append (labelled_records r R T W Ls) (drop (n * W + 1) xs), l, length-drop (n * W + 1) xs, f.enough)
+      let f = room-facts n by.width (length xs) fit in
+      let l : length (labelled_records by Ls) ≡ n * by.width + 1 = laid-long by f.low (first_labels by.rule by.tally) Ls ∙ ap (λ (k : ℕ). k * by.width + 1) deep in
+      omega (arith, length-append (labelled_records by Ls) (drop (n * by.width + 1) xs), l, length-drop (n * by.width + 1) xs, f.enough)
 
-  relaid-fits : (xs : Recs) (Ls : Net) → fits n W (length xs) ≡ true → length Ls ≡ n → fits n W (length (records_with r R T W xs Ls)) ≡ true
-  relaid-fits xs Ls fit deep = ap (fits n W) (relaid-long xs Ls fit deep) ∙ fit
+  relaid-fits : (xs : Recs) (Ls : Net) → fits n by.width (length xs) ≡ true → length Ls ≡ n → fits n by.width (length (records_with by xs Ls)) ≡ true
+  relaid-fits xs Ls fit deep = ap (fits n by.width) (relaid-long xs Ls fit deep) ∙ fit
 
   -- ---- all layers
-  layers-words : (k i : ℕ) (xs : Recs) → fits n W (length xs) ≡ true → IsShaped n W xs → 1 ≤ i → i + k ≤ n
-      → (some_layers r R T W k i xs ≡ refinement_from r R T W k i xs) × IsShaped n W (refinement_from r R T W k i xs).1 × (fits n W (length (refinement_from r R T W k i xs).1) ≡ true)
+  layers-words : (k i : ℕ) (xs : Recs) → fits n by.width (length xs) ≡ true → IsShaped n by.width xs → 1 ≤ i → i + k ≤ n
+      → (some_layers by k i xs ≡ refinement_from by k i xs) × IsShaped n by.width (refinement_from by k i xs).1 × (fits n by.width (length (refinement_from by k i xs).1) ≡ true)
   unfolding some_layers refinement_from
   layers-words zero i xs fit s lo hi = (refl, s, fit)
   layers-words (suc k) i xs fit s lo hi =
       let a = after i xs in
-      let Y = records_with r R T W xs a.1 in
-      let is : one_layer r R T W i xs ≡ (a.0, Y) = layer-is i xs fit s lo (omega arith) in
-      let def : parts_of_layer r R T W W i 1 (after_sweep r R T W xs) ≡ (a.0, Y) = sym (layer-words i xs fit s lo (omega arith)) ∙ is in
+      let Y = records_with by xs a.1 in
+      let is : one_layer by i xs ≡ (a.0, Y) = layer-is i xs fit s lo (omega arith) in
+      let def : parts_of_layer by by.width i 1 (after_sweep by xs) ≡ (a.0, Y) = sym (layer-words i xs fit s lo (omega arith)) ∙ is in
       let p = after-proper i xs fit s lo in
-      let sY = relaid-shaped r R T W (room-facts n W (length xs) fit).low xs a.1 p in
+      let sY = relaid-shaped by (room-facts n by.width (length xs) fit).low xs a.1 p in
       let fY = relaid-fits xs a.1 fit p.deep in
       let ih = layers-words k (suc i) Y fY sY (omega arith) (omega arith) in
-      let G : Bool × Recs → Refined × Recs = λ p. cond p.0 (Full i, p.1) (some_layers r R T W k (suc i) p.1) in
-      let H : Bool × Recs → Refined × Recs = λ p. cond p.0 (Full i, p.1) (refinement_from r R T W k (suc i) p.1) in
+      let G : Bool × Recs → Refined × Recs = λ p. cond p.0 (Full i, p.1) (some_layers by k (suc i) p.1) in
+      let H : Bool × Recs → Refined × Recs = λ p. cond p.0 (Full i, p.1) (refinement_from by k (suc i) p.1) in
       let same : G (a.0, Y) ≡ H (a.0, Y) = ap (λ (z : Refined × Recs). cond a.0 (Full i, Y) z) ih.0 in
-      let Good : Refined × Recs → Type 0 = λ z. IsShaped n W z.1 × (fits n W (length z.1) ≡ true) in
-      let good : Good (H (a.0, Y)) = cond_both a.0 (Full i, Y) (refinement_from r R T W k (suc i) Y) Good (λ _. (sY, fY)) (λ _. (ih.1, ih.2)) in
-      let there : Good (H (parts_of_layer r R T W W i 1 (after_sweep r R T W xs))) = subst (λ (z : Bool × Recs). Good (H z)) (sym def) good in
+      let Good : Refined × Recs → Type 0 = λ z. IsShaped n by.width z.1 × (fits n by.width (length z.1) ≡ true) in
+      let good : Good (H (a.0, Y)) = cond_both a.0 (Full i, Y) (refinement_from by k (suc i) Y) Good (λ _. (sY, fY)) (λ _. (ih.1, ih.2)) in
+      let there : Good (H (parts_of_layer by by.width i 1 (after_sweep by xs))) = subst (λ (z : Bool × Recs). Good (H z)) (sym def) good in
       (ap G is ∙ same ∙ ap H (sym def), there.0, there.1)
 
   -- ---- sweeps until nothing goes
-  swept-fits : (xs : Recs) → fits n W (length xs) ≡ true → IsShaped n W xs → fits n W (length (after_sweep r R T W xs)) ≡ true
+  swept-fits : (xs : Recs) → fits n by.width (length xs) ≡ true → IsShaped n by.width xs → fits n by.width (length (after_sweep by xs)) ≡ true
   unfolding after_sweep
   swept-fits xs fit s = relaid-fits xs (left xs) fit (left-proper xs fit s).deep
 
-  swept-long : (xs : Recs) → fits n W (length xs) ≡ true → IsShaped n W xs → length (after_sweep r R T W xs) ≡ length xs
+  swept-long : (xs : Recs) → fits n by.width (length xs) ≡ true → IsShaped n by.width xs → length (after_sweep by xs) ≡ length xs
   unfolding after_sweep
   swept-long xs fit s = relaid-long xs (left xs) fit (left-proper xs fit s).deep
 
-  out-words : (k : ℕ) (xs : Recs) → fits n W (length xs) ≡ true → IsShaped n W xs → (sweeps_out r R T W k xs ≡ after_sweeps r R T W k xs) × IsShaped n W (after_sweeps r R T W k xs)
+  out-words : (k : ℕ) (xs : Recs) → fits n by.width (length xs) ≡ true → IsShaped n by.width xs → (sweeps_out by k xs ≡ after_sweeps by k xs) × IsShaped n by.width (after_sweeps by k xs)
   unfolding sweeps_out after_sweeps
   out-words zero xs fit s = (refl, s)
   out-words (suc k) xs fit s =
-      let Y = after_sweep r R T W xs in
-      let sY = swept-shaped r R T W xs fit s in
+      let Y = after_sweep by xs in
+      let sY = swept-shaped by xs fit s in
       let ih = out-words k Y (swept-fits xs fit s) sY in
-      let is = sweep-words r R T W xs fit s in
-      let few : arc_count n W xs - arc_count n W Y ≡ sweep_answer r R T W xs = fewer-words r R T W xs Y fit (swept-long xs fit s) s sY in (
-        ap (λ (ys : Recs). cond (eqb (arc_count n W xs - arc_count n W ys) 0) ys (sweeps_out r R T W k ys)) is
+      let is = sweep-words by xs fit s in
+      let few : arc_count n by.width xs - arc_count n by.width Y ≡ sweep_answer by xs = fewer-words by.round by.width xs Y fit (swept-long xs fit s) s sY in (
+        ap (λ (ys : Recs). cond (eqb (arc_count n by.width xs - arc_count n by.width ys) 0) ys (sweeps_out by k ys)) is
             ∙ ap₂ (λ (m : ℕ) (zs : Recs). cond (eqb m 0) Y zs) few ih.0,
-        cond_both (eqb (sweep_answer r R T W xs) 0) Y (after_sweeps r R T W k Y) (IsShaped n W) (λ _. sY) (λ _. ih.1),
+        cond_both (eqb (sweep_answer by xs) 0) Y (after_sweeps by k Y) (IsShaped n by.width) (λ _. sY) (λ _. ih.1),
       )
 
-  out-timely : (k : ℕ) (xs : Recs) → fits n W (length xs) ≡ true → IsShaped n W xs → IsTimely n W xs → IsTimely n W (after_sweeps r R T W k xs)
+  out-timely : (k : ℕ) (xs : Recs) → fits n by.width (length xs) ≡ true → IsShaped n by.width xs → IsTimely n by.width xs → IsTimely n by.width (after_sweeps by k xs)
   unfolding after_sweeps
   out-timely zero xs fit s t = t
   out-timely (suc k) xs fit s t =
-      let Y = after_sweep r R T W xs in
-      let tY = swept-timely r R T W xs fit s in
-      cond_both (eqb (sweep_answer r R T W xs) 0) Y (after_sweeps r R T W k Y) (IsTimely n W) (λ _. tY) (λ _. out-timely k Y (swept-fits xs fit s) (swept-shaped r R T W xs fit s) tY)
+      let Y = after_sweep by xs in
+      let tY = swept-timely by xs fit s in
+      cond_both (eqb (sweep_answer by xs) 0) Y (after_sweeps by k Y) (IsTimely n by.width) (λ _. tY) (λ _. out-timely k Y (swept-fits xs fit s) (swept-shaped by xs fit s) tY)
 
-  out_once : (k : ℕ) (xs : Recs) → fits n W (length xs) ≡ true → IsShaped n W xs → IsTimely n W (after_sweeps r R T W (suc k) xs)
+  out_once : (k : ℕ) (xs : Recs) → fits n by.width (length xs) ≡ true → IsShaped n by.width xs → IsTimely n by.width (after_sweeps by (suc k) xs)
   unfolding after_sweeps
   out_once k xs fit s =
-      let Y = after_sweep r R T W xs in
-      let tY = swept-timely r R T W xs fit s in
-      cond_both (eqb (sweep_answer r R T W xs) 0) Y (after_sweeps r R T W k Y) (IsTimely n W) (λ _. tY) (λ _. out-timely k Y (swept-fits xs fit s) (swept-shaped r R T W xs fit s) tY)
+      let Y = after_sweep by xs in
+      let tY = swept-timely by xs fit s in
+      cond_both (eqb (sweep_answer by xs) 0) Y (after_sweeps by k Y) (IsTimely n by.width) (λ _. tY) (λ _. out-timely k Y (swept-fits xs fit s) (swept-shaped by xs fit s) tY)
 
   -- ---- refine
-  module _ (xs : Recs) (fit : fits n W (length xs) ≡ true) (s : IsShaped n W xs) where
+  module _ (xs : Recs) (fit : fits n by.width (length xs) ≡ true) (s : IsShaped n by.width xs) where
     abbrev p : Refined × Recs
-    p = refinement_from r R T W (n - 1) 1 xs
+    p = refinement_from by (n - 1) 1 xs
 
-    all-layers : (some_layers r R T W (n - 1) 1 xs ≡ p) × IsShaped n W p.1 × (fits n W (length p.1) ≡ true)
-    all-layers = layers-words (n - 1) 1 xs fit s (omega arith) (omega (arith, r.one))
+    all-layers : (some_layers by (n - 1) 1 xs ≡ p) × IsShaped n by.width p.1 × (fits n by.width (length p.1) ≡ true)
+    all-layers = layers-words (n - 1) 1 xs fit s (omega arith) (omega (arith, by.round.one))
 
-    pub refine-words : refine_steps r R T W xs ≡ refinement r R T W xs
+    pub refine-words : refine_steps by xs ≡ refinement by xs
     unfolding refine_steps refinement
     refine-words =
         let a = all-layers in
-        let G : Refined × Recs → Refined × Recs = λ p. (p.0, sweeps_out r R T W (suc (arc_count n W p.1)) p.1) in
+        let G : Refined × Recs → Refined × Recs = λ p. (p.0, sweeps_out by (suc (arc_count n by.width p.1)) p.1) in
         ap G a.0
-        ∙ ap (λ (m : ℕ). (p.0, sweeps_out r R T W (suc m) p.1)) (shaped-count r R T W p.1 a.2 a.1)
-        ∙ ap (λ (ys : Recs). (p.0, ys)) (out-words (suc (count_arcs (arcs n W p.1))) p.1 a.2 a.1).0
+        ∙ ap (λ (m : ℕ). (p.0, sweeps_out by (suc m) p.1)) (shaped-count by.round by.width p.1 a.2 a.1)
+        ∙ ap (λ (ys : Recs). (p.0, ys)) (out-words (suc (count_arcs (arcs n by.width p.1))) p.1 a.2 a.1).0
 
-    pub refined-shaped : IsShaped n W (refinement r R T W xs).1
+    pub refined-shaped : IsShaped n by.width (refinement by xs).1
     unfolding refinement
-    refined-shaped = let a = all-layers in (out-words (suc (count_arcs (arcs n W p.1))) p.1 a.2 a.1).1
+    refined-shaped = let a = all-layers in (out-words (suc (count_arcs (arcs n by.width p.1))) p.1 a.2 a.1).1
 
-    pub refined-timely : IsTimely n W (refinement r R T W xs).1
+    pub refined-timely : IsTimely n by.width (refinement by xs).1
     unfolding refinement
-    refined-timely = let a = all-layers in out_once (count_arcs (arcs n W p.1)) p.1 a.2 a.1
+    refined-timely = let a = all-layers in out_once (count_arcs (arcs n by.width p.1)) p.1 a.2 a.1

@@ -1,5 +1,6 @@
 //! Refine: from layer to layer a sweep and all parts, then sweeps until nothing is left to take out.
 ghost use Rattle.std.specs.Prelude.{◌≡◌, suc, ◌+◌, ◌-◌, ◌*◌, ◌<◌, ◌≤◌, true, length, if◌then◌else◌};
+ghost use Rattle.layers.specs.Settings.{lent_setting};
 ghost use Rattle.labels.specs.Passes.{fits};
 ghost use Rattle.filter.specs.Steps.{arc_count};
 ghost use Rattle.refine.specs.Answers.{IsInnerIfFull};
@@ -10,7 +11,7 @@ use labels::relabel::relabel;
 use labels::room::has_room;
 use layers::node::Node;
 use layers::refined::Refined;
-use round::table::Round;
+use layers::setting::Setting;
 use rules::rule::Rule;
 use split::parting::part_layer;
 use tallies::tally::Tally;
@@ -18,41 +19,35 @@ use tidying::count::count_arcs;
 
 /// One layer: a sweep, then all its parts on arcs alone, then all labels. Answers whether it was full.
 fn refine_layer<R: Rule, T: Tally>(
-    round: &Round,
-    rule: &R,
-    tally: &T,
+    by: &Setting<'_, R, T>,
     nodes: &mut [Node<R::State, T::Value>],
-    width: usize,
     i: usize,
 ) -> bool
-    requires { fits round.now.n width (length nodes.old) ≡ true }
-    ensures full { result ≡
-        (one_layer round.now (R.Rule.sense rule.now) (T.Tally.sense tally.now) width i nodes.old).0 }
-    ensures records { nodes.new ≡
-        (one_layer round.now (R.Rule.sense rule.now) (T.Tally.sense tally.now) width i nodes.old).1 }
+    requires { fits by.now.round.now.n by.now.width (length nodes.old) ≡ true }
+    ensures full { let by = lent_setting by.now (R.sense by.now.rule.now) (T.sense by.now.tally.now) in
+        result ≡ (one_layer by i nodes.old).0 }
+    ensures records { let by = lent_setting by.now (R.sense by.now.rule.now) (T.sense by.now.tally.now) in
+        nodes.new ≡ (one_layer by i nodes.old).1 }
 {
-    sweep(round, rule, tally, nodes, width);
-    let full = part_layer(round, rule, tally, nodes, width, i);
-    relabel(round, rule, tally, nodes, width);
+    sweep(by, nodes);
+    let full = part_layer(by, nodes, i);
+    relabel(by, nodes);
     full
 }
 
 fn refine_layers<R: Rule, T: Tally>(
-    round: &Round,
-    rule: &R,
-    tally: &T,
+    by: &Setting<'_, R, T>,
     nodes: &mut [Node<R::State, T::Value>],
-    width: usize,
 ) -> Refined
-    requires { fits round.now.n width (length nodes.old) ≡ true }
-    ensures within { IsInnerIfFull round.now.n result }
-    ensures answer { result ≡ (some_layers round.now (R.Rule.sense rule.now)
-        (T.Tally.sense tally.now) width (round.now.n - 1) 1 nodes.old).0 }
-    ensures records { nodes.new ≡ (some_layers round.now (R.Rule.sense rule.now)
-        (T.Tally.sense tally.now) width (round.now.n - 1) 1 nodes.old).1 }
+    requires { fits by.now.round.now.n by.now.width (length nodes.old) ≡ true }
+    ensures within { IsInnerIfFull by.now.round.now.n result }
+    ensures answer { let by = lent_setting by.now (R.sense by.now.rule.now) (T.sense by.now.tally.now) in
+        result ≡ (some_layers by (by.round.n - 1) 1 nodes.old).0 }
+    ensures records { let by = lent_setting by.now (R.sense by.now.rule.now) (T.sense by.now.tally.now) in
+        nodes.new ≡ (some_layers by (by.round.n - 1) 1 nodes.old).1 }
 {
-    for i in 1..round.n {
-        if refine_layer(round, rule, tally, nodes, width, i) {
+    for i in 1..by.round.n {
+        if refine_layer(by, nodes, i) {
             return Refined::Full(i);
         }
     }
@@ -61,19 +56,16 @@ fn refine_layers<R: Rule, T: Tally>(
 
 /// Sweeps until one takes out nothing: each but the last takes out an arc.
 fn sweep_out<R: Rule, T: Tally>(
-    round: &Round,
-    rule: &R,
-    tally: &T,
+    by: &Setting<'_, R, T>,
     nodes: &mut [Node<R::State, T::Value>],
-    width: usize,
 )
-    requires { fits round.now.n width (length nodes.old) ≡ true }
-    ensures { nodes.new ≡ sweeps_out round.now (R.Rule.sense rule.now) (T.Tally.sense tally.now)
-        width (suc (arc_count round.now.n width nodes.old)) nodes.old }
+    requires { fits by.now.round.now.n by.now.width (length nodes.old) ≡ true }
+    ensures { let by = lent_setting by.now (R.sense by.now.rule.now) (T.sense by.now.tally.now) in
+        nodes.new ≡ sweeps_out by (suc (arc_count by.round.n by.width nodes.old)) nodes.old }
 {
-    let most = count_arcs(round, nodes, width);
+    let most = count_arcs(by.round, nodes, by.width);
     for turn in 0..=most {
-        if sweep(round, rule, tally, nodes, width) == 0 {
+        if sweep(by, nodes) == 0 {
             return;
         }
     }
@@ -83,26 +75,23 @@ fn sweep_out<R: Rule, T: Tally>(
 /// no place for one more. At the end it sweeps until nothing is taken out. A list that has no room for the diagram is left alone,
 /// and is whole.
 pub fn refine<R: Rule, T: Tally>(
-    round: &Round,
-    rule: &R,
-    tally: &T,
+    by: &Setting<'_, R, T>,
     nodes: &mut [Node<R::State, T::Value>],
-    width: usize,
 ) -> Refined
-    ensures steps { nodes.new ≡ (if fits round.now.n width (length nodes.old) then
-        (refine_steps round.now (R.Rule.sense rule.now) (T.Tally.sense tally.now) width nodes.old).1
-        else nodes.old) }
-    ensures within { IsInnerIfFull round.now.n result }
-    ensures answer { result ≡ (if fits round.now.n width (length nodes.old) then
-        (refine_steps round.now (R.Rule.sense rule.now) (T.Tally.sense tally.now) width nodes.old).0
-        else Refined.Whole) }
-    ensures words { RefineDone round.now (R.Rule.sense rule.now) (T.Tally.sense tally.now) width
-        nodes.old nodes.new result }
+    ensures steps { let by = lent_setting by.now (R.sense by.now.rule.now) (T.sense by.now.tally.now) in
+        nodes.new ≡ (if fits by.round.n by.width (length nodes.old)
+        then (refine_steps by nodes.old).1 else nodes.old) }
+    ensures within { IsInnerIfFull by.now.round.now.n result }
+    ensures answer { let by = lent_setting by.now (R.sense by.now.rule.now) (T.sense by.now.tally.now) in
+        result ≡ (if fits by.round.n by.width (length nodes.old)
+        then (refine_steps by nodes.old).0 else Refined.Whole) }
+    ensures words { let by = lent_setting by.now (R.sense by.now.rule.now) (T.sense by.now.tally.now) in
+        RefineDone by nodes.old nodes.new result }
 {
-    if !has_room(round, width, nodes.len()) {
+    if !has_room(by.round, by.width, nodes.len()) {
         return Refined::Whole;
     }
-    let answer = refine_layers(round, rule, tally, nodes, width);
-    sweep_out(round, rule, tally, nodes, width);
+    let answer = refine_layers(by, nodes);
+    sweep_out(by, nodes);
     answer
 }

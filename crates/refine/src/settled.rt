@@ -1,6 +1,7 @@
 //! Whether a diagram is settled.
 ghost use Rattle.std.specs.Prelude.{◌≡◌, length};
 ghost use Rattle.tallies.specs.Tallies.{TallySense};
+ghost use Rattle.layers.specs.Settings.{setting};
 ghost use Rattle.refine.specs.Steps.{settled_steps, SettledDone};
 
 use filter::quiet::quiet;
@@ -18,9 +19,9 @@ pub fn settled<R: Rule, V: Copy>(
     width: usize,
 ) -> bool
     ensures steps { (t : TallySense V)
-        → result ≡ settled_steps round.now (R.Rule.sense rule.now) t width nodes.now }
+        → result ≡ settled_steps (setting round.now (R.sense rule.now) t width) nodes.now }
     ensures words { (t : TallySense V)
-        → SettledDone round.now (R.Rule.sense rule.now) t width nodes.now result }
+        → SettledDone (setting round.now (R.sense rule.now) t width) nodes.now result }
 {
     agreed(round, rule, nodes, width) && quiet(round, rule, nodes, width)
 }

@@ -57,7 +57,7 @@ module _ (lent : List Place) where
 
   paired : Paired loose lent
   unfolding after_sweep arcs_lost after_part part_answer after_open refinement is_settled must finish
-  paired = record { sweep_one = refl; parts = refl; before_part = refl; parted_at_one = refl; sweep_three = refl; full_at_2 = refl; not_settled = refl; whole_at_3 = refl; must_two = refl; must_three = refl }
+  paired = record { sweep_one = refl; parts = refl; before_part = refl; part_moves = refl; sweep_three = refl; full_at_2 = refl; not_settled = refl; whole_at_3 = refl; must_two = refl; must_three = refl }
 
 pub computed : WorkedCases
 unfolding finish

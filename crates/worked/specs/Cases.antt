@@ -19,6 +19,7 @@ use Rattle.orders.specs.declared.verdict.Verdict.TheVariants as is
 use Rattle.layers.specs.declared.node.Node.{Node}
 use Rattle.layers.specs.declared.refined.Refined.{Refined}
 use Rattle.layers.specs.declared.refined.Refined.TheVariants.{Whole, Full}
+use Rattle.layers.specs.Settings.{Setting, setting}
 use Rattle.layers.specs.Calls.{after_open, arcs, after_sweep, sweep_answer, after_cut, cut_answer, part_answer, after_part, refinement, bound, must, is_settled}
 use Rattle.worked.specs.Rounds.{trio, loose, boxes}
 
@@ -36,20 +37,24 @@ Keeps r w = Ordered r.ahead w × Loaded r w
 abbrev pub late : Round → TallySense (ℕ × ℕ)
 late r = late_sense r.n r.doors
 
+-- what the calls go by, at width W
+abbrev pub by : Round → ℕ → Setting (ℕ × Interval) (ℕ × ℕ)
+by r W = setting r (rule r) (late r) W
+
 abbrev pub Place : Type 0
 Place = Node (ℕ × Interval) (ℕ × ℕ)
 
 -- at width W, on a lent list: opened, and after k sweeps
 abbrev pub sweeps : Round → ℕ → ℕ → List Place → List Place
-sweeps r W zero lent = after_open r (rule r) (late r) W lent
-sweeps r W (suc k) lent = after_sweep r (rule r) (late r) W (sweeps r W k lent)
+sweeps r W zero lent = after_open (by r W) lent
+sweeps r W (suc k) lent = after_sweep (by r W) (sweeps r W k lent)
 
 abbrev pub answer : Round → ℕ → ℕ → List Place → ℕ
-answer r W k lent = sweep_answer r (rule r) (late r) W (sweeps r W k lent)
+answer r W k lent = sweep_answer (by r W) (sweeps r W k lent)
 
 -- after refining: the answer, and the records
 abbrev pub fine : Round → ℕ → List Place → Refined × List Place
-fine r W lent = refinement r (rule r) (late r) W (after_open r (rule r) (late r) W lent)
+fine r W lent = refinement (by r W) (after_open (by r W) lent)
 
 abbrev pub asked : Round → ℕ → ℕ → ℕ → List Place → Bool
 asked r W i j lent = must 3 W i j (fine r W lent).1
@@ -81,8 +86,8 @@ pub record AsPrinted (r : Round) (lent : List Place) : Type 0 where
   -- what refine leaves
   pub sheet : Sheet r lent
   -- after those sweeps, cut at (1, 1) answers 0, then at (1, 0) answers 3
-  pub cut_none : cut_answer r (rule r) (late r) 16 (1, 1) (sweeps r 16 4 lent) ≡ 0
-  pub cut_three : cut_answer r (rule r) (late r) 16 (1, 0) (after_cut r (rule r) (late r) 16 (1, 1) (sweeps r 16 4 lent)) ≡ 3
+  pub cut_none : cut_answer (by r 16) (1, 1) (sweeps r 16 4 lent) ≡ 0
+  pub cut_three : cut_answer (by r 16) (1, 0) (after_cut (by r 16) (1, 1) (sweeps r 16 4 lent)) ≡ 3
 
 -- with door 2 closing at 7, refine is whole and there is no bound
 pub record ClosedEarly (r : Round) (lent : List Place) : Type 0 where
@@ -93,13 +98,13 @@ pub record ClosedEarly (r : Round) (lent : List Place) : Type 0 where
 pub record Paired (r : Round) (lent : List Place) : Type 0 where
   -- at width 2: sweep answers 1; part(1, 1) moves door 3's arc; sweep answers 3
   pub sweep_one : answer r 2 0 lent ≡ 1
-  pub parts : part_answer r (rule r) (late r) 2 1 1 (sweeps r 2 1 lent) ≡ Ok tt
+  pub parts : part_answer (by r 2) 1 1 (sweeps r 2 1 lent) ≡ Ok tt
   pub before_part : slice_index_or (arcs 3 2 (sweeps r 2 1 lent)) 0 [] ≡ (0 ∷ 1 ∷ 1 ∷ []) ∷ []
-  pub parted_at_one : slice_index_or (arcs 3 2 (after_part r (rule r) (late r) 2 1 1 (sweeps r 2 1 lent))) 0 [] ≡ (0 ∷ 1 ∷ 2 ∷ []) ∷ []
-  pub sweep_three : sweep_answer r (rule r) (late r) 2 (after_part r (rule r) (late r) 2 1 1 (sweeps r 2 1 lent)) ≡ 3
+  pub part_moves : slice_index_or (arcs 3 2 (after_part (by r 2) 1 1 (sweeps r 2 1 lent))) 0 [] ≡ (0 ∷ 1 ∷ 2 ∷ []) ∷ []
+  pub sweep_three : sweep_answer (by r 2) (after_part (by r 2) 1 1 (sweeps r 2 1 lent)) ≡ 3
   -- just opened: refine at width 2 is full at layer 2 and settled no; at width 3 whole, must(2, 1) yes, must(3, 1) no
   pub full_at_2 : (fine r 2 lent).0 ≡ Full 2
-  pub not_settled : is_settled r (rule r) (late r) 2 (fine r 2 lent).1 ≡ false
+  pub not_settled : is_settled (by r 2) (fine r 2 lent).1 ≡ false
   pub whole_at_3 : (fine r 3 lent).0 ≡ Whole
   pub must_two : asked r 3 2 1 lent ≡ true
   pub must_three : asked r 3 3 1 lent ≡ false

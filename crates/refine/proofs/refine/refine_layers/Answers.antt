@@ -1,4 +1,5 @@
 use Rattle.std.proofs.Common.{◌≡◌, ℕ, ◌-◌, List, length, sym, ap, ◌∙◌, arith}
+use Rattle.layers.specs.Settings.{lent_setting}
 use Rattle.layers.specs.declared.node.Node.{Node}
 use Rattle.layers.specs.declared.refined.Refined.{Refined}
 use Rattle.labels.specs.Passes.{fits}
@@ -7,11 +8,9 @@ use Rattle.refine.proofs.refine.refine_layers.Goals as goal
 
 pub returns-then-refine_layer : goal.returns-then-refine_layer
 returns-then-refine_layer g c =
-    let r = c.args.round.now in
-    let R = g.R.Rule.sense c.args.rule.now in
-    let T = g.T.Tally.sense c.args.tally.now in
+    let by = lent_setting c.args.by.now (g.R.Rule.sense c.args.by.now.rule.now) (g.T.Tally.sense c.args.by.now.tally.now) in
     let e = c.refine_layer.ensures in
-    let all = layers-full r R T c.args.width r.n c.loop-i.i c.loop-i.nodes c.refine_layer.new.nodes c.refine_layer.result (omega arith) e.full e.records c.if-refine_layer.true ∙ c.loop-i.invariant.1 in
+    let all = layers-full by by.width by.round.n c.loop-i.i c.loop-i.nodes c.refine_layer.new.nodes c.refine_layer.result (omega arith) e.full e.records c.if-refine_layer.true ∙ c.loop-i.invariant.1 in
     record {
       within = (omega arith, omega arith);
       answer = ap (λ (p : Refined × List (Node g.row.R-State.Denot g.row.T-Value.Denot)). p.0) all;
@@ -20,21 +19,17 @@ returns-then-refine_layer g c =
 
 pub loop-i-preserved : goal.loop-i-preserved
 loop-i-preserved g c =
-    let r = c.args.round.now in
-    let R = g.R.Rule.sense c.args.rule.now in
-    let T = g.T.Tally.sense c.args.tally.now in
+    let by = lent_setting c.args.by.now (g.R.Rule.sense c.args.by.now.rule.now) (g.T.Tally.sense c.args.by.now.tally.now) in
     let e = c.refine_layer.ensures in
     let long : length c.refine_layer.new.nodes ≡ length c.loop-i.nodes = c.refine_layer.auto.nodes in (
-      ap (fits r.n c.args.width) long ∙ c.loop-i.invariant.0,
-      layers-next r R T c.args.width r.n c.loop-i.i c.loop-i.nodes c.refine_layer.new.nodes c.refine_layer.result (omega arith) e.full e.records c.if-refine_layer.false ∙ c.loop-i.invariant.1,
+      ap (fits by.round.n by.width) long ∙ c.loop-i.invariant.0,
+      layers-next by by.width by.round.n c.loop-i.i c.loop-i.nodes c.refine_layer.new.nodes c.refine_layer.result (omega arith) e.full e.records c.if-refine_layer.false ∙ c.loop-i.invariant.1,
     )
 
 pub returns : goal.returns
 returns g c =
-    let r = c.args.round.now in
-    let R = g.R.Rule.sense c.args.rule.now in
-    let T = g.T.Tally.sense c.args.tally.now in
-    let all = sym (layers-none r R T c.args.width (r.n - c.loop-i.i) c.loop-i.i c.loop-i.nodes (omega arith)) ∙ c.loop-i.invariant.1 in
+    let by = lent_setting c.args.by.now (g.R.Rule.sense c.args.by.now.rule.now) (g.T.Tally.sense c.args.by.now.tally.now) in
+    let all = sym (layers-none by by.width (by.round.n - c.loop-i.i) c.loop-i.i c.loop-i.nodes (omega arith)) ∙ c.loop-i.invariant.1 in
     record {
       within = tt;
       answer = ap (λ (p : Refined × List (Node g.row.R-State.Denot g.row.T-Value.Denot)). p.0) all;
