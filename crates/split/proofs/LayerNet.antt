@@ -2,14 +2,12 @@
 use Rattle.std.proofs.Common.{◌≡◌, ℕ, zero, suc, ◌+◌, ◌*◌, ◌<◌, ◌≤◌, Bool, true, false, cond, not, eqb, List, [], ◌∷◌, map, length, get_or, take, drop, Some, None, Option, sym, refl, ap, ◌∙◌, ap₂, suc-mul, zero-mul, arith}
 use Rattle.std.proofs.lemmas.List.{drop-drop, length-map, length-take-le, get_or-map, get_or-take, get_or_default, same_lists}
 use Rattle.round.specs.declared.table.Round.{Round}
-use Rattle.rules.specs.Rules.{RuleSense}
-use Rattle.tallies.specs.Tallies.{TallySense}
 use Rattle.layers.specs.declared.node.Arcs.{Arcs}
 use Rattle.layers.specs.declared.node.Node.{Node}
 use Rattle.layers.specs.declared.node.Down.{Down}
 use Rattle.layers.specs.declared.node.Label.{Label}
-use Rattle.layers.specs.Flow.{table, Outs, Layer, Net, node, arrivals_at, IsEven}
-use Rattle.layers.specs.Labels.{arrival_over, all_agree, first_arrival, differs_from_first}
+use Rattle.layers.specs.Flow.{table, Outs, Layer, Net, node, IsEven}
+use Rattle.layers.specs.Labels.{all_agree, first_arrival, differs_from_first}
 use Rattle.layers.specs.Records.{is_used, nodes_in, arcs_in, downs_in, padded_targets, arcs_at}
 use Rattle.layers.specs.Calls.{parted_arcs, arrivals as arrivalsIn}
 use Rattle.layers.proofs.Bridge.{table-long}
@@ -24,6 +22,7 @@ use Rattle.split.specs.Steps.{alike, kept_first, parted_one}
 use Rattle.split.proofs.ArrivalNet.{arrivals-standing}
 use Rattle.split.proofs.DepthNet.{good-room, two-fit}
 use Rattle.split.proofs.PartNet.{part-arranged, part-tail, part_length, part-labels}
+use Rattle.layers.specs.Settings.{Setting}
 
 take-padded : (n : ℕ) (nd : Outs) → n ≤ 16 → length nd ≡ n → take n (padded_targets nd) ≡ nd
 take-padded n nd h e =
@@ -99,16 +98,16 @@ module _ {S V : Type 0} where
       ap (λ (k : ℕ). map arcs_of (take w (drop k xs))) e ∙ ap (λ ys. map arcs_of (take w ys)) (sym (drop-drop (d * w) w xs)) ∙ arranged-at w d Ls (drop w xs) (omega arith) arr.1
 
 -- ---- what is known of the records of the net Ls, with layer d in use as far as the net's has nodes
-module _ {S V : Type 0} (r : Round) (R : RuleSense S) (T : TallySense V) (W d : ℕ) (Ls : Net) (xs : List (Node S V)) where
+module _ {S V : Type 0} (by : Setting S V) (d : ℕ) (Ls : Net) (xs : List (Node S V)) where
   pub record Known : Type 0 where
-    pub proper : Proper r.n W Ls
-    pub arranged : Arranged W Ls xs
-    pub fit : r.n * W + 1 ≤ length xs
-    pub deep : suc d < r.n
-    pub stand : length (nodes_in (part (d * W) W xs)) ≡ length (get_or Ls d [])
+    pub proper : Proper by.round.n by.width Ls
+    pub arranged : Arranged by.width Ls xs
+    pub fit : by.round.n * by.width + 1 ≤ length xs
+    pub deep : suc d < by.round.n
+    pub stand : length (nodes_in (part (d * by.width) by.width xs)) ≡ length (get_or Ls d [])
 
   abbrev pub us : List (Node S V)
-  us = part (d * W) W xs
+  us = part (d * by.width) by.width xs
 
   abbrev pub labs : List (Option (Down S V))
   labs = downs_in (nodes_in us)
@@ -117,56 +116,55 @@ module _ {S V : Type 0} (r : Round) (R : RuleSense S) (T : TallySense V) (W d : 
     within : suc d < length Ls
     within = let deep = k.deep in omega (arith, k.proper.deep)
 
-    room : length (get_or Ls d []) ≤ W
-    room = good-room W d Ls (proper-good r W Ls k.proper)
+    room : length (get_or Ls d []) ≤ by.width
+    room = good-room by.width d Ls (proper-good by.round by.width Ls k.proper)
 
-    long : length Ls * W + 1 ≤ length xs
-    long = let e : length Ls * W + 1 ≡ r.n * W + 1 = ap (λ (i : ℕ). i * W + 1) k.proper.deep in omega (arith, k.fit)
+    long : length Ls * by.width + 1 ≤ length xs
+    long = let e : length Ls * by.width + 1 ≡ by.round.n * by.width + 1 = ap (λ (i : ℕ). i * by.width + 1) k.proper.deep in omega (arith, k.fit)
 
-    known-arcs : arcs_in r.n (nodes_in us) ≡ get_or Ls d []
-    known-arcs = arcs-standing r.n W (blank_node r R T) (get_or Ls d []) us r.most (even-at r.n d Ls (omega (arith, within)) (even-of r.n Ls k.proper.even)) room (arranged-at W d Ls xs (omega (arith, within)) k.arranged) k.stand
+    known-arcs : arcs_in by.round.n (nodes_in us) ≡ get_or Ls d []
+    known-arcs = arcs-standing by.round.n by.width (blank_node by.rule by.tally) (get_or Ls d []) us by.round.most (even-at by.round.n d Ls (omega (arith, within)) (even-of by.round.n Ls k.proper.even)) room (arranged-at by.width d Ls xs (omega (arith, within)) k.arranged) k.stand
 
     -- what arrives
-    pub known-standing : (a : ℕ) → arrivals r R T (suc a) us ≡ arrivalsIn r R T (nodes_in us) a
-    known-standing a = arrivals-standing r R T W a us (arranged-at W d Ls xs (omega (arith, within)) k.arranged ∙ ap (λ (L : Layer). table W (arcs_at L)) (sym known-arcs))
+    pub known-standing : (a : ℕ) → arrivals by (suc a) us ≡ arrivalsIn by labs (arcs_in by.round.n (nodes_in us)) a
+    known-standing a = arrivals-standing by by.width a us (arranged-at by.width d Ls xs (omega (arith, within)) k.arranged ∙ ap (λ (L : Layer). table by.width (arcs_at L)) (sym known-arcs))
 
-    pub known-arrivals : (a : ℕ) → arrivals r R T (suc a) us ≡ arrivals_at (arrival_over r R T) a labs (get_or Ls d [])
-    unfolding arrivalsIn
-    known-arrivals a = known-standing a ∙ ap (arrivals_at (arrival_over r R T) a labs) known-arcs
+    pub known-arrivals : (a : ℕ) → arrivals by (suc a) us ≡ arrivalsIn by labs (get_or Ls d []) a
+    known-arrivals a = known-standing a ∙ ap (λ L. arrivalsIn by labs L a) known-arcs
 
-    pub known_alike : (a : ℕ) → alike r R T (d * W) W (suc a) xs ≡ all_agree r R T (arrivals_at (arrival_over r R T) a labs (get_or Ls d []))
-    known_alike a = ap (all_agree r R T) (known-arrivals a)
+    pub known_alike : (a : ℕ) → alike by (d * by.width) (suc a) xs ≡ all_agree by.rule (arrivalsIn by labs (get_or Ls d []) a)
+    known_alike a = ap (all_agree by.rule) (known-arrivals a)
 
     -- which in-arcs leave
-    kept : (o : Option (Down S V)) (x : Node S V) (u j : ℕ) → u < length (get_or Ls d []) → differs_from_first r R T o (get_or labs u None) j ≡ not (kept_first r R T o (get_or (drop (d * W) xs) u x).label j)
+    kept : (o : Option (Down S V)) (x : Node S V) (u j : ℕ) → u < length (get_or Ls d []) → differs_from_first by o (get_or labs u None) j ≡ not (kept_first by o (get_or (drop (d * by.width) xs) u x).label j)
     kept None x u j lt = refl
     kept (Some y) x u j lt =
         let f : Node S V → Option (Down S V) = λ v. Some v.label.down in
         let le = room in
         let lt' : u < length (nodes_in us) = omega (arith, k.stand) in
-        ap (λ o. differs_from_first r R T (Some y) o j) (get_or-map f (nodes_in us) u x None lt' ∙ ap f (standing-at us u x lt' ∙ get_or-take W (drop (d * W) xs) u x (omega arith)))
+        ap (λ o. differs_from_first by (Some y) o j) (get_or-map f (nodes_in us) u x None lt' ∙ ap f (standing-at us u x lt' ∙ get_or-take by.width (drop (d * by.width) xs) u x (omega arith)))
 
-    pub known-parted : (a m : ℕ) → m ≡ length (get_or Ls (suc d) []) → a < m → m < W → Arranged W (parted_arcs r R T d a labs Ls) (parted_one r R T (d * W) W a m xs)
+    pub known-parted : (a m : ℕ) → m ≡ length (get_or Ls (suc d) []) → a < m → m < by.width → Arranged by.width (parted_arcs by d a labs Ls) (parted_one by (d * by.width) a m xs)
     unfolding parted_one
     known-parted a m em al ml =
-        part-arranged r R T (kept_first r R T (first_arrival r R T (arrivals r R T (suc a) us))) W d a m (blank_node r R T) labs Ls xs (proper-good r W Ls k.proper) within em al ml k.arranged long
-        (λ x u j lt. ap (λ zs. differs_from_first r R T (first_arrival r R T zs) (get_or labs u None) j) (sym (known-arrivals a)) ∙ kept (first_arrival r R T (arrivals r R T (suc a) us)) x u j lt)
+        part-arranged by (kept_first by (first_arrival (arrivals by (suc a) us))) by.width d a m (blank_node by.rule by.tally) labs Ls xs (proper-good by.round by.width Ls k.proper) within em al ml k.arranged long
+        (λ x u j lt. ap (λ zs. differs_from_first by (first_arrival zs) (get_or labs u None) j) (sym (known-arrivals a)) ∙ kept (first_arrival (arrivals by (suc a) us)) x u j lt)
 
     -- the places after the end, the length, and the labels of the layer before stay
-    pub known-tail : (a m : ℕ) → m < W → drop (r.n * W + 1) (parted_one r R T (d * W) W a m xs) ≡ drop (r.n * W + 1) xs
+    pub known-tail : (a m : ℕ) → m < by.width → drop (by.round.n * by.width + 1) (parted_one by (d * by.width) a m xs) ≡ drop (by.round.n * by.width + 1) xs
     unfolding parted_one
     known-tail a m ml =
-        let e : r.n * W + 1 ≡ length Ls * W + 1 = ap (λ (i : ℕ). i * W + 1) (sym k.proper.deep) in
-        let stays = kept_first r R T (first_arrival r R T (arrivals r R T (suc a) us)) in
-        let ys = parted_one r R T (d * W) W a m xs in
-        ap (λ (i : ℕ). drop i ys) e ∙ part-tail stays W d a m (blank_node r R T) Ls xs within ml long ∙ ap (λ (i : ℕ). drop i xs) (sym e)
+        let e : by.round.n * by.width + 1 ≡ length Ls * by.width + 1 = ap (λ (i : ℕ). i * by.width + 1) (sym k.proper.deep) in
+        let stays = kept_first by (first_arrival (arrivals by (suc a) us)) in
+        let ys = parted_one by (d * by.width) a m xs in
+        ap (λ (i : ℕ). drop i ys) e ∙ part-tail stays by.width d a m (blank_node by.rule by.tally) Ls xs within ml long ∙ ap (λ (i : ℕ). drop i xs) (sym e)
 
-    pub known-labels : (a m : ℕ) → labelsOf (part (d * W) W (parted_one r R T (d * W) W a m xs)) ≡ labelsOf us
+    pub known-labels : (a m : ℕ) → labelsOf (part (d * by.width) by.width (parted_one by (d * by.width) a m xs)) ≡ labelsOf us
     unfolding parted_one
     known-labels a m =
-        let fits = two-fit W d r.n k.deep in
-        part-labels (kept_first r R T (first_arrival r R T (arrivals r R T (suc a) us))) W d a m (blank_node r R T) xs (omega (arith, k.fit))
+        let fits = two-fit by.width d by.round.n k.deep in
+        part-labels (kept_first by (first_arrival (arrivals by (suc a) us))) by.width d a m (blank_node by.rule by.tally) xs (omega (arith, k.fit))
 
-  pub known-length : (a m : ℕ) → length (parted_one r R T (d * W) W a m xs) ≡ length xs
+  pub known-length : (a m : ℕ) → length (parted_one by (d * by.width) a m xs) ≡ length xs
   unfolding parted_one
-  known-length a m = part_length (kept_first r R T (first_arrival r R T (arrivals r R T (suc a) us))) W d a m (blank_node r R T) xs
+  known-length a m = part_length (kept_first by (first_arrival (arrivals by (suc a) us))) by.width d a m (blank_node by.rule by.tally) xs

@@ -3,9 +3,6 @@ use Rattle.std.proofs.Common.{◌≡◌, ℕ, suc, ◌+◌, ◌-◌, ◌*◌, �
 use lib.Seq.{take-set-lt}
 use Rattle.std.proofs.lemmas.List.{get_or_append_left, get_or_push, take_at, drop_at, drop-drop, drop-set-lt, map-set, length-set, length-map, length-append, length_push, length-take-le, length-drop, take-append-drop, get_or-take, get_or-drop, get_or_past, get_or-set_same, get_or-set_other}
 use Rattle.std.proofs.lemmas.Bool.{cases_lt, cases_eq}
-use Rattle.round.specs.declared.table.Round.{Round}
-use Rattle.rules.specs.Rules.{RuleSense}
-use Rattle.tallies.specs.Tallies.{TallySense}
 use Rattle.layers.specs.declared.node.Arcs.{Arcs}
 use Rattle.layers.specs.declared.node.Node.{Node}
 use Rattle.layers.specs.declared.node.Label.{Label}
@@ -21,6 +18,7 @@ use Rattle.layers.specs.Targets.{redirected}
 use Rattle.split.specs.Parted.{parted_to, parted_node, parted_second}
 use Rattle.labels.proofs.RedirectNet.{table-list, arranged-long, arcs-arranged, redirect-arranged}
 use Rattle.split.proofs.DepthNet.{good-drop, two-fit, at-depth, later-stays, long-stays}
+use Rattle.layers.specs.Settings.{Setting}
 
 -- ---- a node more at the end of a layer
 push-node : (M : Layer) (nd : Outs) (k : ℕ) → k ≢ length M → node M k ≡ node (M ++ (nd ∷ [])) k
@@ -100,11 +98,11 @@ module _ {S V : Type 0} (stays : Label S V → ℕ → Bool) where
       ∙ same-label a m (take w ys)
 
 -- ---- the arcs
-module _ {S V : Type 0} (r : Round) (R : RuleSense S) (T : TallySense V) (stays : Label S V → ℕ → Bool) where
+module _ {S V : Type 0} (by : Setting S V) (stays : Label S V → ℕ → Bool) where
   part-first : (w a m : ℕ) (z : Node S V) (labs : List (Option (Down S V))) (Ls : Net) (ys : List (Node S V))
       → Good w Ls → 1 < length Ls → m ≡ length (get_or Ls 1 []) → a < m → m < w
-      → ((x : Node S V) (u j : ℕ) → u < length (get_or Ls 0 []) → differs_from_first r R T (first_arrival r R T (arrivals_at (arrival_over r R T) a labs (get_or Ls 0 []))) (get_or labs u None) j ≡ not (stays (get_or ys u x).label j))
-      → Arranged w Ls ys → Arranged w (parted_arcs r R T 0 a labs Ls) (parted_second stays w a m ys z)
+      → ((x : Node S V) (u j : ℕ) → u < length (get_or Ls 0 []) → differs_from_first by (first_arrival (arrivals_at (arrival_over by) a labs (get_or Ls 0 []))) (get_or labs u None) j ≡ not (stays (get_or ys u x).label j))
+      → Arranged w Ls ys → Arranged w (parted_arcs by 0 a labs Ls) (parted_second stays w a m ys z)
   unfolding parted_arcs parted_second parted_node parted_to
   part-first w a m z labs [] ys good deep em al ml h arr = absurd (omega arith)
   part-first w a m z labs (L ∷ []) ys good deep em al ml h arr = absurd (omega arith)
@@ -113,8 +111,8 @@ module _ {S V : Type 0} (r : Round) (R : RuleSense S) (T : TallySense V) (stays 
       let vs = drop w ys in
       let y = get_or vs a z in
       let A = map (parted_node stays a m) us in
-      let o = first_arrival r R T (arrivals_at (arrival_over r R T) a labs L) in
-      let f : ℕ → ℕ → ℕ → ℕ = λ u j b. cond (eqb b a && differs_from_first r R T o (get_or labs u None) j) (suc (length M)) (suc b) in
+      let o = first_arrival (arrivals_at (arrival_over by) a labs L) in
+      let f : ℕ → ℕ → ℕ → ℕ = λ u j b. cond (eqb b a && differs_from_first by o (get_or labs u None) j) (suc (length M)) (suc b) in
       let many : length A ≡ w = length-map us (parted_node stays a m) ∙ arranged-long w L us arr.0 in
       let back : drop w (A ++ set vs m y) ≡ set vs m y = drop_at A (set vs m y) w many in
       let is : y.arcs ≡ arcs_at M a = ap (λ (x : Node S V). x.arcs) (sym (get_or-take w vs a z (omega arith))) ∙ arcs-arranged w M (take w vs) a z arr.1.0 (omega arith) in (
@@ -127,21 +125,21 @@ module _ {S V : Type 0} (r : Round) (R : RuleSense S) (T : TallySense V) (stays 
         ),
       )
 
-  parts-deeper : (a : ℕ) (labs : List (Option (Down S V))) (d : ℕ) (L : Layer) (Ls : Net) → parted_arcs r R T (suc d) a labs (L ∷ Ls) ≡ L ∷ parted_arcs r R T d a labs Ls
+  parts-deeper : (a : ℕ) (labs : List (Option (Down S V))) (d : ℕ) (L : Layer) (Ls : Net) → parted_arcs by (suc d) a labs (L ∷ Ls) ≡ L ∷ parted_arcs by d a labs Ls
   unfolding parted_arcs
   parts-deeper a labs d L Ls = refl
 
   -- the records of the net, parted, are those of the parted net
   pub part-arranged : (w d a m : ℕ) (z : Node S V) (labs : List (Option (Down S V))) (Ls : Net) (xs : List (Node S V))
       → Good w Ls → suc d < length Ls → m ≡ length (get_or Ls (suc d) []) → a < m → m < w → Arranged w Ls xs → length Ls * w + 1 ≤ length xs
-      → ((x : Node S V) (u j : ℕ) → u < length (get_or Ls d []) → differs_from_first r R T (first_arrival r R T (arrivals_at (arrival_over r R T) a labs (get_or Ls d []))) (get_or labs u None) j ≡ not (stays (get_or (drop (d * w) xs) u x).label j))
-      → Arranged w (parted_arcs r R T d a labs Ls) (take (d * w) xs ++ parted_second stays w a m (drop (d * w) xs) z)
+      → ((x : Node S V) (u j : ℕ) → u < length (get_or Ls d []) → differs_from_first by (first_arrival (arrivals_at (arrival_over by) a labs (get_or Ls d []))) (get_or labs u None) j ≡ not (stays (get_or (drop (d * w) xs) u x).label j))
+      → Arranged w (parted_arcs by d a labs Ls) (take (d * w) xs ++ parted_second stays w a m (drop (d * w) xs) z)
   part-arranged w d a m z labs Ls xs good deep em al ml arr le h =
       let Ks = drop d Ls in
       let ys = drop (d * w) xs in
       let first : get_or Ls d [] ≡ get_or Ks 0 [] = (let e : d ≡ d + 0 = omega arith in ap (λ (i : ℕ). get_or Ls i []) e ∙ sym (get_or-drop d Ls 0 [])) in
       let second : get_or Ls (suc d) [] ≡ get_or Ks 1 [] = (let e : suc d ≡ d + 1 = omega arith in ap (λ (i : ℕ). get_or Ls i []) e ∙ sym (get_or-drop d Ls 1 [])) in
-      let h' : (x : Node S V) (u j : ℕ) → u < length (get_or Ks 0 []) → differs_from_first r R T (first_arrival r R T (arrivals_at (arrival_over r R T) a labs (get_or Ks 0 []))) (get_or labs u None) j ≡ not (stays (get_or ys u x).label j) =
-      subst (λ L. (x : Node S V) (u j : ℕ) → u < length L → differs_from_first r R T (first_arrival r R T (arrivals_at (arrival_over r R T) a labs L)) (get_or labs u None) j ≡ not (stays (get_or ys u x).label j)) first h in
-      at-depth w (λ d. parted_arcs r R T d a labs) (λ ys. parted_second stays w a m ys z) (parts-deeper a labs) d Ls xs (omega arith) arr
+      let h' : (x : Node S V) (u j : ℕ) → u < length (get_or Ks 0 []) → differs_from_first by (first_arrival (arrivals_at (arrival_over by) a labs (get_or Ks 0 []))) (get_or labs u None) j ≡ not (stays (get_or ys u x).label j) =
+      subst (λ L. (x : Node S V) (u j : ℕ) → u < length L → differs_from_first by (first_arrival (arrivals_at (arrival_over by) a labs L)) (get_or labs u None) j ≡ not (stays (get_or ys u x).label j)) first h in
+      at-depth w (λ d. parted_arcs by d a labs) (λ ys. parted_second stays w a m ys z) (parts-deeper a labs) d Ls xs (omega arith) arr
       (part-first w a m z labs Ks ys (good-drop w d Ls good) (omega (arith, length-drop d Ls)) (em ∙ ap length second) al ml h')

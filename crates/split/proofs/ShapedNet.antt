@@ -1,9 +1,6 @@
 -- What is known of the layers of records that have the shape of a diagram.
 use Rattle.std.proofs.Common.{◌≡◌, ℕ, zero, suc, ◌+◌, ◌*◌, ◌<◌, ◌≤◌, List, [], length, get_or, take, drop, sym, refl, ap, ◌∙◌, suc-mul, arith}
 use Rattle.std.proofs.lemmas.List.{length-map}
-use Rattle.round.specs.declared.table.Round.{Round}
-use Rattle.rules.specs.Rules.{RuleSense}
-use Rattle.tallies.specs.Tallies.{TallySense}
 use Rattle.layers.specs.declared.node.Node.{Node}
 use Rattle.layers.specs.Records.{nodes_in, layers, arcs_in, arcs_of_layers}
 use Rattle.layers.specs.Calls.{arcs, layer}
@@ -14,6 +11,7 @@ use Rattle.labels.specs.Passes.{part}
 use Rattle.labels.proofs.Shaped_arranged.{shaped-arranged}
 use Rattle.split.specs.Steps.{node_count}
 use Rattle.split.proofs.LayerNet.{Known}
+use Rattle.layers.specs.Settings.{Setting}
 
 drawn-at : {S V : Type 0} (n W k d : ℕ) (xs : List (Node S V)) → d < k → get_or (arcs_of_layers n (layers W k xs)) d [] ≡ arcs_in n (get_or (layers W k xs) d [])
 drawn-at n W zero d xs lt = absurd (omega arith)
@@ -37,12 +35,12 @@ module _ {S V : Type 0} (n W : ℕ) (xs : List (Node S V)) where
   pub count-layer : (d : ℕ) → suc d < n → node_count (d * W + W) W xs ≡ length (layer n W (suc d) xs)
   count-layer d lt = let e : d * W + W ≡ suc d * W = omega (arith, suc-mul d W) in ap (λ (k : ℕ). node_count k W xs) e ∙ sym (ap (λ (N : List (Node S V)). length N) (layer-at W n (suc d) xs lt))
 
-module _ {S V : Type 0} (r : Round) (R : RuleSense S) (T : TallySense V) (W : ℕ) (xs : List (Node S V)) (some : 1 ≤ W) (fit : r.n * W + 1 ≤ length xs) (s : IsShaped r.n W xs) where
-  pub known-shaped : (d : ℕ) → suc d < r.n → Known r R T W d (arcs r.n W xs) xs
+module _ {S V : Type 0} (by : Setting S V) (xs : List (Node S V)) (some : 1 ≤ by.width) (fit : by.round.n * by.width + 1 ≤ length xs) (s : IsShaped by.round.n by.width xs) where
+  pub known-shaped : (d : ℕ) → suc d < by.round.n → Known by d (arcs by.round.n by.width xs) xs
   known-shaped d lt = record {
-    proper = shaped-proper r W xs s;
-    arranged = shaped-arranged r W xs fit s;
+    proper = shaped-proper by.round by.width xs s;
+    arranged = shaped-arranged by.round by.width xs fit s;
     fit = fit;
     deep = lt;
-    stand = standing-long r.n W xs d (omega arith);
+    stand = standing-long by.round.n by.width xs d (omega arith);
   }

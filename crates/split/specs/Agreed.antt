@@ -1,11 +1,11 @@
--- The arrivals at a node, looked at one after another: the first, and whether the others agree with it.
+-- The arrivals at a node as the code looks at them, one after another: the first, and whether the others agree with it.
+-- Nobody has to believe these steps: `words` of `part`, of `part_layer` and of `agreed` say what they come to.
 use Rattle.std.specs.Prelude.{ℕ, Bool, ◌&&◌, Some, None, Option}
 use Rattle.round.specs.declared.table.Round.{Round}
 use Rattle.round.specs.Clock.{finish}
-use Rattle.rules.specs.Rules.{RuleSense}
-use Rattle.tallies.specs.Tallies.{TallySense}
 use Rattle.layers.specs.declared.node.Down.{Down}
 use Rattle.layers.specs.declared.node.Label.{Label}
+use Rattle.layers.specs.Settings.{Setting}
 use Rattle.layers.specs.Labels.{leg, arrival_over, agree}
 use Rattle.split.specs.declared.source.Source.{Source}
 use Rattle.split.specs.declared.source.Arrived.{Arrived}
@@ -14,17 +14,17 @@ use Rattle.split.specs.declared.source.Arrived.{Arrived}
 abbrev pub finish_of : {S V : Type 0} → Round → Source S V → ℕ
 finish_of r s = finish r s.label.finish (leg r s.label.lasts s.door) s.door
 
--- ---- arrivals
-module _ {S V : Type 0} (r : Round) (rule : RuleSense S) (tally : TallySense V) where
+module _ {S V : Type 0} (by : Setting S V) where
   -- what comes over the arc of a source
   unfoldable pub brought : Source S V → Down S V
   unfolding arrival_over
-  brought s = arrival_over r rule tally s.label s.door
+  brought s = arrival_over by s.label s.door
 
   abbrev pub brought_first : Option (Source S V) → Option (Down S V)
   brought_first None = None
   brought_first (Some s) = Some (brought s)
 
+  -- what is known so far
   abbrev pub seen : Arrived S V → Option (Down S V) × Bool
   seen a = (brought_first a.first, a.agreed)
 
@@ -35,11 +35,11 @@ module _ {S V : Type 0} (r : Round) (rule : RuleSense S) (tally : TallySense V) 
 
   abbrev pub next_agreed : Option (Down S V) → Bool → Down S V → Bool
   next_agreed None b y = b
-  next_agreed (Some x) b y = b && agree r rule tally x y
+  next_agreed (Some x) b y = b && agree by.rule x y
 
   abbrev pub met : Option (Down S V) × Bool → Down S V → Option (Down S V) × Bool
   met p y = (next_first p.0 y, next_agreed p.0 p.1 y)
 
-  -- ---- part: the in-arc by j from a node with the label u stays if it agrees with the first, which comes from s
+  -- the in-arc by door j from a node with the label u stays if it agrees with the first, which comes from s
   abbrev pub kept_by : Source S V → Label S V → ℕ → Bool
-  kept_by s u j = agree r rule tally (brought s) (arrival_over r rule tally u.down j)
+  kept_by s u j = agree by.rule (brought s) (arrival_over by u.down j)

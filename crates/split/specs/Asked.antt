@@ -1,17 +1,16 @@
 -- What the checks before a part or a join find.
+-- Nobody has to believe these steps: `answer` and `words` of `part` and of `join` say what they come to.
 use Rattle.std.specs.Prelude.{◌≡◌, ℕ, ◌+◌, ◌-◌, ◌*◌, ◌<◌, ◌≤◌, min, max, Bool, false, List, length, Some, None, Option, Ok, Err}
-use Rattle.round.specs.declared.table.Round.{Round}
-use Rattle.rules.specs.Rules.{RuleSense}
-use Rattle.tallies.specs.Tallies.{TallySense}
 use Rattle.layers.specs.declared.node.Node.{Node}
 use Rattle.layers.specs.declared.refusal.Refusal.TheVariants.{OneGroup}
 use Rattle.layers.specs.Calls.{Outcome}
 use Rattle.layers.specs.Labels.{first_arrival}
-use Rattle.labels.specs.Passes.{part, arrivals}
+use Rattle.layers.specs.Settings.{Setting}
+use Rattle.labels.specs.Passes.{part, arrivals, blank_node}
 use Rattle.split.specs.declared.source.Source.{Source}
 use Rattle.split.specs.declared.source.Arrived.{Arrived}
 use Rattle.split.specs.Agreed.{brought}
-use Rattle.split.specs.Steps.{group_check, node_count, clash_at, alike, part_check, join_check}
+use Rattle.split.specs.Steps.{group_check, node_count, alike, clash_at, part_check, join_check}
 
 -- s is the first of the arrivals, some differ from it, and there is room
 pub record FirstKnown {S V : Type 0} (got : Arrived S V) (full : Bool) (s : Source S V) : Type 0 where
@@ -32,26 +31,26 @@ pub record Placed (n w long i : ℕ) : Type 0 where
   pub low : 1 ≤ i
   pub high : i < n
 
-module _ {S V : Type 0} (r : Round) (R : RuleSense S) (T : TallySense V) where
-  -- s brings the first arrival at node t out of the w records at `at`, some differ from it, and m nodes leave room for one more
-  pub record FirstInto (at w t : ℕ) (xs : List (Node S V)) (m : ℕ) (s : Source S V) : Type 0 where
-    pub first : Some (brought r R T s) ≡ first_arrival r R T (arrivals r R T t (part at w xs))
-    pub differ : alike r R T at w t xs ≡ false
-    pub room : m < w
+module _ {S V : Type 0} (by : Setting S V) where
+  -- s brings the first arrival at node t of the layer after that at `at`, some differ from it, and m nodes leave room for one more
+  pub record FirstInto (at t : ℕ) (xs : List (Node S V)) (m : ℕ) (s : Source S V) : Type 0 where
+    pub first : Some (brought by s) ≡ first_arrival (arrivals by t (part at by.width xs))
+    pub differ : alike by at t xs ≡ false
+    pub room : m < by.width
 
   -- node a of layer i can be parted, and s brings the first arrival
-  pub record MayPart (w i a : ℕ) (xs : List (Node S V)) (s : Source S V) : Type 0 where
-    pub clear : part_check r R T w i a xs ≡ Ok tt
-    pub placed : Placed r.n w (length xs) i
+  pub record MayPart (i a : ℕ) (xs : List (Node S V)) (s : Source S V) : Type 0 where
+    pub clear : part_check by i a xs ≡ Ok tt
+    pub placed : Placed by.round.n by.width (length xs) i
     pub low : 1 ≤ a
-    pub high : a ≤ node_count ((i - 1) * w + w) w xs
-    pub into : FirstInto ((i - 1) * w) w a xs (node_count ((i - 1) * w + w) w xs) s
+    pub high : a ≤ node_count ((i - 1) * by.width + by.width) by.width xs
+    pub into : FirstInto ((i - 1) * by.width) a xs (node_count ((i - 1) * by.width + by.width) by.width xs) s
 
--- nodes a and b of layer i can be joined
-pub record MayJoin {S V : Type 0} (n : ℕ) (z : Node S V) (w i a b : ℕ) (xs : List (Node S V)) : Type 0 where
-  pub clear : join_check n z w i a b xs ≡ Ok tt
-  pub placed : Placed n w (length xs) i
-  pub low : 1 ≤ min a b
-  pub apart : min a b < max a b
-  pub high : max a b ≤ node_count ((i - 1) * w + w) w xs
-  pub calm : clash_at z ((i - 1) * w + w) a b xs ≡ false
+  -- nodes a and b of layer i can be joined
+  pub record MayJoin (i a b : ℕ) (xs : List (Node S V)) : Type 0 where
+    pub clear : join_check by i a b xs ≡ Ok tt
+    pub placed : Placed by.round.n by.width (length xs) i
+    pub low : 1 ≤ min a b
+    pub apart : min a b < max a b
+    pub high : max a b ≤ node_count ((i - 1) * by.width + by.width) by.width xs
+    pub calm : clash_at (blank_node by.rule by.tally) ((i - 1) * by.width + by.width) a b xs ≡ false

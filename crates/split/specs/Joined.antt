@@ -1,4 +1,5 @@
 -- Two nodes of a layer joined, at the places lo and hi, of which lo is the lower.
+-- Nobody has to believe these steps: `words` of `join` says what they come to.
 use Rattle.std.specs.Prelude.{ℕ, suc, List, [], ◌∷◌, ◌++◌, map, take, drop, slice_index_or, slice_set}
 use Rattle.layers.specs.declared.node.Node.{Node}
 use Rattle.layers.specs.Flow.{place_after_join, both_out, without_place}
@@ -9,6 +10,7 @@ unfoldable pub moved_to : ℕ → ℕ → ℕ → ℕ → ℕ
 unfolding place_after_join
 moved_to lo hi j b = suc (place_after_join lo hi b)
 
+-- a node of the layer before
 unfoldable pub moved_node : {S V : Type 0} → ℕ → ℕ → Node S V → Node S V
 unfolding moved_to redirected
 moved_node lo hi x = redirected (moved_to lo hi) x

@@ -1,6 +1,7 @@
 -- A node parted: the in-arcs that do not stay go to a new node, numbered last, with the same out-arcs.
 -- `stays` is asked of the label of an in-arc's source, and its door.
-use Rattle.std.specs.Prelude.{ℕ, suc, Bool, cond, not, ◌&&◌, List, ◌++◌, map, take, drop, ◌==◌, slice_index_or, slice_set}
+-- Nobody has to believe these steps: `words` of `part` and of `part_layer` say what they come to.
+use Rattle.std.specs.Prelude.{ℕ, suc, Bool, if◌then◌else◌, not, ◌&&◌, List, ◌++◌, map, take, drop, ◌==◌, slice_index_or, slice_set}
 use Rattle.layers.specs.declared.node.Node.{Node}
 use Rattle.layers.specs.declared.node.Label.{Label}
 use Rattle.layers.specs.Targets.{redirected}
@@ -8,8 +9,9 @@ use Rattle.layers.specs.Targets.{redirected}
 module _ {S V : Type 0} (stays : Label S V → ℕ → Bool) where
   -- the arc of u by door j to place b, where the node at place a is parted and the new one stands at m
   unfoldable pub parted_to : ℕ → ℕ → Node S V → ℕ → ℕ → ℕ
-  parted_to a m u j b = cond (b == a && not (stays u.label j)) (suc m) (suc b)
+  parted_to a m u j b = if b == a && not (stays u.label j) then suc m else suc b
 
+  -- a node of the layer before
   unfoldable pub parted_node : ℕ → ℕ → Node S V → Node S V
   unfolding parted_to redirected
   parted_node a m u = redirected (parted_to a m u) u

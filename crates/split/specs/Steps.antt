@@ -1,8 +1,6 @@
--- The calls as the code does them: w records to a layer, in the flat list.
-use Rattle.std.specs.Prelude.{ℕ, zero, suc, ◌+◌, ◌-◌, ◌*◌, min, max, Bool, true, false, cond, if◌then◌else◌, ◌&&◌, ◌||◌, List, ◌++◌, length, take, drop, Some, None, Option, Ok, Err, is_ok, ◌==◌, nat_le, nat_lt, slice_index_or}
-use Rattle.round.specs.declared.table.Round.{Round}
-use Rattle.rules.specs.Rules.{RuleSense}
-use Rattle.tallies.specs.Tallies.{TallySense}
+-- The calls as the code does them, in the flat list of records.
+-- Nobody has to believe these steps: `words` of `part`, `part_layer`, `join` and `agreed` says what each comes to.
+use Rattle.std.specs.Prelude.{ℕ, zero, suc, ◌+◌, ◌-◌, ◌*◌, min, max, Bool, true, false, if◌then◌else◌, ◌&&◌, ◌||◌, List, ◌++◌, length, take, drop, Some, None, Option, Ok, Err, is_ok, ◌==◌, nat_le, nat_lt, slice_index_or}
 use Rattle.layers.specs.declared.node.Node.{Node}
 use Rattle.layers.specs.declared.node.Down.{Down}
 use Rattle.layers.specs.declared.node.Label.{Label}
@@ -11,6 +9,7 @@ use Rattle.layers.specs.Calls.{Outcome}
 use Rattle.layers.specs.Flow.{clash}
 use Rattle.layers.specs.Labels.{arrival_over, agree, all_agree, first_arrival}
 use Rattle.layers.specs.Records.{nodes_in}
+use Rattle.layers.specs.Settings.{Setting}
 use Rattle.layers.specs.Targets.{targets}
 use Rattle.labels.specs.Passes.{part, fits, arrivals, blank_node, relabelled}
 use Rattle.split.specs.Joined.{joined_second}
@@ -60,80 +59,96 @@ record_at z at a xs = slice_index_or xs (at + (a - 1)) z
 abbrev pub clash_at : {S V : Type 0} → Node S V → ℕ → ℕ → ℕ → List (Node S V) → Bool
 clash_at z at a b xs = clash (targets (record_at z at (min a b) xs)) (targets (record_at z at (max a b) xs))
 
--- join nodes a and b of layer i, in a diagram of n doors
-unfoldable pub join_check : {S V : Type 0} → ℕ → Node S V → ℕ → ℕ → ℕ → ℕ → List (Node S V) → Outcome
-unfolding clash targets
-join_check n z w i a b xs =
-    let at = (i - 1) * w + w in
-    let m = node_count at w xs in
-    and_then (place_check n w (length xs) i) (and_then (node_check m a) (and_then (node_check m b) (pair_check (a == b) (clash_at z at a b xs))))
+module _ {S V : Type 0} (by : Setting S V) where
+  -- the list of records
+  abbrev pub Recs : Type 0
+  Recs = List (Node S V)
 
-module _ {S V : Type 0} (r : Round) (R : RuleSense S) (T : TallySense V) where
   -- ---- part
-  -- the in-arcs of node a of the layer at `at + w` agree
-  abbrev pub alike : ℕ → ℕ → ℕ → List (Node S V) → Bool
-  alike at w a xs = all_agree r R T (arrivals r R T a (part at w xs))
+  -- the in-arcs of node a of the layer after that at `at` agree
+  abbrev pub alike : ℕ → ℕ → Recs → Bool
+  alike at a xs = all_agree by.rule (arrivals by a (part at by.width xs))
 
   -- which in-arcs stay: those that agree with the first arrival
   abbrev pub kept_first : Option (Down S V) → Label S V → ℕ → Bool
   kept_first None u j = true
-  kept_first (Some x) u j = agree r R T x (arrival_over r R T u.down j)
+  kept_first (Some x) u j = agree by.rule x (arrival_over by u.down j)
 
-  -- the node at place a of the layer at `at + w`, which has m nodes, parted
-  unfoldable pub parted_one : ℕ → ℕ → ℕ → ℕ → List (Node S V) → List (Node S V)
+  -- the node at place a of the layer after that at `at`, which has m nodes, parted
+  unfoldable pub parted_one : ℕ → ℕ → ℕ → Recs → Recs
   unfolding parted_second arrival_over agree
-  parted_one at w a m xs = take at xs ++ parted_second (kept_first (first_arrival r R T (arrivals r R T (suc a) (part at w xs)))) w a m (drop at xs) (blank_node r R T)
+  parted_one at a m xs =
+      let x = first_arrival (arrivals by (suc a) (part at by.width xs)) in
+      take at xs ++ parted_second (kept_first x) by.width a m (drop at xs) (blank_node by.rule by.tally)
 
   -- the same, unless its in-arcs agree or the layer is full
-  abbrev pub next_records : ℕ → ℕ → ℕ → ℕ → List (Node S V) → List (Node S V)
-  next_records at w a m xs = cond (alike at w (suc a) xs) xs (cond (nat_le w m) xs (parted_one at w a m xs))
+  abbrev pub next_records : ℕ → ℕ → ℕ → Recs → Recs
+  next_records at a m xs = if alike at (suc a) xs then xs else if nat_le by.width m then xs else parted_one at a m xs
 
   -- part node a of layer i
-  unfoldable pub part_check : ℕ → ℕ → ℕ → List (Node S V) → Outcome
+  unfoldable pub part_check : ℕ → ℕ → Recs → Outcome
   unfolding all_agree
-  part_check w i a xs =
-      let m = node_count ((i - 1) * w + w) w xs in
-      and_then (place_check r.n w (length xs) i) (and_then (node_check m a) (group_check (alike ((i - 1) * w) w a xs) (nat_le w m)))
+  part_check i a xs =
+      let at = (i - 1) * by.width in
+      let m = node_count (at + by.width) by.width xs in
+      and_then (place_check by.round.n by.width (length xs) i) (and_then (node_check m a) (group_check (alike at a xs) (nat_le by.width m)))
 
-  unfoldable pub part_steps : ℕ → ℕ → ℕ → List (Node S V) → List (Node S V)
+  unfoldable pub part_steps : ℕ → ℕ → Recs → Recs
   unfolding part_check parted_one relabelled
-  part_steps w i a xs = if is_ok (part_check w i a xs) then relabelled r R T w (parted_one ((i - 1) * w) w (a - 1) (node_count ((i - 1) * w + w) w xs) xs) else xs
+  part_steps i a xs =
+      let at = (i - 1) * by.width in
+      if is_ok (part_check i a xs) then relabelled by (parted_one at (a - 1) (node_count (at + by.width) by.width xs) xs) else xs
 
-  -- part the nodes at the places a, a + 1, .. of the layer at `at + w`, k at most, of the m that it has: whether one is left since the layer is full
-  unfoldable pub parts_from : ℕ → ℕ → ℕ → ℕ → ℕ → List (Node S V) → Bool × List (Node S V)
+  -- part the nodes at the places a, a + 1, .. of the layer after that at `at`, k at most, of the m that it has: whether one is
+  -- left since the layer is full
+  unfoldable pub parts_from : ℕ → ℕ → ℕ → ℕ → Recs → Bool × Recs
   unfolding all_agree parted_one
-  parts_from at w zero a m xs = (false, xs)
-  parts_from at w (suc k) a m xs =
-      cond (nat_le m a) (false, xs) (cond (alike at w (suc a) xs) (parts_from at w k (suc a) m xs) (cond (nat_le w m) (true, xs) (parts_from at w k (suc a) (suc m) (parted_one at w a m xs))))
+  parts_from at zero a m xs = (false, xs)
+  parts_from at (suc k) a m xs =
+      if nat_le m a then (false, xs)
+      else if alike at (suc a) xs then parts_from at k (suc a) m xs
+      else if nat_le by.width m then (true, xs)
+      else parts_from at k (suc a) (suc m) (parted_one at a m xs)
 
   -- a layer of the list, or nothing of a list that does not fit or a layer that is not 1 to n - 1
-  unfoldable pub layer_steps : ℕ → ℕ → List (Node S V) → Bool × List (Node S V)
+  unfoldable pub layer_steps : ℕ → Recs → Bool × Recs
   unfolding parts_from
-  layer_steps w i xs = if is_ok (place_check r.n w (length xs) i) then parts_from ((i - 1) * w) w w 0 (node_count ((i - 1) * w + w) w xs) xs else (false, xs)
+  layer_steps i xs =
+      let at = (i - 1) * by.width in
+      if is_ok (place_check by.round.n by.width (length xs) i) then parts_from at by.width 0 (node_count (at + by.width) by.width xs) xs else (false, xs)
 
   -- ---- join
-  -- the nodes at the places lo and hi of the layer at `at + w`, joined
-  unfoldable pub joined_one : ℕ → ℕ → ℕ → ℕ → List (Node S V) → List (Node S V)
-  unfolding joined_second
-  joined_one at w lo hi xs = take at xs ++ joined_second w lo hi (drop at xs) (blank_node r R T)
+  -- nodes a and b of layer i
+  unfoldable pub join_check : ℕ → ℕ → ℕ → Recs → Outcome
+  unfolding clash targets
+  join_check i a b xs =
+      let at = (i - 1) * by.width + by.width in
+      let m = node_count at by.width xs in
+      and_then (place_check by.round.n by.width (length xs) i) (and_then (node_check m a) (and_then (node_check m b) (pair_check (a == b) (clash_at (blank_node by.rule by.tally) at a b xs))))
 
-  -- join nodes a and b of layer i
-  unfoldable pub join_steps : ℕ → ℕ → ℕ → ℕ → List (Node S V) → List (Node S V)
+  -- the nodes at the places lo and hi of the layer after that at `at`, joined
+  unfoldable pub joined_one : ℕ → ℕ → ℕ → Recs → Recs
+  unfolding joined_second
+  joined_one at lo hi xs = take at xs ++ joined_second by.width lo hi (drop at xs) (blank_node by.rule by.tally)
+
+  unfoldable pub join_steps : ℕ → ℕ → ℕ → Recs → Recs
   unfolding join_check joined_one relabelled
-  join_steps w i a b xs = if is_ok (join_check r.n (blank_node r R T) w i a b xs) then relabelled r R T w (joined_one ((i - 1) * w) w (min a b - 1) (max a b - 1) xs) else xs
+  join_steps i a b xs = if is_ok (join_check i a b xs) then relabelled by (joined_one ((i - 1) * by.width) (min a b - 1) (max a b - 1) xs) else xs
 
   -- ---- agreed: of the nodes 1 to b of the layer after the records us, and of the layers 1 to k
-  unfoldable pub agreed_to : ℕ → List (Node S V) → Bool
+  unfoldable pub agreed_to : ℕ → Recs → Bool
   unfolding all_agree
   agreed_to zero us = true
-  agreed_to (suc b) us = all_agree r R T (arrivals r R T (suc b) us) && agreed_to b us
+  agreed_to (suc b) us = all_agree by.rule (arrivals by (suc b) us) && agreed_to b us
 
-  unfoldable pub agreed_layers : ℕ → ℕ → List (Node S V) → Bool
+  unfoldable pub agreed_layers : ℕ → Recs → Bool
   unfolding agreed_to
-  agreed_layers w zero xs = true
-  agreed_layers w (suc k) xs = agreed_to (node_count (k * w + w) w xs) (part (k * w) w xs) && agreed_layers w k xs
+  agreed_layers zero xs = true
+  agreed_layers (suc k) xs =
+      let at = k * by.width in
+      agreed_to (node_count (at + by.width) by.width xs) (part at by.width xs) && agreed_layers k xs
 
   -- no, of a list that does not fit
-  unfoldable pub agreed_steps : ℕ → List (Node S V) → Bool
+  unfoldable pub agreed_steps : Recs → Bool
   unfolding agreed_layers
-  agreed_steps w xs = cond (fits r.n w (length xs)) (agreed_layers w (r.n - 1) xs) false
+  agreed_steps xs = if fits by.round.n by.width (length xs) then agreed_layers (by.round.n - 1) xs else false

@@ -1,35 +1,36 @@
 //! Whether the in-arcs of each node agree.
-ghost use Rattle.std.specs.Prelude.{◌≡◌, ◌+◌, ◌*◌, ◌≤◌, length};
+ghost use Rattle.std.specs.Prelude.{◌≡◌, ◌+◌, ◌≤◌, length};
 ghost use Rattle.tallies.specs.Tallies.{TallySense};
+ghost use Rattle.layers.specs.Settings.{setting, lent_setting};
 ghost use Rattle.labels.specs.Passes.{part};
 ghost use Rattle.split.specs.Steps.{node_count, agreed_to, agreed_steps};
 ghost use Rattle.split.specs.Words.{AgreedDone};
 
-use crate::agree::look_in;
-use crate::stand::count_in;
+use crate::agreement::look_in;
+use crate::counting::count_in;
 use labels::room::has_room;
 use layers::node::Node;
+use layers::setting::Setting;
 use round::table::Round;
 use rules::rule::Rule;
 
-/// Whether the in-arcs of each node agree of the layer after the w records at `at`.
-fn layer_agreed<R: Rule, V: Copy>(
-    round: &Round,
-    rule: &R,
+/// Whether the in-arcs of each node agree of the layer after that at `at`.
+fn layer_agreed<R: Rule, T, V: Copy>(
+    by: &Setting<'_, R, T>,
     nodes: &[Node<R::State, V>],
     at: usize,
-    w: usize,
 ) -> bool
-    requires w_in_bounds { at + w + w ≤ length nodes.now }
-    requires w_bound { w ≤ 128 }
-    ensures { (s : TallySense V)
-        → result ≡ agreed_to round.now (R.Rule.sense rule.now) s (node_count (at + w) w nodes.now)
-        (part at w nodes.now) }
+    requires two_in_bounds { at + by.now.width + by.now.width ≤ length nodes.now }
+    requires width_bound { by.now.width ≤ 128 }
+    ensures { (tally : TallySense V)
+        → let by = lent_setting by.now (R.sense by.now.rule.now) tally in
+        result ≡ agreed_to by (node_count (at + by.width) by.width nodes.now)
+        (part at by.width nodes.now) }
 {
-    let count = count_in(nodes, at + w, w);
+    let count = count_in(nodes, at + by.width, by.width);
     let mut all = true;
     for b in 0..count {
-        let got = look_in(round, rule, nodes, at, w, b as u8 + 1);
+        let got = look_in(by, nodes, at, b as u8 + 1);
         all &= got.agreed;
     }
     all
@@ -42,17 +43,23 @@ pub fn agreed<R: Rule, V: Copy>(
     nodes: &[Node<R::State, V>],
     width: usize,
 ) -> bool
-    ensures steps { (s : TallySense V)
-        → result ≡ agreed_steps round.now (R.Rule.sense rule.now) s width nodes.now }
-    ensures words { (s : TallySense V)
-        → AgreedDone round.now (R.Rule.sense rule.now) s width nodes.now result }
+    ensures steps { (tally : TallySense V)
+        → result ≡ agreed_steps (setting round.now (R.sense rule.now) tally width) nodes.now }
+    ensures words { (tally : TallySense V)
+        → AgreedDone (setting round.now (R.sense rule.now) tally width) nodes.now result }
 {
     if !has_room(round, width, nodes.len()) {
         return false;
     }
+    let by = Setting {
+        round,
+        rule,
+        tally: &(),
+        width,
+    };
     let mut all = true;
     for k in 0..round.n - 1 {
-        all &= layer_agreed(round, rule, nodes, k * width, width);
+        all &= layer_agreed(&by, nodes, k * width);
     }
     all
 }

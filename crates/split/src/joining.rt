@@ -1,18 +1,18 @@
 //! Joining two nodes of a layer: one node with the in-arcs and the out-arcs of both.
 ghost use Rattle.std.specs.Prelude.{◌≡◌, ◌+◌, ◌-◌, ◌<◌, ◌≤◌, max, length, ◌==◌};
 ghost use Rattle.layers.specs.declared.node.Node.{Node as ANode};
-ghost use Rattle.labels.specs.Passes.{blank_node};
-ghost use Rattle.split.specs.Steps.{pair_check, clash_at, join_check, join_steps};
+ghost use Rattle.layers.specs.Settings.{lent_setting};
+ghost use Rattle.split.specs.Steps.{pair_check, clash_at, join_check, joined_one, join_steps};
 ghost use Rattle.split.specs.Words.{JoinDone};
 
 use crate::check::{check_node, check_place};
-use crate::join::{clashes, join as join_two};
-use crate::stand::count_in;
+use crate::counting::count_in;
+use crate::uniting::{clashes, unite};
 use labels::blank::blank_node;
 use labels::relabel::relabel;
 use layers::node::Node;
 use layers::refusal::Refusal;
-use round::table::Round;
+use layers::setting::Setting;
 use rules::rule::Rule;
 use tallies::tally::Tally;
 
@@ -39,50 +39,64 @@ fn check_pair<S: Copy, V: Copy>(
     Ok(())
 }
 
-/// Whether nodes a and b of the layer can be joined, in a diagram of n doors.
-fn check_join<S: Copy, V: Copy>(
-    nodes: &[Node<S, V>],
-    n: usize,
-    width: usize,
+/// Whether nodes a and b of the layer can be joined.
+fn check_join<R: Rule, T: Tally>(
+    by: &Setting<'_, R, T>,
+    nodes: &[Node<R::State, T::Value>],
     layer: usize,
     a: usize,
     b: usize,
 ) -> Result<(), Refusal>
-    requires { n ≤ 16 }
-    ensures { (z : ANode S V) → result ≡ join_check n z width layer a b nodes.now }
+    ensures { let by = lent_setting by.now (R.sense by.now.rule.now) (T.sense by.now.tally.now) in
+        result ≡ join_check by layer a b nodes.now }
 {
-    check_place(n, width, nodes.len(), layer)?;
-    let at = (layer - 1) * width + width;
-    let count = count_in(nodes, at, width);
+    check_place(by.round.n, by.width, nodes.len(), layer)?;
+    let at = (layer - 1) * by.width + by.width;
+    let count = count_in(nodes, at, by.width);
     check_node(count, a)?;
     check_node(count, b)?;
     check_pair(nodes, at, a, b)
 }
 
+/// Joins the nodes lo and hi of the layer after that at `at`.
+fn join_nodes<R: Rule, T: Tally>(
+    by: &Setting<'_, R, T>,
+    nodes: &mut [Node<R::State, T::Value>],
+    at: usize,
+    lo: u8,
+    hi: u8,
+)
+    requires two_in_bounds { at + by.now.width + by.now.width < length nodes.old }
+    requires one_le_lo { 1 ≤ lo }
+    requires lo_lt_hi { lo < hi }
+    requires hi_le_width { hi ≤ by.now.width }
+    ensures { let by = lent_setting by.now (R.sense by.now.rule.now) (T.sense by.now.tally.now) in
+        nodes.new ≡ joined_one by at (lo - 1) (hi - 1) nodes.old }
+{
+    let blank = blank_node(by.rule, by.tally);
+    let rest = &mut nodes[at..];
+    unite(rest, by.width, lo, hi, &blank);
+}
+
 /// Joins nodes a and b of the layer: a node with the out-arcs of both stands at the lower of the two places, the nodes after
 /// the other move down, and all labels are worked out anew. A refusal alters nothing.
 pub fn join<R: Rule, T: Tally>(
-    round: &Round,
-    rule: &R,
-    tally: &T,
+    by: &Setting<'_, R, T>,
     nodes: &mut [Node<R::State, T::Value>],
-    width: usize,
     layer: usize,
     a: usize,
     b: usize,
 ) -> Result<(), Refusal>
-    ensures answer { result ≡ join_check round.now.n
-        (blank_node round.now (R.Rule.sense rule.now) (T.Tally.sense tally.now)) width layer a b
-        nodes.old }
-    ensures steps { nodes.new ≡ join_steps round.now (R.Rule.sense rule.now)
-        (T.Tally.sense tally.now) width layer a b nodes.old }
-    ensures words { JoinDone round.now (R.Rule.sense rule.now) (T.Tally.sense tally.now) width
-        nodes.old layer a b result nodes.new }
+    ensures answer { let by = lent_setting by.now (R.sense by.now.rule.now)
+        (T.sense by.now.tally.now) in result ≡ join_check by layer a b nodes.old }
+    ensures steps { let by = lent_setting by.now (R.sense by.now.rule.now)
+        (T.sense by.now.tally.now) in nodes.new ≡ join_steps by layer a b nodes.old }
+    ensures words { let by = lent_setting by.now (R.sense by.now.rule.now)
+        (T.sense by.now.tally.now) in JoinDone by nodes.old layer a b result nodes.new }
 {
-    check_join(nodes, round.n, width, layer, a, b)?;
-    let blank = blank_node(rule, tally);
-    let at = (layer - 1) * width;
-    join_two(nodes, at, width, a.min(b) as u8, a.max(b) as u8, &blank);
-    relabel(round, rule, tally, nodes, width);
+    check_join(by, nodes, layer, a, b)?;
+    let at = (layer - 1) * by.width;
+    join_nodes(by, nodes, at, a.min(b) as u8, a.max(b) as u8);
+    relabel(by, nodes);
     Ok(())
 }

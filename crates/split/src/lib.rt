@@ -1,12 +1,14 @@
 //! Parting and joining nodes in the lent list of records.
 #![tactic(auto)]
 
-mod agree;
 pub mod agreeing;
+mod agreement;
+mod by_first;
 mod check;
-mod join;
+mod counting;
+mod dividing;
 pub mod joining;
-mod part;
+mod moving;
 pub mod parting;
 mod source;
-mod stand;
+mod uniting;

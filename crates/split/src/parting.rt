@@ -2,20 +2,23 @@
 ghost use Rattle.std.specs.Prelude.{◌≡◌, suc, ◌+◌, ◌-◌, ◌<◌, ◌≤◌, length, Some, MatchResult, nat_le};
 ghost use Rattle.tallies.specs.Tallies.{TallySense};
 ghost use Rattle.layers.specs.Labels.{first_arrival};
+ghost use Rattle.layers.specs.Settings.{lent_setting};
 ghost use Rattle.labels.specs.Passes.{part, arrivals};
 ghost use Rattle.split.specs.Agreed.{brought};
 ghost use Rattle.split.specs.Steps.{node_count, group_check, alike, parted_one, part_check, part_steps, next_count, next_records, parts_from, layer_steps};
 ghost use Rattle.split.specs.Asked.{got_check, FirstKnown, FirstInto, MayPart};
 ghost use Rattle.split.specs.Words.{PartDone, LayerDone};
 
-use crate::agree::{look_in, part_by_first};
+use crate::agreement::look_in;
+use crate::by_first::ByFirst;
 use crate::check::{check_node, check_place};
+use crate::counting::count_in;
+use crate::dividing::divide;
 use crate::source::{Arrived, Source};
-use crate::stand::count_in;
 use labels::relabel::relabel;
 use layers::node::Node;
 use layers::refusal::Refusal;
-use round::table::Round;
+use layers::setting::Setting;
 use rules::rule::Rule;
 use tallies::tally::Tally;
 
@@ -39,168 +42,144 @@ fn check_group<S: Copy, V: Copy>(got: Arrived<S, V>, full: bool) -> Result<Sourc
     }
 }
 
-/// The same of node t, out of the w records at `at` before its layer, which has `count` nodes.
-fn check_into<R: Rule, V: Copy>(
-    round: &Round,
-    rule: &R,
-    nodes: &[Node<R::State, V>],
+/// The same of node t of the layer after that at `at`, which has `count` nodes.
+fn check_into<R: Rule, T: Tally>(
+    by: &Setting<'_, R, T>,
+    nodes: &[Node<R::State, T::Value>],
     at: usize,
-    w: usize,
     t: u8,
     count: usize,
-) -> Result<Source<R::State, V>, Refusal>
-    requires { at + w ≤ length nodes.now }
-    ensures { (s : TallySense V)
-        → MatchResult result (FirstInto round.now (R.Rule.sense rule.now) s at w t nodes.now count)
-        (λ e. group_check (alike round.now (R.Rule.sense rule.now) s at w t nodes.now)
-        (nat_le w count) ≡ Err e) }
+) -> Result<Source<R::State, T::Value>, Refusal>
+    requires { at + by.now.width ≤ length nodes.now }
+    ensures { let by = lent_setting by.now (R.sense by.now.rule.now) (T.sense by.now.tally.now) in
+        MatchResult result (FirstInto by at t nodes.now count)
+        (λ e. group_check (alike by at t nodes.now) (nat_le by.width count) ≡ Err e) }
 {
-    let got = look_in(round, rule, nodes, at, w, t);
-    check_group(got, count >= w)
+    let got = look_in(by, nodes, at, t);
+    check_group(got, count >= by.width)
 }
 
 /// Whether the node of the layer can be parted, and its first in-arc.
-fn check_part<R: Rule, V: Copy>(
-    round: &Round,
-    rule: &R,
-    nodes: &[Node<R::State, V>],
-    width: usize,
+fn check_part<R: Rule, T: Tally>(
+    by: &Setting<'_, R, T>,
+    nodes: &[Node<R::State, T::Value>],
     layer: usize,
     node: usize,
-) -> Result<Source<R::State, V>, Refusal>
-    ensures { (s : TallySense V)
-        → MatchResult result
-        (MayPart round.now (R.Rule.sense rule.now) s width layer node nodes.now)
-        (λ e. part_check round.now (R.Rule.sense rule.now) s width layer node nodes.now ≡ Err e) }
+) -> Result<Source<R::State, T::Value>, Refusal>
+    ensures { let by = lent_setting by.now (R.sense by.now.rule.now) (T.sense by.now.tally.now) in
+        MatchResult result (MayPart by layer node nodes.now)
+        (λ e. part_check by layer node nodes.now ≡ Err e) }
 {
-    check_place(round.n, width, nodes.len(), layer)?;
-    let at = (layer - 1) * width;
-    let count = count_in(nodes, at + width, width);
+    check_place(by.round.n, by.width, nodes.len(), layer)?;
+    let at = (layer - 1) * by.width;
+    let count = count_in(nodes, at + by.width, by.width);
     check_node(count, node)?;
-    check_into(round, rule, nodes, at, width, node as u8, count)
+    check_into(by, nodes, at, node as u8, count)
 }
 
-/// Parts node a of the layer whose records begin at `at + w`, which has room for one more. The first in-arc comes from `first`.
+/// Parts node a of the layer after that at `at`, which has room for one more, by the test of its first in-arc.
 fn part_node<R: Rule, T: Tally>(
-    round: &Round,
-    rule: &R,
-    tally: &T,
-    first: Source<R::State, T::Value>,
+    test: &ByFirst<'_, R, T, R::State, T::Value>,
     nodes: &mut [Node<R::State, T::Value>],
     at: usize,
-    w: usize,
     a: usize,
     count: usize,
 )
-    requires w_in_bounds { at + w + w < length nodes.old }
-    requires w_bound { w ≤ 128 }
+    requires two_in_bounds { at + test.now.by.now.width + test.now.by.now.width < length nodes.old }
+    requires width_bound { test.now.by.now.width ≤ 128 }
     requires one_le_a { 1 ≤ a }
     requires a_le_count { a ≤ count }
-    requires count_lt_w { count < w }
-    requires is_first { Some
-        (brought round.now (R.Rule.sense rule.now) (T.Tally.sense tally.now) first) ≡ first_arrival
-        round.now (R.Rule.sense rule.now) (T.Tally.sense tally.now) (arrivals round.now
-        (R.Rule.sense rule.now) (T.Tally.sense tally.now) a (part at w nodes.old)) }
-    ensures { nodes.new ≡ parted_one round.now (R.Rule.sense rule.now) (T.Tally.sense tally.now) at
-        w (a - 1) count nodes.old }
+    requires count_lt_width { count < test.now.by.now.width }
+    requires is_first { let s = test.now.by.now in
+        let by = lent_setting s (R.sense s.rule.now) (T.sense s.tally.now) in
+        Some (brought by test.now.first) ≡ first_arrival
+        (arrivals by a (part at by.width nodes.old)) }
+    ensures { let s = test.now.by.now in
+        let by = lent_setting s (R.sense s.rule.now) (T.sense s.tally.now) in
+        nodes.new ≡ parted_one by at (a - 1) count nodes.old }
 {
-    part_by_first(
-        round,
-        rule,
-        tally,
-        first,
-        nodes,
-        at,
-        w,
-        a as u8,
-        count as u8,
-    );
+    let rest = &mut nodes[at..];
+    divide(test, rest, test.by.width, a as u8, count as u8);
 }
 
 /// Parts node `node` of the layer: the in-arcs that differ from the first go to a new last node, with the same out-arcs, and
 /// all labels are worked out anew. A refusal alters nothing.
 pub fn part<R: Rule, T: Tally>(
-    round: &Round,
-    rule: &R,
-    tally: &T,
+    by: &Setting<'_, R, T>,
     nodes: &mut [Node<R::State, T::Value>],
-    width: usize,
     layer: usize,
     node: usize,
 ) -> Result<(), Refusal>
-    ensures answer { result ≡ part_check round.now (R.Rule.sense rule.now) (T.Tally.sense tally.now)
-        width layer node nodes.old }
-    ensures steps { nodes.new ≡ part_steps round.now (R.Rule.sense rule.now)
-        (T.Tally.sense tally.now) width layer node nodes.old }
-    ensures words { PartDone round.now (R.Rule.sense rule.now) (T.Tally.sense tally.now) width
-        nodes.old layer node result nodes.new }
+    ensures answer { let by = lent_setting by.now (R.sense by.now.rule.now)
+        (T.sense by.now.tally.now) in result ≡ part_check by layer node nodes.old }
+    ensures steps { let by = lent_setting by.now (R.sense by.now.rule.now)
+        (T.sense by.now.tally.now) in nodes.new ≡ part_steps by layer node nodes.old }
+    ensures words { let by = lent_setting by.now (R.sense by.now.rule.now)
+        (T.sense by.now.tally.now) in PartDone by nodes.old layer node result nodes.new }
 {
-    let first = check_part(round, rule, nodes, width, layer, node)?;
-    let at = (layer - 1) * width;
-    let count = count_in(nodes, at + width, width);
-    part_node(round, rule, tally, first, nodes, at, width, node, count);
-    relabel(round, rule, tally, nodes, width);
+    let first = check_part(by, nodes, layer, node)?;
+    let at = (layer - 1) * by.width;
+    let count = count_in(nodes, at + by.width, by.width);
+    let test = ByFirst { by, first };
+    part_node(&test, nodes, at, node, count);
+    relabel(by, nodes);
     Ok(())
 }
 
-/// Parts the node at place a of the layer whose records begin at `at + w`, unless its in-arcs agree. Answers how many nodes the
-/// layer has then, or none if it is full already.
+/// Parts the node at place a of the layer after that at `at`, unless its in-arcs agree. Answers how many nodes the layer has
+/// then, or none if it is full already.
 fn part_next<R: Rule, T: Tally>(
-    round: &Round,
-    rule: &R,
-    tally: &T,
+    by: &Setting<'_, R, T>,
     nodes: &mut [Node<R::State, T::Value>],
     at: usize,
-    w: usize,
     a: usize,
     count: usize,
 ) -> Option<usize>
-    requires w_in_bounds { at + w + w < length nodes.old }
-    requires w_bound { w ≤ 128 }
+    requires two_in_bounds { at + by.now.width + by.now.width < length nodes.old }
+    requires width_bound { by.now.width ≤ 128 }
     requires a_lt_count { a < count }
-    requires count_le_w { count ≤ w }
-    ensures answer { result ≡ next_count
-        (alike round.now (R.Rule.sense rule.now) (T.Tally.sense tally.now) at w (suc a) nodes.old)
-        (nat_le w count) count }
-    ensures records { nodes.new ≡ next_records round.now (R.Rule.sense rule.now)
-        (T.Tally.sense tally.now) at w a count nodes.old }
+    requires count_le_width { count ≤ by.now.width }
+    ensures answer { let by = lent_setting by.now (R.sense by.now.rule.now)
+        (T.sense by.now.tally.now) in
+        result ≡ next_count (alike by at (suc a) nodes.old) (nat_le by.width count) count }
+    ensures records { let by = lent_setting by.now (R.sense by.now.rule.now)
+        (T.sense by.now.tally.now) in nodes.new ≡ next_records by at a count nodes.old }
 {
-    let Arrived { first, agreed } = look_in(round, rule, nodes, at, w, a as u8 + 1);
+    let Arrived { first, agreed } = look_in(by, nodes, at, a as u8 + 1);
     if agreed {
         return Some(count);
     }
-    if count >= w {
+    if count >= by.width {
         return None;
     }
     match first {
         None => Some(count),
         Some(x) => {
-            part_node(round, rule, tally, x, nodes, at, w, a + 1, count);
+            let test = ByFirst { by, first: x };
+            part_node(&test, nodes, at, a + 1, count);
             Some(count + 1)
         }
     }
 }
 
-/// Parts the nodes of the layer whose records begin at `at + w`, as many as it has and gets.
+/// Parts the nodes of the layer after that at `at`, as many as it has and gets.
 fn part_from<R: Rule, T: Tally>(
-    round: &Round,
-    rule: &R,
-    tally: &T,
+    by: &Setting<'_, R, T>,
     nodes: &mut [Node<R::State, T::Value>],
     at: usize,
-    w: usize,
 ) -> bool
-    requires w_in_bounds { at + w + w < length nodes.old }
-    requires w_bound { w ≤ 128 }
-    ensures { (result, nodes.new) ≡ parts_from round.now (R.Rule.sense rule.now)
-        (T.Tally.sense tally.now) at w w 0 (node_count (at + w) w nodes.old) nodes.old }
+    requires two_in_bounds { at + by.now.width + by.now.width < length nodes.old }
+    requires width_bound { by.now.width ≤ 128 }
+    ensures { let by = lent_setting by.now (R.sense by.now.rule.now) (T.sense by.now.tally.now) in
+        (result, nodes.new) ≡ parts_from by at by.width 0
+        (node_count (at + by.width) by.width nodes.old) nodes.old }
 {
-    let mut count = count_in(nodes, at + w, w);
-    for a in 0..w {
+    let mut count = count_in(nodes, at + by.width, by.width);
+    for a in 0..by.width {
         if count <= a {
             return false;
         }
-        match part_next(round, rule, tally, nodes, at, w, a, count) {
+        match part_next(by, nodes, at, a, count) {
             None => return true,
             Some(m) => count = m,
         }
@@ -212,20 +191,17 @@ fn part_from<R: Rule, T: Tally>(
 /// is worked out anew. Yes if one is left since the layer is full. No, and nothing altered, for a list that has no room for the
 /// round's diagram, and for a layer that is not 1 to n - 1.
 pub fn part_layer<R: Rule, T: Tally>(
-    round: &Round,
-    rule: &R,
-    tally: &T,
+    by: &Setting<'_, R, T>,
     nodes: &mut [Node<R::State, T::Value>],
-    width: usize,
     layer: usize,
 ) -> bool
-    ensures steps { (result, nodes.new) ≡ layer_steps round.now (R.Rule.sense rule.now)
-        (T.Tally.sense tally.now) width layer nodes.old }
-    ensures words { LayerDone round.now (R.Rule.sense rule.now) (T.Tally.sense tally.now) width
-        nodes.old layer result nodes.new }
+    ensures steps { let by = lent_setting by.now (R.sense by.now.rule.now)
+        (T.sense by.now.tally.now) in (result, nodes.new) ≡ layer_steps by layer nodes.old }
+    ensures words { let by = lent_setting by.now (R.sense by.now.rule.now)
+        (T.sense by.now.tally.now) in LayerDone by nodes.old layer result nodes.new }
 {
-    if check_place(round.n, width, nodes.len(), layer).is_err() {
+    if check_place(by.round.n, by.width, nodes.len(), layer).is_err() {
         return false;
     }
-    part_from(round, rule, tally, nodes, (layer - 1) * width, width)
+    part_from(by, nodes, (layer - 1) * by.width)
 }

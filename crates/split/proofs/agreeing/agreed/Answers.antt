@@ -1,6 +1,7 @@
 use Rattle.std.proofs.Common.{◌≡◌, ℕ, ◌-◌, false, ◌&&◌, length, sym, refl, ap, ◌∙◌, ap₂, add-one, arith}
 use Rattle.std.proofs.lemmas.Bool.{cond-true, cond-false}
 use Rattle.tallies.specs.Tallies.{TallySense}
+use Rattle.layers.specs.Settings.{Setting, setting}
 use Rattle.labels.specs.Passes.{fits}
 use Rattle.labels.proofs.Rooms.{room-facts}
 use Rattle.split.specs.Steps.{agreed_layers, agreed_steps}
@@ -13,10 +14,10 @@ pub returns-then-not-has_room : goal.returns-then-not-has_room
 unfolding agreed_steps
 returns-then-not-has_room g c =
     let r = c.args.round.now in
-    let R = g.R.Rule.sense c.args.rule.now in
+    let By : TallySense g.row.V.Denot → Setting g.row.R-State.Denot g.row.V.Denot = λ s. setting r (g.R.Rule.sense c.args.rule.now) s c.args.width in
     let xs = c.args.nodes.now in
-    let no : (s : TallySense g.row.V.Denot) → false ≡ agreed_steps r R s c.args.width xs = λ s. sym (cond-false (fits r.n c.args.width (length xs)) _ _ (sym c.if-not-has_room.ensures)) in
-    record { steps = no; words = λ s. agreed-said r R s c.args.width xs false (no s) }
+    let no : (s : TallySense g.row.V.Denot) → false ≡ agreed_steps (By s) xs = λ s. sym (cond-false (fits r.n c.args.width (length xs)) _ _ (sym c.if-not-has_room.ensures)) in
+    record { steps = no; words = λ s. agreed-said (By s) xs false (no s) }
 
 pub loop-k-init : goal.loop-k-init
 unfolding agreed_layers
@@ -32,27 +33,25 @@ pub layer_agreed-all-requires : goal.layer_agreed-all-requires
 layer_agreed-all-requires g c =
     let room = room-facts c.args.round.now.n c.args.width (length c.args.nodes.now) (sym c.if-not-has_room.ensures) in
     record {
-      w_in_bounds = layer-within c.args.round.now.n c.args.width (length c.args.nodes.now) c.loop-k.k room.enough (omega (arith, c.loop-k-test.true));
-      w_bound = room.high;
+      two_in_bounds = layer-within c.args.round.now.n c.args.width (length c.args.nodes.now) c.loop-k.k room.enough (omega (arith, c.loop-k-test.true));
+      width_bound = room.high;
     }
 
 pub loop-k-preserved : goal.loop-k-preserved
 unfolding agreed_layers
 loop-k-preserved g c s =
-    let r = c.args.round.now in
-    let R = g.R.Rule.sense c.args.rule.now in
     and-swap c.loop-k.all c.layer_agreed-all.result
     ∙ ap₂ ◌&&◌ (c.layer_agreed-all.ensures s) (c.loop-k.invariant s)
-    ∙ ap (λ (k : ℕ). agreed_layers r R s c.args.width k c.args.nodes.now) (sym (add-one c.loop-k.k))
+    ∙ ap (λ (k : ℕ). agreed_layers (setting c.args.round.now (g.R.Rule.sense c.args.rule.now) s c.args.width) k c.args.nodes.now) (sym (add-one c.loop-k.k))
 
 pub returns : goal.returns
 unfolding agreed_steps
 returns g c =
     let r = c.args.round.now in
-    let R = g.R.Rule.sense c.args.rule.now in
     let w = c.args.width in
+    let By : TallySense g.row.V.Denot → Setting g.row.R-State.Denot g.row.V.Denot = λ s. setting r (g.R.Rule.sense c.args.rule.now) s w in
     let xs = c.args.nodes.now in
     let all : c.loop-k.k ≡ r.n - 1 = omega arith in
-    let yes : (s : TallySense g.row.V.Denot) → c.loop-k.all ≡ agreed_steps r R s w xs =
-    λ s. c.loop-k.invariant s ∙ ap (λ (k : ℕ). agreed_layers r R s w k xs) all ∙ sym (cond-true (fits r.n w (length xs)) _ _ (sym c.if-not-has_room.ensures)) in
-    record { steps = yes; words = λ s. agreed-said r R s w xs c.loop-k.all (yes s) }
+    let yes : (s : TallySense g.row.V.Denot) → c.loop-k.all ≡ agreed_steps (By s) xs =
+    λ s. c.loop-k.invariant s ∙ ap (λ (k : ℕ). agreed_layers (By s) k xs) all ∙ sym (cond-true (fits r.n w (length xs)) _ _ (sym c.if-not-has_room.ensures)) in
+    record { steps = yes; words = λ s. agreed-said (By s) xs c.loop-k.all (yes s) }

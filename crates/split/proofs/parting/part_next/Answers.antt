@@ -1,4 +1,5 @@
 use Rattle.std.proofs.Common.{◌≡◌, ℕ, ◌+◌, ◌-◌, true, sym, ap, ◌∙◌, arith}
+use Rattle.layers.specs.Settings.{lent_setting}
 use Rattle.std.proofs.lemmas.Bool.{both_ways}
 use Rattle.layers.specs.Labels.{all_agree}
 use Rattle.labels.specs.Passes.{part, arrivals}
@@ -10,34 +11,26 @@ use Rattle.split.proofs.parting.part_next.Goals as goal
 
 pub returns-then-agreed : goal.returns-then-agreed
 returns-then-agreed g c =
-    let r = c.args.round.now in
-    let R = g.R.Rule.sense c.args.rule.now in
-    let T = g.T.Tally.sense c.args.tally.now in
-    let n = next-alike r R T c.args.at c.args.w c.args.a c.args.count c.args.nodes.now (said r R T c.args.at c.args.w c.args.a c.args.nodes.now (c.look_in-first.ensures.agreed T) c.if-agreed.true) in
+    let by = lent_setting c.args.by.now (g.R.Rule.sense c.args.by.now.rule.now) (g.T.Tally.sense c.args.by.now.tally.now) in
+    let n = next-alike by c.args.at c.args.a c.args.count c.args.nodes.now (said by c.args.at c.args.a c.args.nodes.now (c.look_in-first.ensures.agreed by.tally) c.if-agreed.true) in
     record { answer = n.0; records = n.1 }
 
-pub returns-then-count-w : goal.returns-then-count-w
-returns-then-count-w g c =
-    let r = c.args.round.now in
-    let R = g.R.Rule.sense c.args.rule.now in
-    let T = g.T.Tally.sense c.args.tally.now in
-    let n = next-full r R T c.args.at c.args.w c.args.a c.args.count c.args.nodes.now (said r R T c.args.at c.args.w c.args.a c.args.nodes.now (c.look_in-first.ensures.agreed T) c.if-agreed.false) c.if-count-w.true in
+pub returns-then-count-by : goal.returns-then-count-by
+returns-then-count-by g c =
+    let by = lent_setting c.args.by.now (g.R.Rule.sense c.args.by.now.rule.now) (g.T.Tally.sense c.args.by.now.tally.now) in
+    let n = next-full by c.args.at c.args.a c.args.count c.args.nodes.now (said by c.args.at c.args.a c.args.nodes.now (c.look_in-first.ensures.agreed by.tally) c.if-agreed.false) c.if-count-by.true in
     record { answer = n.0; records = n.1 }
 
 pub returns-in-None : goal.returns-in-None
 returns-in-None g c =
-    let r = c.args.round.now in
-    let R = g.R.Rule.sense c.args.rule.now in
-    let T = g.T.Tally.sense c.args.tally.now in
-    let ys = arrivals r R T (c.args.a + 1) (part c.args.at c.args.w c.args.nodes.now) in
-    let all : all_agree r R T ys ≡ true = none-agree r R T ys (ap (brought_first r R T) (sym c.in-None.is) ∙ c.look_in-first.ensures.first T) in
-    absurd (both_ways (all_agree r R T ys) (sym (c.look_in-first.ensures.agreed T) ∙ c.if-agreed.false) all)
+    let by = lent_setting c.args.by.now (g.R.Rule.sense c.args.by.now.rule.now) (g.T.Tally.sense c.args.by.now.tally.now) in
+    let ys = arrivals by (c.args.a + 1) (part c.args.at by.width c.args.nodes.now) in
+    let all : all_agree by.rule ys ≡ true = none-agree by ys (ap (brought_first by) (sym c.in-None.is) ∙ c.look_in-first.ensures.first by.tally) in
+    absurd (both_ways (all_agree by.rule ys) (sym (c.look_in-first.ensures.agreed by.tally) ∙ c.if-agreed.false) all)
 
 pub returns-in-Some : goal.returns-in-Some
 returns-in-Some g c =
-    let r = c.args.round.now in
-    let R = g.R.Rule.sense c.args.rule.now in
-    let T = g.T.Tally.sense c.args.tally.now in
+    let by = lent_setting c.args.by.now (g.R.Rule.sense c.args.by.now.rule.now) (g.T.Tally.sense c.args.by.now.tally.now) in
     let back : c.args.a + 1 - 1 ≡ c.args.a = omega arith in
-    let n = next-parted r R T c.args.at c.args.w c.args.a c.args.count c.args.nodes.now (said r R T c.args.at c.args.w c.args.a c.args.nodes.now (c.look_in-first.ensures.agreed T) c.if-agreed.false) c.if-count-w.false in
-    record { answer = n.0; records = c.part_node.ensures ∙ ap (λ (a : ℕ). parted_one r R T c.args.at c.args.w a c.args.count c.args.nodes.now) back ∙ n.1 }
+    let n = next-parted by c.args.at c.args.a c.args.count c.args.nodes.now (said by c.args.at c.args.a c.args.nodes.now (c.look_in-first.ensures.agreed by.tally) c.if-agreed.false) c.if-count-by.false in
+    record { answer = n.0; records = c.part_node.ensures ∙ ap (λ (a : ℕ). parted_one by c.args.at a c.args.count c.args.nodes.now) back ∙ n.1 }

@@ -1,6 +1,9 @@
-use Rattle.std.proofs.Common.{◌≡◌, ℕ, suc, ◌-◌, ◌++◌, take, drop, ap, ◌∙◌, arith}
+use Rattle.std.proofs.Common.{◌≡◌, ℕ, suc, ◌-◌, ◌++◌, length, take, drop, ap, ◌∙◌, ap₂, arith}
+use Rattle.std.proofs.lemmas.List.{length-drop, take_all}
 use Rattle.layers.specs.Labels.{first_arrival}
+use Rattle.layers.specs.Settings.{lent_setting}
 use Rattle.labels.specs.Passes.{part, arrivals, blank_node}
+use Rattle.labels.proofs.Rests.{rest_put}
 use Rattle.split.specs.Parted.{parted_second}
 use Rattle.split.specs.Steps.{kept_first, parted_one}
 use Rattle.split.proofs.parting.part_node.Goals as goal
@@ -8,14 +11,16 @@ use Rattle.split.proofs.parting.part_node.Goals as goal
 pub returns : goal.returns
 unfolding parted_one
 returns g c =
-    let r = c.args.round.now in
-    let R = g.R.Rule.sense c.args.rule.now in
-    let T = g.T.Tally.sense c.args.tally.now in
+    let with' = c.args.test.now.by.now in
+    let by = lent_setting with' (g.R.Rule.sense with'.rule.now) (g.T.Tally.sense with'.tally.now) in
     let xs = c.args.nodes.now in
     let at = c.args.at in
-    let w = c.args.w in
-    let z = blank_node r R T in
-    let back : c.args.a ≡ suc (c.args.a - 1) = omega (arith, c.requires.one_le_a) in
-    c.part_by_first.ensures z
-    ∙ ap (λ o. take at xs ++ parted_second (kept_first r R T o) w (c.args.a - 1) c.args.count (drop at xs) z)
-    (c.requires.is_first ∙ ap (λ (t : ℕ). first_arrival r R T (arrivals r R T t (part at w xs))) back)
+    let a = c.args.a - 1 in
+    let m = c.args.count in
+    let z = blank_node by.rule by.tally in
+    let back : c.args.a ≡ suc a = omega (arith, c.requires.one_le_a) in
+    rest_put at xs c.divide.new.nodes
+    ∙ ap (λ ys. take at xs ++ ys) (c.divide.ensures z
+    ∙ ap₂ (λ o ys. parted_second (kept_first by o) by.width a m ys z)
+    (c.requires.is_first ∙ ap (λ (t : ℕ). first_arrival (arrivals by t (part at by.width xs))) back)
+    (take_all (length xs - at) (drop at xs) (omega (arith, length-drop at xs))))
