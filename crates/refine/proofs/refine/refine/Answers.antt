@@ -15,7 +15,7 @@ pub returns : goal.returns
 unfolding refine_steps
 returns g c =
     let by = lent_setting c.args.by.now (g.R.Rule.sense c.args.by.now.rule.now) (g.T.Tally.sense c.args.by.now.tally.now) in
-    let self = g.met.R.Rule.reflexive c.args.rule.now in
+    let self = g.met.R.Rule.reflexive c.args.by.now.rule.now in
     let xs = c.args.nodes.now in
     let ys = c.sweep_out.new.nodes in
     let yes : fits by.round.n by.width (length xs) ≡ true = sym c.if-not-has_room.ensures in
