@@ -1,2 +1,3 @@
 mod Arcs_laid
 mod Opened
+mod Runs

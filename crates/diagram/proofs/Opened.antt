@@ -16,32 +16,33 @@ use Rattle.labels.proofs.Laying.{Arranged, relabelled-lawful}
 use Rattle.diagram.specs.Opening.{every_door, arcs_opened, arced}
 use Rattle.layers.specs.Shape.{IsShaped, IsTimely}
 use Rattle.diagram.proofs.Arcs_laid.{arced-long, after-all, arranged}
+use Rattle.layers.specs.Settings.{Setting}
 
-module _ {S V : Type 0} (r : Round) (R : RuleSense S) (T : TallySense V) (W : ℕ) (a : 1 ≤ W) (b : W ≤ 128) (xs : List (Node S V)) (h : r.n * W + 1 ≤ length xs) where
+module _ {S V : Type 0} (by : Setting S V) (a : 1 ≤ by.width) (b : by.width ≤ 128) (xs : List (Node S V)) (h : by.round.n * by.width + 1 ≤ length xs) where
   abbrev ys : List (Node S V)
-  ys = arced (arcs_opened (every_door r.n) r.n W) (r.n * W + 1) xs
+  ys = arced (arcs_opened (every_door by.round.n) by.round.n by.width) (by.round.n * by.width + 1) xs
 
-  in-layers : Arranged W (opening_arcs r R T) ys
+  in-layers : Arranged by.width (opening_arcs by.round.n) ys
   unfolding opening_arcs
   in-layers =
-      let f = arcs_opened (every_door r.n) r.n W in
-      arranged r.n W a 0 r.n f xs (zero-add r.n) (λ k. let z : k ≡ 0 * W + k = omega (arith, zero-mul W) in ap f z) h
+      let f = arcs_opened (every_door by.round.n) by.round.n by.width in
+      arranged by.round.n by.width a 0 by.round.n f xs (zero-add by.round.n) (λ k. let z : k ≡ 0 * by.width + k = omega (arith, zero-mul by.width) in ap f z) h
 
-  pub laid-opened : relabelled r R T W ys ≡ after_open r R T W xs
+  pub laid-opened : relabelled by ys ≡ after_open by xs
   unfolding after_open records_with
   laid-opened =
-      let m = r.n * W + 1 in
-      relabelled-lawful r R T W (opening_arcs r R T) ys (lawful r.n W (opening_arcs r R T) (proper-opened r R T W a)) in-layers
-      ∙ ap (λ zs. labelled_records r R T W (opening_arcs r R T) ++ zs) (after-all (arcs_opened (every_door r.n) r.n W) m xs)
+      let m = by.round.n * by.width + 1 in
+      relabelled-lawful by (opening_arcs by.round.n) ys (lawful by.round.n by.width (opening_arcs by.round.n) (proper-opened by a)) in-layers
+      ∙ ap (λ zs. labelled_records by (opening_arcs by.round.n) ++ zs) (after-all (arcs_opened (every_door by.round.n) by.round.n by.width) m xs)
 
-  pub room : fits r.n W (length ys) ≡ true
-  room = let l = arced-long (arcs_opened (every_door r.n) r.n W) (r.n * W + 1) xs in and_from _ _ (le-leb 1 W a) (and_from _ _ (le-leb W 128 b) (le-leb (r.n * W + 1) (length ys) (omega (arith, l))))
+  pub room : fits by.round.n by.width (length ys) ≡ true
+  room = let l = arced-long (arcs_opened (every_door by.round.n) by.round.n by.width) (by.round.n * by.width + 1) xs in and_from _ _ (le-leb 1 by.width a) (and_from _ _ (le-leb by.width 128 b) (le-leb (by.round.n * by.width + 1) (length ys) (omega (arith, l))))
 
   -- ---- what arcs alone decide
-  pub opened-shaped : IsShaped r.n W (after_open r R T W xs)
+  pub opened-shaped : IsShaped by.round.n by.width (after_open by xs)
   unfolding after_open
-  opened-shaped = relaid-shaped r R T W a xs (opening_arcs r R T) (proper-opened r R T W a)
+  opened-shaped = relaid-shaped by a xs (opening_arcs by.round.n) (proper-opened by a)
 
-  pub opened-timely : IsTimely r.n W (after_open r R T W xs)
+  pub opened-timely : IsTimely by.round.n by.width (after_open by xs)
   unfolding after_open
-  opened-timely = relaid-timely r R T W xs (opening_arcs r R T) (proper-opened r R T W a).deep
+  opened-timely = relaid-timely by xs (opening_arcs by.round.n) (proper-opened by a).deep

@@ -1,5 +1,5 @@
 -- How a diagram's arcs are laid when it is opened, place by place.
-use Rattle.std.specs.Prelude.{ℕ, zero, suc, ◌*◌, ◌%◌, cond, ◌&&◌, List, [], ◌∷◌, ◌==◌, nat_lt}
+use Rattle.std.specs.Prelude.{ℕ, zero, suc, ◌*◌, ◌%◌, if◌then◌else◌, ◌&&◌, List, [], ◌∷◌, ◌==◌, nat_lt}
 use Rattle.layers.specs.declared.node.Arcs.{Arcs}
 use Rattle.layers.specs.declared.node.Node.{Node}
 use Rattle.layers.specs.Flow.{table}
@@ -14,7 +14,7 @@ no_door = record { to = padded_targets [] }
 
 -- the arcs of place k, with n layers of arcs: the first node of each has them all, and no other place has any
 unfoldable pub arcs_opened : Arcs → ℕ → ℕ → ℕ → Arcs
-arcs_opened all n W k = cond (nat_lt k (n * W) && k % W == 0) all no_door
+arcs_opened all n W k = if nat_lt k (n * W) && k % W == 0 then all else no_door
 
 module _ {S V : Type 0} where
   -- a record with other arcs

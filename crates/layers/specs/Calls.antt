@@ -271,6 +271,13 @@ module _ {S V : Type 0} (by : Setting S V) where
   unfolding refinement_from after_sweeps count_arcs
   refinement xs = let p = refinement_from (by.round.n - 1) 1 xs in (p.0, after_sweeps (suc (count_arcs (arcs by.round.n by.width p.1))) p.1)
 
+  -- each of the two
+  abbrev pub refine_answer : Recs → Refined
+  refine_answer xs = (refinement xs).0
+
+  abbrev pub after_refine : Recs → Recs
+  after_refine xs = (refinement xs).1
+
   -- ---- a list of calls
   -- what a call leaves of the records
   unfoldable pub after_call : Call V → Recs → Recs
@@ -279,7 +286,7 @@ module _ {S V : Type 0} (by : Setting S V) where
   after_call (Part i a) xs = after_part i a xs
   after_call (Join i a b) xs = after_join i a b xs
   after_call (Cut c) xs = after_cut c xs
-  after_call Refine xs = (refinement xs).1
+  after_call Refine xs = after_refine xs
 
   -- what it answers
   unfoldable pub answer_of : Call V → Recs → calls.Answer
@@ -288,7 +295,7 @@ module _ {S V : Type 0} (by : Setting S V) where
   answer_of (Part i a) xs = answer.Done (part_answer i a xs)
   answer_of (Join i a b) xs = answer.Done (join_answer i a b xs)
   answer_of (Cut c) xs = answer.Removed (cut_answer c xs)
-  answer_of Refine xs = answer.Refined (refinement xs).0
+  answer_of Refine xs = answer.Refined (refine_answer xs)
 
   -- call after call
   abbrev pub after_calls : List (Call V) → Recs → Recs

@@ -1,8 +1,9 @@
 //! What no clause can say: that a refusal shows itself, and that calls end as they should.
-use crate::call::Call;
-use crate::{Setting, opened_or_left, worked_on};
+use crate::{opened_or_left, worked_on};
 use labels::blank::blank_node;
+use layers::call::Call;
 use layers::refusal::Refusal;
+use layers::setting::Setting;
 use round::table::Round;
 use rules::both::Both;
 use std::test::Fail;

@@ -2,6 +2,7 @@
 ghost use Rattle.std.specs.Prelude.{◌≡◌, ◌+◌, ◌*◌, ◌<◌, ◌≤◌, length, IfOk};
 ghost use Rattle.tallies.specs.Tallies.{TallySense};
 ghost use Rattle.layers.specs.Calls.{bound, must_answer, is_settled};
+ghost use Rattle.diagram.specs.Words.{round_of, width_of, records_of, setting_of};
 ghost use Rattle.layers.specs.Claim.{MustMeans};
 
 use super::Diagram;
@@ -28,9 +29,16 @@ fn end_value<S: Copy, V: Copy>(nodes: &[Node<S, V>], n: usize, width: usize) -> 
 }
 
 impl<'a, 'n, S: Copy, V: Copy> Diagram<'a, 'n, S, V> {
+    /// The records of the lent list as they stand, those after the end among them.
+    pub fn nodes(&self) -> &[Node<S, V>]
+        ensures { result.now ≡ records_of self.now }
+    {
+        &*self.nodes
+    }
+
     /// What no wanted order undercuts; none if no order is left.
     pub fn bound(&self) -> Option<V>
-        ensures { result ≡ bound self.now.room.round.now.n self.now.room.width self.now.nodes.now }
+        ensures { result ≡ bound (round_of self.now).n (width_of self.now) (records_of self.now) }
     {
         let Room { round, width } = self.room;
         end_value(self.nodes, round.n, width)
@@ -38,10 +46,10 @@ impl<'a, 'n, S: Copy, V: Copy> Diagram<'a, 'n, S, V> {
 
     /// Yes if no path has door j at an earlier place than door i, and so if i is ahead of j in every wanted order.
     pub fn must(&self, i: usize, j: usize) -> Result<bool, Refusal>
-        ensures answer { result ≡ must_answer self.now.room.round.now.n self.now.room.width i j
-            self.now.nodes.now }
-        ensures paths { IfOk result
-            (λ b. MustMeans self.now.room.round.now.n self.now.room.width i j self.now.nodes.now b) }
+        ensures answer { let n = (round_of self.now).n in
+            result ≡ must_answer n (width_of self.now) i j (records_of self.now) }
+        ensures paths { let n = (round_of self.now).n in
+            IfOk result (MustMeans n (width_of self.now) i j (records_of self.now)) }
     {
         let Room { round, width } = self.room;
         let n = round.n;
@@ -54,12 +62,11 @@ impl<'a, 'n, S: Copy, V: Copy> Diagram<'a, 'n, S, V> {
         Ok(must(self.nodes, round.n, width, i, j))
     }
 
-    /// Yes if the in-arcs of each node agree and a sweep would take out nothing: then every path is an allowed order. A tally has
-    /// no say in it.
+    /// Yes if the in-arcs of each node agree and a sweep would take out nothing: then every path is an allowed order. Whatever
+    /// tally counts, it has no say in it.
     pub fn settled<R: Rule<State = S>>(&self, rule: &R) -> bool
-        ensures { (t : TallySense V)
-            → result ≡ is_settled self.now.room.round.now (R.Rule.sense rule.now) t self.now.room.width
-            self.now.nodes.now }
+        ensures { (t : TallySense V) → let by = setting_of self.now (R.sense rule.now) t in
+            result ≡ is_settled by (records_of self.now) }
     {
         let Room { round, width } = self.room;
         settled(round, rule, self.nodes, width)
