@@ -4,12 +4,13 @@ use Rattle.std.proofs.lemmas.Bool.{cases_Bool}
 use Rattle.round.specs.declared.table.Round.{Round}
 use Rattle.tallies.specs.Late.{lex}
 use Rattle.orders.specs.Allowed.{Allowed}
-use Rattle.layers.specs.Calls.{Refine, bound, must, is_settled}
+use Rattle.layers.specs.declared.call.Call.TheVariants.{Refine}
+use Rattle.layers.specs.Calls.{bound, must, is_settled}
 use Rattle.layers.specs.Claim.{ClaimHolds, Wanted}
 use Rattle.allowed.specs.Orders.{AllowedOrder, KeepsRules, NotAbove, late_cost}
 use Rattle.allowed.specs.Senses.{side_of, late_of}
 use Rattle.round_sheet.specs.Claims.{NoneUndercuts, MustsHold, BoundIsReached, NoMustMissing}
-use Rattle.round_sheet.specs.Sheets.{Records, musts_of}
+use Rattle.round_sheet.specs.Sheets.{Records, setting_for, musts_of}
 use Rattle.round_sheet.proofs.SheetSets.{must_parts, must_from, must-yes, yes-must}
 
 -- the order on costs, as a test and in words
@@ -18,12 +19,12 @@ lex-not_above a b e = grind arith
 
 -- what is claimed of the records xs once the diagram is refined
 abbrev pub Claimed : Round → Records → Type 0
-Claimed r xs = ClaimHolds r (side_of r) (KeepsRules r) (late_of r) 16 (Refine ∷ []) xs
+Claimed r xs = ClaimHolds (setting_for r) (KeepsRules r) (Refine ∷ []) xs
 
 allowed-order : (r : Round) (w : List ℕ) → Allowed r (KeepsRules r) w → AllowedOrder r w
 allowed-order r w a = record { full = record { part = a.part; whole = a.whole }; ordered = a.keeps.0; within = a.keeps.1; timely = a.timely }
 
-order-wanted : (r : Round) (w : List ℕ) → AllowedOrder r w → Wanted r (side_of r) (KeepsRules r) (late_of r) 16 (Refine ∷ []) w
+order-wanted : (r : Round) (w : List ℕ) → AllowedOrder r w → Wanted (setting_for r) (KeepsRules r) (Refine ∷ []) w
 order-wanted r w a = (record { part = a.full.part; whole = a.full.whole; keeps = (a.ordered, a.within); timely = a.timely }, tt)
 
 module _ (r : Round) (xs : Records) (sure : Claimed r xs) where
@@ -39,16 +40,16 @@ module _ (r : Round) (xs : Records) (sure : Claimed r xs) where
       let p = must_parts r xs i j (must-yes r xs i j h) in
       sure.nothing_lost.must_yes i j p.0 p.1 p.2 p.3 w (order-wanted r w a)
 
-  reached_of : is_settled r (side_of r) (late_of r) 16 xs ≡ true → (o : Option (ℕ × ℕ)) → bound r.n 16 xs ≡ o → BoundIsReached r o
+  reached_of : is_settled (setting_for r) xs ≡ true → (o : Option (ℕ × ℕ)) → bound r.n 16 xs ≡ o → BoundIsReached r o
   reached_of s None e = λ w a. sure.nothing_lost.low_none e w (order-wanted r w a)
   reached_of s (Some v) e =
       let p = (sure.nothing_false s).least v e in
       (p.0, allowed-order r p.0 ((sure.nothing_false s).allowed p.0 p.1), p.2)
 
-  pub bound_reached : is_settled r (side_of r) (late_of r) 16 xs ≡ true → BoundIsReached r (bound r.n 16 xs)
+  pub bound_reached : is_settled (setting_for r) xs ≡ true → BoundIsReached r (bound r.n 16 xs)
   bound_reached s = reached_of s (bound r.n 16 xs) refl
 
-  pub none_missing : is_settled r (side_of r) (late_of r) 16 xs ≡ true → NoMustMissing r (musts_of r xs)
+  pub none_missing : is_settled (setting_for r) xs ≡ true → NoMustMissing r (musts_of r xs)
   none_missing s i j a b d none =
       let no : must r.n 16 i j xs ≡ false =
       ⊎_elim (λ t. absurd (none (yes-must r xs i j (omega (arith, a.high, r.most)) b.low (omega (arith, b.high, r.most)) (must_from r xs i j a b d t)))) (λ f. f) (cases_Bool (must r.n 16 i j xs)) in

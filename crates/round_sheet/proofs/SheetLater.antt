@@ -13,11 +13,12 @@ use Rattle.allowed.specs.Orders.{KeepsRules}
 use Rattle.allowed.specs.Senses.{side_of, late_of}
 use Rattle.layers.specs.declared.node.Node.{Node}
 use Rattle.layers.specs.Records.{layers, arcs_of_layers}
-use Rattle.layers.specs.Calls.{Refine, after_call, records_with, arcs}
+use Rattle.layers.specs.declared.call.Call.TheVariants.{Refine}
+use Rattle.layers.specs.Calls.{after_call, records_with, arcs}
 use Rattle.layers.specs.Claim.{LabelsStand}
 use Rattle.layers.proofs.Bridge.{later-stays}
 use Rattle.layers.proofs.Main.{worked-out}
-use Rattle.round_sheet.specs.Sheets.{Records, places_of, refined_for}
+use Rattle.round_sheet.specs.Sheets.{Records, setting_for, places_of, refined_for}
 
 -- the layers that have arcs are n
 deep : {S V : Type 0} (n W k : ℕ) (xs : List (Node S V)) → length (arcs_of_layers n (layers W k xs)) ≡ k
@@ -40,4 +41,4 @@ unfolding after_call records_with
 later_kept r lent =
     let xs = (refined_for r lent).1 in
     ap (drop (places_of r)) (worked r r refl 16 (omega arith) (omega arith) lent (Refine ∷ []))
-    ∙ later-stays r (side_of r) (late_of r) 16 (omega arith) (drop (places_of r) lent) (arcs r.n 16 xs) (deep r.n 16 r.n xs)
+    ∙ later-stays (setting_for r) (omega arith) (drop (places_of r) lent) (arcs r.n 16 xs) (deep r.n 16 r.n xs)

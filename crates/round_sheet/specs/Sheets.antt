@@ -7,6 +7,7 @@ use Rattle.round.specs.declared.table.Round.{Round}
 use Rattle.rules.specs.declared.load.Interval.{Interval}
 use Rattle.layers.specs.declared.node.Node.{Node}
 use Rattle.layers.specs.declared.refined.Refined.{Refined}
+use Rattle.layers.specs.Settings.{Setting, setting}
 use Rattle.layers.specs.Calls.{after_open, refinement, bound, must_answer, is_settled}
 use Rattle.round_sheet.specs.declared.sheet.Sheet.{Sheet}
 
@@ -19,13 +20,17 @@ Records = List (Node (ℕ × Interval) (ℕ × ℕ))
 abbrev pub places_of : Round → ℕ
 places_of r = r.n * 16 + 1
 
+-- what its calls go by: pairs and load together, late doors, and width 16
+abbrev pub setting_for : Round → Setting (ℕ × Interval) (ℕ × ℕ)
+setting_for r = setting r (side_of r) (late_of r) 16
+
 -- the round's diagram as it is opened on a lent list
 abbrev pub opened_for : Round → Records → Records
-opened_for r xs = after_open r (side_of r) (late_of r) 16 xs
+opened_for r xs = after_open (setting_for r) xs
 
 -- what refine answers there, and the records that it leaves
 abbrev pub refined_for : Round → Records → Refined × Records
-refined_for r xs = refinement r (side_of r) (late_of r) 16 (opened_for r xs)
+refined_for r xs = refinement (setting_for r) (opened_for r xs)
 
 -- whether door i has to come ahead of door j, in the diagram in these records; no for numbers that must refuses
 abbrev pub must_of : Round → Records → ℕ → ℕ → Bool
@@ -52,7 +57,7 @@ sheet_of r xs =
     let p = refined_for r xs in
     record {
       bound = bound r.n 16 p.1;
-      refinement = p.0;
-      is_settled = is_settled r (side_of r) (late_of r) 16 p.1;
+      refined = p.0;
+      settled = is_settled (setting_for r) p.1;
       musts = musts_of r p.1;
     }

@@ -1,6 +1,6 @@
 use Rattle.std.proofs.Common.{rules, ◌≡◌, [], ◌∷◌, drop, sym, ap, subst, ◌∙◌}
 use Rattle.allowed.specs.Senses.{late_of}
-use Rattle.layers.specs.Calls.{Refine}
+use Rattle.layers.specs.declared.call.Call.TheVariants.{Refine}
 use Rattle.diagram.specs.declared.room.Room.{Room}
 use Rattle.refine.specs.Answers.{IsInnerIfFull}
 use Rattle.round_sheet.specs.declared.sheet.Sheet.{Sheet}
@@ -26,25 +26,28 @@ returns c =
     let open' = c.open-diagram in
     let opened = open'.result.nodes.now in
     let eo = open'.ensures.records in
-    let serves : (a.now.n ≡ r.n) × (b.now.n ≡ r.n) = (ap (λ x. x.now.n) ea, ap (λ x. x.now.n) eb) in
-    let sure = claimed m a b t ea eb et ew lent opened eo (open'.ensures.claim serves (ap (λ x. x.now.n) et) (Refine ∷ [])) in
-    let done = is_refined m a b t ea eb et ew lent opened eo open'.result.room open'.ensures.room in
+    let o = open'.result.room in
+    let same = open'.ensures.room in
+    let back : r.n ≡ o.round.now.n = ap (λ (x : Room). x.round.now.n) (sym same) in
+    let serves : (a.now.n ≡ o.round.now.n) × (b.now.n ≡ o.round.now.n) = (ap (λ x. x.now.n) ea ∙ back, ap (λ x. x.now.n) eb ∙ back) in
+    let sure = claimed m a b t ea eb et ew lent opened o same eo (open'.ensures.claim serves (ap (λ x. x.now.n) et ∙ back) (Refine ∷ [])) in
+    let done = is_refined m a b t ea eb et ew lent opened o same eo in
     let k = c.refine-refined.new.self in
     let room = c.refine-refined.ensures.room ∙ open'.ensures.room in
     let nodes : k.nodes.now ≡ (refined_for r lent).1 = c.refine-refined.ensures.records ∙ ap (λ p. p.1) done in
     let s : Sheet = record { bound = c.bound.result; refined = c.refine-refined.result; settled = c.settled.result; musts = c.musts_of.result } in
     let sheet : s ≡ sheet_of r lent =
-    is_sheet m a b t ea eb et ew lent opened eo k.room k.nodes.now s room nodes c.bound.ensures (c.refine-refined.ensures.answer ∙ ap (λ p. p.0) done) (c.settled.ensures (late_of r)) c.musts_of.ensures in
-    let back = sym sheet in
-    let whole = settles m a b t ea eb et ew lent opened eo (open'.ensures.whole serves []) in
+    is_sheet m a b t ea eb et ew lent opened o same eo k.room k.nodes.now s room nodes c.bound.ensures (c.refine-refined.ensures.answer ∙ ap (λ p. p.0) done) (c.settled.ensures (late_of r)) c.musts_of.ensures in
+    let to = sym sheet in
+    let whole = settles m a b t ea eb et ew lent opened o same eo (open'.ensures.whole serves []) in
     record {
       records = search (rules, nodes);
       later = search (rules, ap (drop (places_of r)) nodes ∙ later_kept r lent);
       sheet = sheet;
       layer = subst (λ (x : Room). IsInnerIfFull x.round.now.n c.refine-refined.result) open'.ensures.room c.refine-refined.ensures.within;
-      none_undercuts = subst (λ (s : Sheet). NoneUndercuts r s.bound) back (none_undercuts r (refined_for r lent).1 sure);
-      musts_hold = subst (λ (s : Sheet). MustsHold r s.musts) back (musts_hold r (refined_for r lent).1 sure);
+      none_undercuts = subst (λ (s : Sheet). NoneUndercuts r s.bound) to (none_undercuts r (refined_for r lent).1 sure);
+      musts_hold = subst (λ (s : Sheet). MustsHold r s.musts) to (musts_hold r (refined_for r lent).1 sure);
       whole_settles = λ e. ap (λ s. s.settled) sheet ∙ whole (sym (ap (λ s. s.refined) sheet) ∙ e);
-      bound_reached = λ e. subst (λ (s : Sheet). BoundIsReached r s.bound) back (bound_reached r (refined_for r lent).1 sure (sym (ap (λ s. s.settled) sheet) ∙ e));
-      none_missing = λ e. subst (λ (s : Sheet). NoMustMissing r s.musts) back (none_missing r (refined_for r lent).1 sure (sym (ap (λ s. s.settled) sheet) ∙ e));
+      bound_reached = λ e. subst (λ (s : Sheet). BoundIsReached r s.bound) to (bound_reached r (refined_for r lent).1 sure (sym (ap (λ s. s.settled) sheet) ∙ e));
+      none_missing = λ e. subst (λ (s : Sheet). NoMustMissing r s.musts) to (none_missing r (refined_for r lent).1 sure (sym (ap (λ s. s.settled) sheet) ∙ e));
     }
