@@ -64,7 +64,8 @@ fn all_timely<S: Copy, V: Copy>(nodes: &[Node<S, V>], end: usize) -> bool
 
 fn may_cut<S: Copy, V: Copy>(round: &Round, nodes: &[Node<S, V>], width: usize) -> bool
     ensures { result ≡
-        (fits round.now.n width (length nodes.now) && timely (take (round.now.n * width) nodes.now)) }
+        (fits round.now.n width (length nodes.now)
+        && timely (take (round.now.n * width) nodes.now)) }
 {
     has_room(round, width, nodes.len()) && all_timely(nodes, round.n * width)
 }
@@ -76,7 +77,8 @@ pub fn cut<R: Rule, T: Tally>(
     nodes: &mut [Node<R::State, T::Value>],
     ceiling: T::Value,
 ) -> usize
-    ensures steps { let by = lent_setting by.now (R.sense by.now.rule.now) (T.sense by.now.tally.now) in
+    ensures steps { let by = lent_setting by.now (R.sense by.now.rule.now)
+        (T.sense by.now.tally.now) in
         nodes.new ≡ (if fits by.round.n by.width (length nodes.old)
         && timely (take (by.round.n * by.width) nodes.old)
         then cut_steps by ceiling nodes.old else nodes.old) }
@@ -84,7 +86,8 @@ pub fn cut<R: Rule, T: Tally>(
         result ≡ (if fits n by.now.width (length nodes.old)
         && timely (take (n * by.now.width) nodes.old)
         then arc_count n by.now.width nodes.old - arc_count n by.now.width nodes.new else 0) }
-    ensures words { let by = lent_setting by.now (R.sense by.now.rule.now) (T.sense by.now.tally.now) in
+    ensures words { let by = lent_setting by.now (R.sense by.now.rule.now)
+        (T.sense by.now.tally.now) in
         CutDone by ceiling nodes.old nodes.new result }
 {
     if !may_cut(by.round, nodes, by.width) {

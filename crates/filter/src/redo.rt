@@ -37,7 +37,8 @@ pub(crate) fn filter<R: Rule, T: Tally, F: Test<State = R::State, Value = T::Val
     requires room { fits by.now.round.now.n by.now.width (length nodes.old) ≡ true }
     requires fits { AllByRecursion (HasLabel (F.fits test.now))
         (take (by.now.round.now.n * by.now.width) nodes.old) }
-    ensures steps { let by = lent_setting by.now (R.sense by.now.rule.now) (T.sense by.now.tally.now) in
+    ensures steps { let by = lent_setting by.now (R.sense by.now.rule.now)
+        (T.sense by.now.tally.now) in
         nodes.new ≡ filter_steps by (F.goes test.now) nodes.old }
     ensures counted { result ≡ arc_count by.now.round.now.n by.now.width nodes.old -
         arc_count by.now.round.now.n by.now.width nodes.new }

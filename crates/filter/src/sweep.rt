@@ -76,13 +76,15 @@ pub fn sweep<R: Rule, T: Tally>(
     by: &Setting<'_, R, T>,
     nodes: &mut [Node<R::State, T::Value>],
 ) -> usize
-    ensures steps { let by = lent_setting by.now (R.sense by.now.rule.now) (T.sense by.now.tally.now) in
+    ensures steps { let by = lent_setting by.now (R.sense by.now.rule.now)
+        (T.sense by.now.tally.now) in
         nodes.new ≡ (if fits by.round.n by.width (length nodes.old) then sweep_steps by nodes.old
         else nodes.old) }
     ensures counted { let n = by.now.round.now.n in
         result ≡ (if fits n by.now.width (length nodes.old)
         then arc_count n by.now.width nodes.old - arc_count n by.now.width nodes.new else 0) }
-    ensures words { let by = lent_setting by.now (R.sense by.now.rule.now) (T.sense by.now.tally.now) in
+    ensures words { let by = lent_setting by.now (R.sense by.now.rule.now)
+        (T.sense by.now.tally.now) in
         SweepDone by nodes.old nodes.new result }
 {
     if !has_room(by.round, by.width, nodes.len()) {

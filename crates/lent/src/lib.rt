@@ -79,7 +79,8 @@ pub fn worked_on<R: Rule, T: Tally>(
 ) -> Result<(), Refusal>
     ensures answer { result ≡ open_answer by.now.round.now.n by.now.width (length records.old) }
     ensures left { IsErr result → records.new ≡ records.old }
-    ensures worked { let by = lent_setting by.now (R.sense by.now.rule.now) (T.sense by.now.tally.now) in
+    ensures worked { let by = lent_setting by.now (R.sense by.now.rule.now)
+        (T.sense by.now.tally.now) in
         IsOk result → records.new ≡ after_calls by calls.now (after_open by records.old) }
 {
     let room = Room::check(by.round, by.width, records.len())?;

@@ -24,9 +24,11 @@ fn refine_layer<R: Rule, T: Tally>(
     i: usize,
 ) -> bool
     requires { fits by.now.round.now.n by.now.width (length nodes.old) ≡ true }
-    ensures full { let by = lent_setting by.now (R.sense by.now.rule.now) (T.sense by.now.tally.now) in
+    ensures full { let by = lent_setting by.now (R.sense by.now.rule.now)
+        (T.sense by.now.tally.now) in
         result ≡ (one_layer by i nodes.old).0 }
-    ensures records { let by = lent_setting by.now (R.sense by.now.rule.now) (T.sense by.now.tally.now) in
+    ensures records { let by = lent_setting by.now (R.sense by.now.rule.now)
+        (T.sense by.now.tally.now) in
         nodes.new ≡ (one_layer by i nodes.old).1 }
 {
     sweep(by, nodes);
@@ -41,9 +43,11 @@ fn refine_layers<R: Rule, T: Tally>(
 ) -> Refined
     requires { fits by.now.round.now.n by.now.width (length nodes.old) ≡ true }
     ensures within { IsInnerIfFull by.now.round.now.n result }
-    ensures answer { let by = lent_setting by.now (R.sense by.now.rule.now) (T.sense by.now.tally.now) in
+    ensures answer { let by = lent_setting by.now (R.sense by.now.rule.now)
+        (T.sense by.now.tally.now) in
         result ≡ (some_layers by (by.round.n - 1) 1 nodes.old).0 }
-    ensures records { let by = lent_setting by.now (R.sense by.now.rule.now) (T.sense by.now.tally.now) in
+    ensures records { let by = lent_setting by.now (R.sense by.now.rule.now)
+        (T.sense by.now.tally.now) in
         nodes.new ≡ (some_layers by (by.round.n - 1) 1 nodes.old).1 }
 {
     for i in 1..by.round.n {
@@ -55,10 +59,7 @@ fn refine_layers<R: Rule, T: Tally>(
 }
 
 /// Sweeps until one takes out nothing: each but the last takes out an arc.
-fn sweep_out<R: Rule, T: Tally>(
-    by: &Setting<'_, R, T>,
-    nodes: &mut [Node<R::State, T::Value>],
-)
+fn sweep_out<R: Rule, T: Tally>(by: &Setting<'_, R, T>, nodes: &mut [Node<R::State, T::Value>])
     requires { fits by.now.round.now.n by.now.width (length nodes.old) ≡ true }
     ensures { let by = lent_setting by.now (R.sense by.now.rule.now) (T.sense by.now.tally.now) in
         nodes.new ≡ sweeps_out by (suc (arc_count by.round.n by.width nodes.old)) nodes.old }
@@ -78,14 +79,17 @@ pub fn refine<R: Rule, T: Tally>(
     by: &Setting<'_, R, T>,
     nodes: &mut [Node<R::State, T::Value>],
 ) -> Refined
-    ensures steps { let by = lent_setting by.now (R.sense by.now.rule.now) (T.sense by.now.tally.now) in
+    ensures steps { let by = lent_setting by.now (R.sense by.now.rule.now)
+        (T.sense by.now.tally.now) in
         nodes.new ≡ (if fits by.round.n by.width (length nodes.old)
         then (refine_steps by nodes.old).1 else nodes.old) }
     ensures within { IsInnerIfFull by.now.round.now.n result }
-    ensures answer { let by = lent_setting by.now (R.sense by.now.rule.now) (T.sense by.now.tally.now) in
+    ensures answer { let by = lent_setting by.now (R.sense by.now.rule.now)
+        (T.sense by.now.tally.now) in
         result ≡ (if fits by.round.n by.width (length nodes.old)
         then (refine_steps by nodes.old).0 else Refined.Whole) }
-    ensures words { let by = lent_setting by.now (R.sense by.now.rule.now) (T.sense by.now.tally.now) in
+    ensures words { let by = lent_setting by.now (R.sense by.now.rule.now)
+        (T.sense by.now.tally.now) in
         RefineDone by nodes.old nodes.new result }
 {
     if !has_room(by.round, by.width, nodes.len()) {
