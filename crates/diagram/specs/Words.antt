@@ -13,9 +13,11 @@ module _ {S V : Type 0} where
   abbrev pub room_of : Diagram S V → Room
   room_of d = d.room
 
+  -- the round alone
   abbrev pub round_of : Diagram S V → Round
   round_of d = d.room.round.now
 
+  -- the width alone
   abbrev pub width_of : Diagram S V → ℕ
   width_of d = d.room.width
 

@@ -194,10 +194,11 @@ module _ {S V : Type 0} (by : Setting S V) where
   abbrev pub is_full : ℕ → Recs → Bool
   is_full i xs = nat_le by.width (count_of i xs)
 
-  -- the labels of the layer before layer i, and its arcs
+  -- the labels of the layer before layer i
   abbrev pub downs_before : ℕ → Recs → List (Option (Down S V))
   downs_before i xs = downs_in (layer by.round.n by.width (i - 1) xs)
 
+  -- the arcs of that layer
   abbrev pub arcs_before : ℕ → Recs → Layer
   arcs_before i xs = arcs_in by.round.n (layer by.round.n by.width (i - 1) xs)
 
@@ -271,10 +272,11 @@ module _ {S V : Type 0} (by : Setting S V) where
   unfolding refinement_from after_sweeps count_arcs
   refinement xs = let p = refinement_from (by.round.n - 1) 1 xs in (p.0, after_sweeps (suc (count_arcs (arcs by.round.n by.width p.1))) p.1)
 
-  -- each of the two
+  -- whole, or the layer that is full
   abbrev pub refine_answer : Recs → Refined
   refine_answer xs = (refinement xs).0
 
+  -- the records that it leaves
   abbrev pub after_refine : Recs → Recs
   after_refine xs = (refinement xs).1
 

@@ -64,11 +64,13 @@ count_doors [] = 0
 count_doors (zero ∷ ts) = count_doors ts
 count_doors (suc b ∷ ts) = suc (count_doors ts)
 
+-- those of all its nodes
 unfoldable pub count_layer : Layer → ℕ
 unfolding count_doors
 count_layer [] = 0
 count_layer (nd ∷ L) = count_doors nd + count_layer L
 
+-- those of all its layers
 unfoldable pub count_arcs : Net → ℕ
 unfolding count_layer
 count_arcs [] = 0
@@ -80,6 +82,7 @@ every_door f j [] = true
 every_door f j (zero ∷ ts) = every_door f (suc j) ts
 every_door f j (suc b ∷ ts) = f j b && every_door f (suc j) ts
 
+-- so of each node from place a on
 unfoldable pub every_arc : (ℕ → ℕ → ℕ → Bool) → ℕ → Layer → Bool
 unfolding every_door
 every_arc f a [] = true
@@ -248,6 +251,7 @@ abbrev pub still_sought : List ℕ → ℕ → List ℕ
 still_sought [] j = []
 still_sought (g ∷ gs) j = if g == j then gs else g ∷ gs
 
+-- nothing is left to find
 abbrev pub is_nil : List ℕ → Bool
 is_nil [] = true
 is_nil (g ∷ gs) = false

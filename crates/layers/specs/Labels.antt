@@ -54,6 +54,7 @@ module _ {S V : Type 0} (rule : RuleSense S) (tally : TallySense V) where
   abbrev pub first_label : Down S V
   first_label = record { all = 0; some = 0; finish = 0; lasts = 1; state = rule.start; value = tally.start }
 
+  -- the labels of layer 0: that of the first node
   abbrev pub first_labels : List (Option (Down S V))
   first_labels = Some first_label ∷ []
 
@@ -98,10 +99,11 @@ unfoldable pub labels_next : {S V : Type 0} → Setting S V → List (Option (Do
 unfolding next arrival_over merge
 labels_next by = next (arrival_over by) (merge by.rule by.tally)
 
--- ---- open: each of n layers has one node, and each node an arc for every door
+-- ---- open: each of n layers has one node, and each node an arc for every door, to the one node of the next
 abbrev pub all_doors : ℕ → Outs
 all_doors n = table n (λ k. 1)
 
+-- so for each of n layers
 unfoldable pub opening_arcs : ℕ → Net
 opening_arcs n = table n (λ i. all_doors n ∷ [])
 

@@ -28,9 +28,11 @@ module _ {S V : Type 0} where
   abbrev pub arcs_in : ℕ → List (Node S V) → Layer
   arcs_in n = map (λ x. take n x.arcs.to)
 
+  -- the labels of the way to each node
   abbrev pub downs_in : List (Node S V) → List (Option (Down S V))
   downs_in = map (λ x. Some x.label.down)
 
+  -- and those of the way on from it
   abbrev pub ups_in : List (Node S V) → List (Option Up)
   ups_in = map (λ x. Some x.label.up)
 
