@@ -6,7 +6,7 @@ use Rattle.layers.proofs.Bridge.{table-ext}
 use Rattle.std.proofs.lemmas.Bool.{lt-ltb, le-ltb, eq-eqb, ne_eqb, and_from, and_left, and_right, cond-true, cond-false}
 use Rattle.layers.specs.declared.node.Arcs.{Arcs}
 use Rattle.layers.specs.declared.node.Node.{Node}
-use Rattle.layers.specs.Flow.{table, Outs}
+use Rattle.layers.specs.Net.{table, Outs}
 use Rattle.layers.specs.Records.{arcs_at}
 use Rattle.labels.proofs.Laying.{arcs_of, Arranged}
 use Rattle.diagram.specs.Opening.{every_door, arcs_opened, with_arcs, arced}

@@ -2,7 +2,7 @@
 use Rattle.std.proofs.Common.{◌≡◌, ℕ, zero, suc, ◌+◌, ◌*◌, ◌<◌, ◌≤◌, List, [], ◌∷◌, ◌++◌, map, length, get_or, take, drop, sym, refl, ap, ◌∙◌, ap₂, suc-mul, zero-mul, arith}
 use Rattle.std.proofs.lemmas.List.{length-map, get_or-map}
 use Rattle.layers.specs.declared.node.Node.{Node}
-use Rattle.layers.specs.Flow.{table, Outs, Layer, Net, node, count_doors, count_layer, count_arcs}
+use Rattle.layers.specs.Net.{table, Outs, Layer, Net, node, count_doors, count_layer, count_arcs}
 use Rattle.layers.specs.Records.{padded_targets, arcs_at}
 use Rattle.layers.specs.Targets.{targets}
 use Rattle.labels.proofs.Laying.{Arranged, Good, arcs_of, split}

@@ -3,7 +3,8 @@ use Rattle.std.proofs.Common.{◌≡◌, ℕ, zero, suc, ◌+◌, ◌-◌, ◌*�
 use Rattle.std.proofs.lemmas.List.{drop-drop}
 use Rattle.round.specs.declared.table.Round.{Round}
 use Rattle.layers.specs.declared.node.Node.{Node}
-use Rattle.layers.specs.Flow.{Net, node, target, count_arcs, tidied_arcs}
+use Rattle.layers.specs.Net.{Net, node, target, count_arcs}
+use Rattle.layers.specs.Tidy.{tidied_arcs}
 use Rattle.layers.specs.Records.{layers, arcs_of_layers, labelled_records}
 use Rattle.layers.specs.Settings.{Setting}
 use Rattle.layers.specs.declared.node.Down.{Down}

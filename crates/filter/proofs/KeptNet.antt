@@ -5,7 +5,7 @@ use Rattle.std.proofs.lemmas.List.{get_or-map, length-map, take_at, drop_at, dro
 use Rattle.layers.specs.declared.node.Down.{Down}
 use Rattle.layers.specs.declared.node.Node.{Node}
 use Rattle.layers.specs.declared.node.Up.{Up}
-use Rattle.layers.specs.Flow.{table, Layer, Net, node, target, width, redirect}
+use Rattle.layers.specs.Net.{table, Layer, Net, node, target, width, redirect}
 use Rattle.layers.specs.Records.{nodes_in, layers, arcs_in, downs_in, ups_in, arcs_of_layers, arcs_at}
 use Rattle.layers.specs.Calls.{kept_arcs, labels_in}
 use Rattle.layers.proofs.Shaped.{standing-at, standing-short, drawn-deep}

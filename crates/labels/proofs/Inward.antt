@@ -7,7 +7,8 @@ use Rattle.rules.specs.Rules.{RuleSense}
 use Rattle.tallies.specs.Tallies.{TallySense}
 use Rattle.layers.specs.declared.node.Node.{Node}
 use Rattle.layers.specs.declared.node.Down.{Down}
-use Rattle.layers.specs.Flow.{table, Outs, Layer, node, put, arrivals_by_door, arrivals_at, gather}
+use Rattle.layers.specs.Net.{table, Outs, Layer, node}
+use Rattle.layers.specs.Flow.{put, arrivals_by_door, arrivals_at, gather}
 use Rattle.layers.specs.Labels.{arrival_over, merge, no_up, blank_label}
 use Rattle.layers.specs.Records.{padded_targets, record_of_place}
 use Rattle.layers.proofs.Flows.{table_at}

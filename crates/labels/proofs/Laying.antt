@@ -11,7 +11,9 @@ use Rattle.layers.specs.declared.node.Arcs.{Arcs}
 use Rattle.layers.specs.declared.node.Node.{Node}
 use Rattle.layers.specs.declared.node.Down.{Down}
 use Rattle.layers.specs.declared.node.Up.{Up}
-use Rattle.layers.specs.Flow.{table, Outs, Layer, Net, node, target, width, arrivals_at, gather, next, cons_if_some, climbs_of, up, IsRanged, IsTied, IsRoomy, IsEven, IsLawful}
+use Rattle.layers.specs.Net.{table, Outs, Layer, Net, node, target, width}
+use Rattle.layers.specs.Flow.{arrivals_at, gather, next, cons_if_some, climbs_of, up}
+use Rattle.layers.specs.Lawful.{IsRanged, IsTied, IsRoomy, IsEven, IsLawful}
 use Rattle.layers.specs.Labels.{arrival_over, merge, first_label, first_labels, labels_next, climb, merge_up, no_up, ups, blank_label}
 use Rattle.layers.specs.Records.{arcs_read, laid_arcs, arcs_at, padded_targets, record_of_place, labelled_from, labelled_records}
 use Rattle.layers.proofs.Flows.{table_at, Among, ins-from}

@@ -4,7 +4,7 @@ use Rattle.std.specs.List.{range_with_len}
 use Rattle.std.proofs.lemmas.List.{get_or-map, get_or_default, length-map}
 use Rattle.layers.specs.declared.node.Arcs.{Arcs}
 use Rattle.layers.specs.declared.node.Node.{Node}
-use Rattle.layers.specs.Flow.{table, Outs, Layer, node, target, each_door, each_node, redirect}
+use Rattle.layers.specs.Net.{table, Outs, Layer, node, target, each_door, each_node, redirect}
 use Rattle.layers.specs.Records.{padded_targets, arcs_at}
 use Rattle.layers.proofs.Flows.{table_at, has-arc}
 use Rattle.layers.proofs.Bridge.{table-long}

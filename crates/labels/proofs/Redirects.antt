@@ -2,7 +2,7 @@
 use Rattle.std.proofs.Common.{◌≡◌, ℕ, zero, suc, ◌+◌, List, ◌∷◌, ◌++◌, map, get_or, drop, replicate, sym, refl, ap, ◌∙◌, add-one}
 use Rattle.std.specs.List.{range_with_len}
 use Rattle.layers.specs.declared.node.Node.{Node}
-use Rattle.layers.specs.Flow.{each_door}
+use Rattle.layers.specs.Net.{each_door}
 use Rattle.layers.specs.Targets.{targets, with_targets, redirected, at_door}
 
 each-cons : (f : ℕ → ℕ → ℕ) (j t : ℕ) (ts : List ℕ) → each_door f j (t ∷ ts) ≡ at_door f j t ∷ each_door f (suc j) ts

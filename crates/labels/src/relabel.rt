@@ -1,6 +1,7 @@
 //! All labels of a diagram's records.
 ghost use Rattle.std.specs.Prelude.{◌≡◌, ◌+◌, ◌*◌, ◌≤◌, true, length, take, if◌then◌else◌};
-ghost use Rattle.layers.specs.Flow.{Net, IsLawful};
+ghost use Rattle.layers.specs.Net.{Net};
+ghost use Rattle.layers.specs.Lawful.{IsLawful};
 ghost use Rattle.layers.specs.Records.{arcs_read, laid_arcs};
 ghost use Rattle.layers.specs.Settings.{lent_setting};
 ghost use Rattle.layers.specs.Calls.{records_with};

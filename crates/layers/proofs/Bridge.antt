@@ -5,7 +5,9 @@ use Rattle.std.proofs.lemmas.List.{drop_at}
 use Rattle.doors.specs.Sets.{has}
 use Rattle.layers.specs.declared.node.Node.{Node}
 use Rattle.layers.specs.declared.node.Up.{Up}
-use Rattle.layers.specs.Flow.{table, Outs, Layer, Net, node, target, width, each_door, each_node, redirect, every_door, every_arc, arrivals_at, gather, next, up, end_label, IsLed, IsTied, IsRoomy}
+use Rattle.layers.specs.Net.{table, Outs, Layer, Net, node, target, width, each_door, each_node, redirect, every_door, every_arc}
+use Rattle.layers.specs.Flow.{arrivals_at, gather, next, up, end_label}
+use Rattle.layers.specs.Lawful.{IsLed, IsTied, IsRoomy}
 use Rattle.layers.specs.Labels.{first_label, first_labels, arrival_over, merge, labels_next, no_up, ups, all_agree}
 use Rattle.layers.specs.Records.{is_used, nodes_in, layers, arcs_in, downs_in, ups_in, arcs_of_layers, padded_targets, record_of_place, labelled_from, labelled_records}
 use Rattle.layers.specs.Calls.{places_agree, in_arcs_agree, value_in, labels_in, LayerLabels, kept_arcs, keeps_all_arcs}
@@ -15,7 +17,7 @@ use Rattle.layers.proofs.Model.{kept, labels_from, one_group, agrees, valueO, or
 use Rattle.layers.proofs.Lively.{labels_full, ups-full}
 use Rattle.layers.specs.Settings.{Setting}
 use Rattle.layers.specs.declared.node.Down.{Down}
-pub use Rattle.layers.specs.Flow.{IsEven}
+pub use Rattle.layers.specs.Lawful.{IsEven}
 pub use Rattle.layers.proofs.Flows.{table-long}
 
 -- ---- tables

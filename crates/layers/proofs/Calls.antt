@@ -7,7 +7,9 @@ use Rattle.rules.specs.Rules.{RuleLaws}
 use Rattle.tallies.specs.Tallies.{TallyLaws}
 use Rattle.orders.specs.Allowed.{Allowed}
 use Rattle.orders.specs.Costs.{Trip, cost, rides, trip_after}
-use Rattle.layers.specs.Flow.{table, Net, node, target, width, PathFrom, clash, joined_arcs, end_label}
+use Rattle.layers.specs.Net.{table, Net, node, target, width, PathFrom}
+use Rattle.layers.specs.Flow.{end_label}
+use Rattle.layers.specs.Join.{clash, joined_arcs}
 use Rattle.layers.specs.Labels.{arrival_over, merge, first_labels, labels_next, is_above_ceiling, opening_arcs, all_doors, ups}
 use Rattle.layers.specs.declared.call.Call.{Call}
 use Rattle.layers.specs.Calls.{EachCut, kept_arcs}

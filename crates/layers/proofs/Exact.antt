@@ -15,7 +15,8 @@ use Rattle.orders.specs.Costs.{Trip, cost, rides, trip_after}
 use Rattle.orders.specs.Times.{finish_of, Timely}
 use Rattle.orders.specs.declared.van.Van.{Van}
 use Rattle.layers.specs.declared.node.Up.{Up}
-use Rattle.layers.specs.Flow.{Outs, Layer, Net, node, target, PathFrom, end_label, every_door, every_arc, arrivals_at, gather}
+use Rattle.layers.specs.Net.{Outs, Layer, Net, node, target, PathFrom, every_door, every_arc}
+use Rattle.layers.specs.Flow.{end_label, arrivals_at, gather}
 use Rattle.layers.specs.Labels.{bit_of, leg, ups, first_label, arrival_over, merge, first_labels, labels_next, is_barred, all_agree}
 use Rattle.layers.proofs.Flows.{Among, From, inside, ins-in, ins-from, next-some, next-within, next-at, gather-all}
 use Rattle.layers.proofs.Agreeing.{Agree, agree-merge, pairs}

@@ -2,7 +2,9 @@
 use Rattle.std.proofs.Common.{◌≡◌, ℕ, zero, suc, ◌+◌, ◌<◌, Bool, true, false, eqb, ◌⊎◌, List, [], ◌∷◌, ◌++◌, map, length, get_or, Some, None, fold, Option, refl, ap, ◌∙◌, inl, inr, le_of_suc-le-suc, not-suc-le-zero, arith}
 use Rattle.std.proofs.lemmas.Bool.{eqb-true, eq-eqb}
 use Rattle.std.proofs.lemmas.List.{get_or-map}
-use Rattle.layers.specs.Flow.{table, Outs, Layer, Net, node, target, width, PathFrom, each_door, each_node, redirect, put, arrivals_by_door, arrivals_at, gather, next, read, cons_if_some, climbs_of, up, Mark, marks_next, marks_up, flags, rank, compress, renumber, tidy, tidied_arcs}
+use Rattle.layers.specs.Net.{table, Outs, Layer, Net, node, target, width, PathFrom, each_door, each_node, redirect}
+use Rattle.layers.specs.Flow.{put, arrivals_by_door, arrivals_at, gather, next, read, cons_if_some, climbs_of, up}
+use Rattle.layers.specs.Tidy.{Mark, marks_next, marks_up, flags, rank, compress, renumber, tidy, tidied_arcs}
 use Rattle.layers.specs.Labels.{arrival_over}
 
 -- membership, in lists of any kind

@@ -1,13 +1,14 @@
 -- What sweep, part, join and cut keep, every list of calls keeps; and no call alters how many layers there are.
 use Rattle.std.proofs.Common.{◌≡◌, ℕ, zero, suc, ◌-◌, ◌<◌, ◌≤◌, min, max, Bool, true, false, List, [], ◌∷◌, length, get_or, Some, Option, refl, ap, arith}
 use Rattle.std.proofs.lemmas.Bool.Decides.{nat_tests}
-use Rattle.layers.specs.Flow.{Net, node, width, clash, joined_arcs, count_arcs}
+use Rattle.layers.specs.Net.{Net, node, width, count_arcs}
+use Rattle.layers.specs.Join.{clash, joined_arcs}
 use Rattle.layers.specs.Labels.{first_labels}
 use Rattle.layers.specs.declared.call.Call.{Call}
 use Rattle.layers.specs.declared.call.Call.TheVariants.{Sweep, Part, Join, Cut, Refine}
 use Rattle.layers.specs.Calls.{EachCut}
 use Rattle.layers.proofs.Model.{part_at, one_group, sweep, cut, bad_layer, part, join, swept, parted, refines, refine, unless, act, after}
-use Rattle.layers.specs.Flow.{Mark, marks_next, tidy, tidied_arcs}
+use Rattle.layers.specs.Tidy.{Mark, marks_next, tidy, tidied_arcs}
 use Rattle.layers.specs.Settings.{Setting}
 
 -- a test with two outcomes keeps what both keep

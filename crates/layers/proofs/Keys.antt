@@ -2,7 +2,10 @@
 use Rattle.std.proofs.Common.{◌≡◌, ℕ, zero, suc, ◌<◌, ◌≤◌, Bool, true, false, cond, ◌&&◌, eqb, List, [], ◌∷◌, ◌++◌, length, get_or, Some, None, Option, sym, refl, ap, ◌∙◌, inl, inr, arith}
 use Rattle.std.proofs.lemmas.Bool.{false≢true, eqb-true, eq-eqb, ne_eqb, and_parts}
 use Rattle.rules.specs.Rules.{RuleLaws}
-use Rattle.layers.specs.Flow.{Layer, Net, node, target, width, redirect, arrivals_at, Mark, marks_next, marks_up, flags, rank, compress, renumber, tidy, tidied_arcs, IsTied}
+use Rattle.layers.specs.Net.{Layer, Net, node, target, width, redirect}
+use Rattle.layers.specs.Flow.{arrivals_at}
+use Rattle.layers.specs.Tidy.{Mark, marks_next, marks_up, flags, rank, compress, renumber, tidy, tidied_arcs}
+use Rattle.layers.specs.Lawful.{IsTied}
 use Rattle.layers.specs.Labels.{ups, first_label, first_labels, arrival_over, merge, labels_next, is_barred, first_arrival, differs_from_first}
 use Rattle.layers.proofs.Flows.{Among, has-arc, ins-from, next-some, gather-all, compress-at}
 use Rattle.layers.proofs.Ways.{length-snoc}

@@ -2,7 +2,7 @@
 use Rattle.std.proofs.Common.{◌≡◌, ℕ, ◌+◌, ◌*◌, ◌≤◌, List, [], ◌∷◌, ◌++◌, length, take, Option, sym, refl, ap, ◌∙◌, ap₂, arith}
 use Rattle.std.proofs.lemmas.List.{map-append, take_at}
 use Rattle.layers.specs.declared.node.Node.{Node}
-use Rattle.layers.specs.Flow.{table, Net, width}
+use Rattle.layers.specs.Net.{table, Net, width}
 use Rattle.layers.specs.Labels.{first_labels, labels_next, ups}
 use Rattle.layers.specs.Records.{layers, arcs_of_layers, arcs_read, laid_arcs, record_of_place, labelled_from, labelled_records}
 use Rattle.layers.specs.Calls.{nodes, arcs}

@@ -1,7 +1,11 @@
 -- After every list of calls each node lies on a path, and no layer has more than W nodes.
 use Rattle.std.proofs.Common.{◌≡◌, ℕ, zero, suc, ◌<◌, ◌≤◌, Bool, true, false, List, [], ◌∷◌, length, get_or, set, Some, None, Option, ap, le_of_suc-le-suc, not-suc-le-zero, arith, length-set}
 use Rattle.layers.specs.declared.node.Up.{Up}
-use Rattle.layers.specs.Flow.{table, Layer, Net, node, width, PathFrom, redirect, up, Mark, marks_next, marks_up, flags, compress, renumber, tidy, tidied_arcs, place_after_join, both_out, joined_arcs, IsLed, IsTied, IsRoomy}
+use Rattle.layers.specs.Net.{table, Layer, Net, node, width, PathFrom, redirect}
+use Rattle.layers.specs.Flow.{up}
+use Rattle.layers.specs.Tidy.{Mark, marks_next, marks_up, flags, compress, renumber, tidy, tidied_arcs}
+use Rattle.layers.specs.Join.{place_after_join, both_out, joined_arcs}
+use Rattle.layers.specs.Lawful.{IsLed, IsTied, IsRoomy}
 use Rattle.layers.specs.Labels.{arrival_over, merge, labels_next, climb, merge_up, no_up, ups, all_doors}
 use Rattle.layers.proofs.Flows.{next-at, up_at, has-arc}
 use Rattle.layers.proofs.Tied.{redirect-length}

@@ -5,7 +5,7 @@ use Rattle.rules.specs.Rules.{RuleLaws, RuleSense}
 use Rattle.tallies.specs.Tallies.{TallyLaws, TallySense}
 use Rattle.orders.specs.Allowed.{Allowed}
 use Rattle.layers.specs.declared.node.Node.{Node}
-use Rattle.layers.specs.Flow.{Net, PathFrom, has_path_with}
+use Rattle.layers.specs.Net.{Net, PathFrom, has_path_with}
 use Rattle.layers.specs.Labels.{opening_arcs}
 use Rattle.layers.specs.Records.{labelled_records}
 use Rattle.layers.specs.declared.call.Call.{Call}

@@ -4,7 +4,9 @@ use Rattle.round.specs.Clock.{latest}
 use Rattle.rules.specs.Rules.{RuleLaws, RuleSense}
 use Rattle.tallies.specs.Tallies.{TallyLaws, TallySense}
 use Rattle.layers.specs.declared.node.Node.{Node}
-use Rattle.layers.specs.Flow.{Net, width, PathFrom, up, IsTied}
+use Rattle.layers.specs.Net.{Net, width, PathFrom}
+use Rattle.layers.specs.Flow.{up}
+use Rattle.layers.specs.Lawful.{IsTied}
 use Rattle.layers.specs.Labels.{first_labels, labels_next, no_up, ups, opening_arcs}
 use Rattle.layers.specs.Records.{nodes_in, padded_targets, record_of_place}
 use Rattle.layers.specs.Calls.{arcs, layer}

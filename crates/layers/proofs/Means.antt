@@ -8,7 +8,9 @@ use Rattle.doors.specs.Sets.{has}
 use Rattle.rules.specs.Rules.{RuleLaws}
 use Rattle.tallies.specs.Tallies.{TallyLaws}
 use Rattle.layers.specs.declared.node.Up.{Up}
-use Rattle.layers.specs.Flow.{Layer, Net, node, target, width, PathFrom, arrivals_at, gather, climbs_of, up, IsRanged, IsTied}
+use Rattle.layers.specs.Net.{Layer, Net, node, target, width, PathFrom}
+use Rattle.layers.specs.Flow.{arrivals_at, gather, climbs_of, up}
+use Rattle.layers.specs.Lawful.{IsRanged, IsTied}
 use Rattle.layers.specs.Labels.{bit_of, climb, merge_up, no_up, ups, first_label, arrival_over, merge, first_labels, labels_next}
 use Rattle.layers.specs.LabelLaws.{PathTo, LeadsTo, OnEvery, OnOne, Exactly}
 use Rattle.doors.proofs.Orders.{in_left}

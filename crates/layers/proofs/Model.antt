@@ -5,7 +5,10 @@ use Rattle.tallies.specs.Tallies.{TallySense}
 use Rattle.layers.specs.declared.refined.Refined.{Refined}
 use Rattle.layers.specs.declared.refined.Refined.TheVariants.{Whole, Full}
 use Rattle.layers.specs.declared.node.Up.{Up}
-use Rattle.layers.specs.Flow.{Net, node, width, count_arcs, arrivals_at, end_label, tidied_arcs, clash, joined_arcs, has_path_with}
+use Rattle.layers.specs.Net.{Net, node, width, count_arcs, has_path_with}
+use Rattle.layers.specs.Flow.{arrivals_at, end_label}
+use Rattle.layers.specs.Tidy.{tidied_arcs}
+use Rattle.layers.specs.Join.{clash, joined_arcs}
 use Rattle.layers.specs.Calls.{LayerLabels, kept_arcs, keeps_all_arcs, parted_arcs, in_arcs_agree}
 use Rattle.round.specs.Clock.{finish}
 use Rattle.layers.specs.Labels.{leg, is_barred, is_above_ceiling, ups, no_up, first_labels, blank_label, arrival_over, merge, labels_next, all_agree}

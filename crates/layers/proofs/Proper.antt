@@ -1,6 +1,10 @@
 -- What every diagram is, after every list of calls; and so the calls on records are the calls on arcs.
 use Rattle.std.proofs.Common.{◌≡◌, ℕ, zero, suc, ◌<◌, ◌≤◌, Bool, true, false, cond, List, [], ◌∷◌, length, get_or, set, Some, None, Option, sym, refl, ap, ◌∙◌, inl, inr, arith}
-use Rattle.layers.specs.Flow.{table, Outs, Layer, Net, node, width, each_node, redirect, arrivals_at, Mark, marks_next, marks_up, flags, compress, renumber, tidy, tidied_arcs, without_place, place_after_join, both_out, clash, joined_arcs, IsRanged, IsTied, IsRoomy, IsLawful}
+use Rattle.layers.specs.Net.{table, Outs, Layer, Net, node, width, each_node, redirect}
+use Rattle.layers.specs.Flow.{arrivals_at}
+use Rattle.layers.specs.Tidy.{Mark, marks_next, marks_up, flags, compress, renumber, tidy, tidied_arcs}
+use Rattle.layers.specs.Join.{without_place, place_after_join, both_out, clash, joined_arcs}
+use Rattle.layers.specs.Lawful.{IsRanged, IsTied, IsRoomy, IsLawful}
 use Rattle.layers.specs.declared.node.Up.{Up}
 use Rattle.layers.specs.Labels.{is_barred, is_above_ceiling, first_labels, arrival_over, all_agree, opening_arcs, all_doors}
 use Rattle.layers.specs.declared.call.Call.{Call}

@@ -3,7 +3,7 @@ use Rattle.std.proofs.Common.{◌≡◌, ℕ, zero, suc, ◌+◌, Bool, true, fa
 use Rattle.std.proofs.lemmas.Bool.{false≢true, eqb-true, eqb-false, eq-eqb, and_parts, or_cases, or_left, or_right}
 use Rattle.doors.proofs.Sets.{part_length}
 use Rattle.doors.specs.Orders.{In, Door, PartOrder}
-use Rattle.layers.specs.Flow.{Outs, Net, node, PathFrom, still_sought, is_nil, any_door, has_path_with}
+use Rattle.layers.specs.Net.{Outs, Net, node, PathFrom, still_sought, is_nil, any_door, has_path_with}
 use Rattle.layers.specs.Claim.{StandsAhead}
 
 any-in : (f : ℕ → ℕ → Bool) (j : ℕ) (ts : Outs) (k m b : ℕ) → j + k ≡ m → get_or ts k 0 ≡ suc b → f m b ≡ true → any_door f j ts ≡ true

@@ -5,7 +5,9 @@ use Rattle.std.proofs.lemmas.List.{length-take, length-take-le}
 use Rattle.std.proofs.lemmas.Bool.{cases_lt}
 use Rattle.round.specs.declared.table.Round.{Round}
 use Rattle.layers.specs.declared.node.Node.{Node}
-use Rattle.layers.specs.Flow.{table, Outs, Layer, Net, node, target, width, count_doors, count_layer, tidied_arcs, IsTied, IsRoomy}
+use Rattle.layers.specs.Net.{table, Outs, Layer, Net, node, target, width, count_doors, count_layer}
+use Rattle.layers.specs.Tidy.{tidied_arcs}
+use Rattle.layers.specs.Lawful.{IsTied, IsRoomy}
 use Rattle.layers.specs.declared.node.Up.{Up}
 use Rattle.layers.specs.Labels.{first_labels, labels_next, no_up}
 use Rattle.layers.specs.Records.{is_used, nodes_in, layers, arcs_in, arcs_of_layers, arcs_at, laid_arcs, arcs_read, record_of_place}

@@ -2,7 +2,9 @@
 use Rattle.std.proofs.Common.{◌≡◌, ℕ, zero, suc, ◌-◌, ◌<◌, ◌≤◌, Bool, true, false, cond, not, ◌&&◌, eqb, ltb, List, [], ◌∷◌, ◌++◌, length, get_or, set, None, Option, refl, ap, ◌∙◌, le_of_suc-le-suc, not-suc-le-zero, arith}
 use Rattle.std.proofs.lemmas.Bool.{true≢false, ltb-true, ltb-false, eqb-true, eqb-false, and_parts, or_parts}
 use Rattle.std.proofs.lemmas.List.{get_or_append_left, get_or_push, get_or-set_same, get_or-set_other}
-use Rattle.layers.specs.Flow.{Outs, Layer, Net, node, target, width, PathFrom, each_door, redirect, either_target, both_out, targets_differ, clash, without_place, place_after_join, joined_arcs, arrivals_at}
+use Rattle.layers.specs.Net.{Outs, Layer, Net, node, target, width, PathFrom, each_door, redirect}
+use Rattle.layers.specs.Flow.{arrivals_at}
+use Rattle.layers.specs.Join.{either_target, both_out, targets_differ, clash, without_place, place_after_join, joined_arcs}
 use Rattle.layers.specs.Labels.{arrival_over, labels_next, differs_from_first, first_arrival}
 use Rattle.layers.proofs.Flows.{redirect-arc, has-arc}
 use Rattle.layers.proofs.Model.{part_at}

@@ -4,7 +4,10 @@ use Rattle.std.proofs.lemmas.Bool.Decides.{nat_tests}
 use Rattle.std.proofs.lemmas.Bool.{leb-false, eqb-true, eq-eqb, and_parts}
 use Rattle.layers.specs.declared.node.Node.{Node}
 use Rattle.layers.specs.declared.refined.Refined.{Refined}
-use Rattle.layers.specs.Flow.{Net, count_arcs, arrivals_at, tidied_arcs, joined_arcs, has_path_with}
+use Rattle.layers.specs.Net.{Net, count_arcs, has_path_with}
+use Rattle.layers.specs.Flow.{arrivals_at}
+use Rattle.layers.specs.Tidy.{tidied_arcs}
+use Rattle.layers.specs.Join.{joined_arcs}
 use Rattle.layers.specs.Labels.{is_barred, is_above_ceiling, first_labels, arrival_over, opening_arcs}
 use Rattle.layers.specs.Records.{arcs_in, downs_in, labelled_records}
 use Rattle.layers.specs.declared.call.Call.{Call}

@@ -3,7 +3,7 @@ use Rattle.std.proofs.Common.{◌≡◌, ℕ, zero, suc, ◌+◌, ◌-◌, ◌*�
 use Rattle.std.proofs.lemmas.Bool.{eqb-true, eqb-false}
 use Rattle.rules.specs.Rules.{RuleLaws, RuleSense}
 use Rattle.tallies.specs.Tallies.{TallySense}
-use Rattle.layers.specs.Flow.{Net, count_arcs}
+use Rattle.layers.specs.Net.{Net, count_arcs}
 use Rattle.layers.specs.Labels.{opening_arcs}
 use Rattle.layers.specs.declared.call.Call.TheVariants.{Refine}
 use Rattle.layers.specs.Calls.{refinement}

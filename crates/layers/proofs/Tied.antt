@@ -3,7 +3,10 @@ use Rattle.std.proofs.Common.{◌≡◌, ℕ, zero, suc, ◌+◌, ◌<◌, Bool,
 use lib.ListN.{length-map}
 use Rattle.std.proofs.lemmas.Bool.{false≢true, and_parts}
 use Rattle.std.proofs.lemmas.Option.{none-some}
-use Rattle.layers.specs.Flow.{Outs, Layer, Net, node, target, width, each_door, each_node, redirect, arrivals_at, gather, climbs_of, up, Mark, marks_next, marks_up, flags, rank, compress, renumber, tidy, tidied_arcs, IsRanged, IsLed, IsTied}
+use Rattle.layers.specs.Net.{Outs, Layer, Net, node, target, width, each_door, each_node, redirect}
+use Rattle.layers.specs.Flow.{arrivals_at, gather, climbs_of, up}
+use Rattle.layers.specs.Tidy.{Mark, marks_next, marks_up, flags, rank, compress, renumber, tidy, tidied_arcs}
+use Rattle.layers.specs.Lawful.{IsRanged, IsLed, IsTied}
 use Rattle.layers.proofs.Flows.{gather-any, outs-from, map-some, redirect-arc, has-arc, ins-from, next-some, up_at, mark-next, flags-at, compress-at, renumber-at}
 use Rattle.std.specs.Prelude.{is_some}
 

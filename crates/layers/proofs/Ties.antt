@@ -2,7 +2,10 @@
 use Rattle.std.proofs.Common.{◌≡◌, ℕ, zero, suc, ◌-◌, ◌<◌, ◌≤◌, Bool, true, false, cond, not, ◌&&◌, eqb, ltb, ◌⊎◌, List, [], ◌∷◌, ◌++◌, length, get_or, set, Some, None, Option, sym, refl, ap, ◌∙◌, inl, inr, le_of_suc-le-suc, not-suc-le-zero, arith, length-set}
 use Rattle.std.proofs.lemmas.Bool.{true≢false, ltb-true, ltb-false, eqb-true, lt-ltb, eq-eqb, ne_eqb, cases_lt, cases_eq, and_cases}
 use Rattle.std.proofs.lemmas.List.{get_or_append_left, get_or_push, get_or-set_same, get_or-set_other}
-use Rattle.layers.specs.Flow.{table, Outs, Layer, Net, node, target, redirect, arrivals_at, clash, either_target, both_out, without_place, place_after_join, joined_arcs, IsRanged, IsFed, IsLed, IsTied}
+use Rattle.layers.specs.Net.{table, Outs, Layer, Net, node, target, redirect}
+use Rattle.layers.specs.Flow.{arrivals_at}
+use Rattle.layers.specs.Join.{clash, either_target, both_out, without_place, place_after_join, joined_arcs}
+use Rattle.layers.specs.Lawful.{IsRanged, IsFed, IsLed, IsTied}
 use Rattle.layers.specs.Labels.{arrival_over, agree, agrees_with_all, all_agree, differs_from_first, first_arrival, opening_arcs, all_doors}
 use Rattle.layers.specs.Calls.{parted_arcs}
 use Rattle.layers.proofs.Flows.{Among, redirect-arc, has-arc, table_at, From, ins-from}

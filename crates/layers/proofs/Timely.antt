@@ -5,7 +5,8 @@ use Rattle.std.proofs.ByRecursion.{All-append}
 use Rattle.round.proofs.Clocks.{clock-laws}
 use Rattle.round.specs.Clock.{latest}
 use Rattle.layers.specs.declared.node.Node.{Node}
-use Rattle.layers.specs.Flow.{table, Layer, Net, width, arrivals_at}
+use Rattle.layers.specs.Net.{table, Layer, Net, width}
+use Rattle.layers.specs.Flow.{arrivals_at}
 use Rattle.layers.specs.Labels.{leg, ups, first_label, arrival_over, merge, first_labels, labels_next}
 use Rattle.layers.specs.Records.{record_of_place, labelled_from, labelled_records}
 use Rattle.layers.specs.Calls.{records_with}

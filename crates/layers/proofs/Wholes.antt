@@ -6,7 +6,9 @@ use Rattle.tallies.specs.Tallies.{TallySense}
 use Rattle.layers.specs.declared.node.Node.{Node}
 use Rattle.layers.specs.declared.refined.Refined.{Refined}
 use Rattle.layers.specs.declared.refined.Refined.TheVariants.{Whole, Full}
-use Rattle.layers.specs.Flow.{Layer, Net, node, target, width, redirect, count_arcs, arrivals_at, IsTied, IsRoomy}
+use Rattle.layers.specs.Net.{Layer, Net, node, target, width, redirect, count_arcs}
+use Rattle.layers.specs.Flow.{arrivals_at}
+use Rattle.layers.specs.Lawful.{IsTied, IsRoomy}
 use Rattle.layers.specs.Labels.{first_label, first_labels, arrival_over, merge, labels_next, agree, all_agree, first_arrival, differs_from_first, opening_arcs}
 use Rattle.layers.specs.declared.call.Call.TheVariants.{Refine}
 use Rattle.layers.specs.Calls.{refinement, is_settled, parted_arcs}

@@ -12,7 +12,10 @@ use Rattle.layers.specs.declared.refined.Refined.{Refined}
 use Rattle.layers.specs.declared.refined.Refined.TheVariants.{Whole, Full}
 use Rattle.layers.specs.declared.refusal.Refusal.{Refusal}
 use Rattle.layers.specs.declared.refusal.Refusal.TheVariants.{Width, Short, NoLayer, NoNode, NoDoor, OneGroup, LayerFull, SameNode, Clash, SameDoor}
-use Rattle.layers.specs.Flow.{Layer, Net, node, redirect, count_arcs, every_arc, arrivals_at, tidied_arcs, clash, joined_arcs, has_path_with}
+use Rattle.layers.specs.Net.{Layer, Net, node, redirect, count_arcs, every_arc, has_path_with}
+use Rattle.layers.specs.Flow.{arrivals_at}
+use Rattle.layers.specs.Tidy.{tidied_arcs}
+use Rattle.layers.specs.Join.{clash, joined_arcs}
 use Rattle.layers.specs.Settings.{Setting}
 use Rattle.std.specs.Int.Count.{ones}
 use Rattle.round.specs.Clock.{finish}

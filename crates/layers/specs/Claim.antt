@@ -8,7 +8,7 @@ use Rattle.orders.specs.Allowed.{Allowed}
 use Rattle.orders.specs.Costs.{cost}
 use Rattle.layers.specs.declared.node.Node.{Node}
 use Rattle.layers.specs.declared.refined.Refined.TheVariants.{Whole}
-use Rattle.layers.specs.Flow.{PathFrom}
+use Rattle.layers.specs.Net.{PathFrom}
 use Rattle.layers.specs.declared.call.Call.{Call}
 use Rattle.layers.specs.Settings.{Setting, setting}
 use Rattle.layers.specs.Calls.{EachCut, arcs, labels, records_with, in_arcs_agree, sweep_answer, after_open, refinement, after_calls, bound, must, is_settled}

@@ -7,7 +7,7 @@ use Rattle.round.specs.declared.table.Round.{Round}
 use Rattle.rules.specs.Rules.{RuleSense}
 use Rattle.tallies.specs.Tallies.{TallySense}
 use Rattle.layers.specs.declared.node.Node.{Node}
-use Rattle.layers.specs.Flow.{Net, node, target, PathFrom}
+use Rattle.layers.specs.Net.{Net, node, target, PathFrom}
 use Rattle.layers.specs.declared.call.Call.{Call}
 use Rattle.layers.specs.Settings.{setting}
 use Rattle.layers.specs.Calls.{arcs, layer, after_open, after_calls}

@@ -8,7 +8,8 @@ use Rattle.rules.specs.Rules.{RuleSense}
 use Rattle.tallies.specs.Tallies.{TallySense}
 use Rattle.layers.specs.declared.node.Down.{Down}
 use Rattle.layers.specs.declared.node.Up.{Up}
-use Rattle.layers.specs.Flow.{table, Outs, Layer, Net, up, next}
+use Rattle.layers.specs.Net.{table, Outs, Layer, Net}
+use Rattle.layers.specs.Flow.{up, next}
 use Rattle.layers.specs.Settings.{Setting}
 
 -- the set of door j alone

@@ -4,7 +4,7 @@ use Rattle.layers.specs.declared.node.Arcs.{Arcs}
 use Rattle.layers.specs.declared.node.Node.{Node}
 use Rattle.layers.specs.declared.node.Down.{Down}
 use Rattle.layers.specs.declared.node.Up.{Up}
-use Rattle.layers.specs.Flow.{table, Outs, Layer, Net, width}
+use Rattle.layers.specs.Net.{table, Outs, Layer, Net, width}
 use Rattle.layers.specs.Settings.{Setting}
 use Rattle.layers.specs.Labels.{no_up, first_labels, blank_label, labels_next, ups}
 

@@ -2,7 +2,7 @@
 use Rattle.std.specs.Prelude.{ℕ, zero, suc, List, map, slice_index}
 use Rattle.std.specs.List.{range_with_len}
 use Rattle.layers.specs.declared.node.Node.{Node}
-use Rattle.layers.specs.Flow.{each_door}
+use Rattle.layers.specs.Net.{each_door}
 
 unfoldable pub targets : {S V : Type 0} → Node S V → List ℕ
 targets x = map (λ k. slice_index x.arcs.to k) (range_with_len 0 16)

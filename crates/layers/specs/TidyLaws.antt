@@ -1,7 +1,8 @@
 -- What tidying leaves of any layers of arcs: the same paths, and exactly the nodes on a path, in their order.
 -- Layers and places in a layer count from 0.
 use Rattle.std.specs.Prelude.{◌≡◌, ℕ, zero, suc, ◌<◌, ◌⊎◌, ◌↔◌, List, [], length, slice_index_or, ⊤}
-use Rattle.layers.specs.Flow.{Outs, Layer, Net, node, target, PathFrom, tidied_arcs}
+use Rattle.layers.specs.Net.{Outs, Layer, Net, node, target, PathFrom}
+use Rattle.layers.specs.Tidy.{tidied_arcs}
 use Rattle.layers.specs.LabelLaws.{LeadsTo, LeadsOn}
 
 -- the nodes of layer i

@@ -8,7 +8,8 @@ use Rattle.tallies.specs.Tallies.{TallySense}
 use Rattle.layers.specs.declared.node.Node.{Node}
 use Rattle.layers.specs.declared.refined.Refined.{Refined}
 use Rattle.layers.specs.declared.refined.Refined.TheVariants.{Full}
-use Rattle.layers.specs.Flow.{Net, count_arcs, tidied_arcs}
+use Rattle.layers.specs.Net.{Net, count_arcs}
+use Rattle.layers.specs.Tidy.{tidied_arcs}
 use Rattle.layers.specs.Labels.{is_barred, first_labels}
 use Rattle.layers.specs.Records.{labelled_records}
 use Rattle.layers.specs.Calls.{arcs, labels, kept_arcs, records_with, after_sweep, sweep_answer, parts_of_layer, refinement_from, after_sweeps, refinement}

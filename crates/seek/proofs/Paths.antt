@@ -4,7 +4,7 @@ use mathlib.Core.Bool.{or-false, or_assoc}
 use Rattle.std.proofs.lemmas.List.{drop-drop}
 use Rattle.std.proofs.lemmas.Bool.{ne_eqb}
 use Rattle.layers.specs.declared.node.Node.{Node}
-use Rattle.layers.specs.Flow.{Outs, Net, still_sought, any_door, has_path_with}
+use Rattle.layers.specs.Net.{Outs, Net, still_sought, any_door, has_path_with}
 use Rattle.layers.specs.Records.{is_used, nodes_in, layers, arcs_in, arcs_of_layers}
 use Rattle.seek.specs.declared.seen.Seen.{Seen}
 use Rattle.seek.specs.Rows.{none, at_end, seen_from, through, either, by, by_first, seen_if, of_place, of_target}

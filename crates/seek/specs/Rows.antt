@@ -1,7 +1,7 @@
 -- What is seen from the nodes of a layer, as the code works it out from the layer below. A row has it by target number: 0 for no node, suc b for the node at place b.
 use Rattle.std.specs.Prelude.{ℕ, zero, suc, ◌+◌, ◌*◌, Bool, true, false, cond, ◌&&◌, ◌||◌, List, [], ◌∷◌, ◌==◌, nat_le, slice_index, slice_index_or}
 use Rattle.layers.specs.declared.node.Node.{Node}
-use Rattle.layers.specs.Flow.{Net, has_path_with}
+use Rattle.layers.specs.Net.{Net, has_path_with}
 use Rattle.layers.specs.Records.{is_used}
 use Rattle.seek.specs.declared.seen.Seen.{Seen}
 

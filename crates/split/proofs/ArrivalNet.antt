@@ -3,7 +3,8 @@ use Rattle.std.proofs.Common.{◌≡◌, ℕ, zero, suc, ◌≤◌, Bool, true, 
 use Rattle.std.specs.List.{range_with_len, flat_map}
 use Rattle.layers.specs.declared.node.Arcs.{Arcs}
 use Rattle.layers.specs.declared.node.Node.{Node}
-use Rattle.layers.specs.Flow.{table, Outs, arrivals_by_door, arrivals_at}
+use Rattle.layers.specs.Net.{table, Outs}
+use Rattle.layers.specs.Flow.{arrivals_by_door, arrivals_at}
 use Rattle.layers.specs.Labels.{arrival_over}
 use Rattle.layers.specs.Records.{nodes_in, arcs_in, downs_in, padded_targets, arcs_at}
 use Rattle.layers.specs.Calls.{arrivals as arrivalsIn}

@@ -2,7 +2,7 @@
 use Rattle.std.proofs.Common.{◌≡◌, ℕ, zero, suc, ◌+◌, ◌*◌, ◌<◌, ◌≤◌, List, [], ◌∷◌, ◌++◌, map, length, get_or, take, drop, sym, ap, ◌∙◌, subst, append_assoc, mul-le-mul_right, suc-mul, zero-mul, arith, take-add}
 use Rattle.std.proofs.lemmas.List.{take_at, drop_at, drop-drop, length-append, length-take-le, take-append-drop}
 use Rattle.layers.specs.declared.node.Node.{Node}
-use Rattle.layers.specs.Flow.{Layer, Net}
+use Rattle.layers.specs.Net.{Layer, Net}
 use Rattle.labels.proofs.Laying.{arcs_of, Arranged, Good}
 use Rattle.labels.proofs.RedirectNet.{arranged-long}
 

@@ -4,7 +4,8 @@ use Rattle.std.proofs.lemmas.List.{take_at, drop_at, drop-drop, map-set, map_pus
 use Rattle.std.proofs.lemmas.Bool.{cases_eq}
 use Rattle.layers.specs.declared.node.Arcs.{Arcs}
 use Rattle.layers.specs.declared.node.Node.{Node}
-use Rattle.layers.specs.Flow.{table, Outs, Layer, Net, node, either_target, both_out, targets_differ, clash, without_place, place_after_join, joined_arcs}
+use Rattle.layers.specs.Net.{table, Outs, Layer, Net, node}
+use Rattle.layers.specs.Join.{either_target, both_out, targets_differ, clash, without_place, place_after_join, joined_arcs}
 use Rattle.layers.specs.Records.{padded_targets, arcs_at}
 use Rattle.layers.proofs.Bridge.{table-long, table-ext}
 use Rattle.layers.proofs.Flows.{table_at}

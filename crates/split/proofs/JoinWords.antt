@@ -5,7 +5,8 @@ use Rattle.std.proofs.lemmas.Bool.{ltb-false, leb-false, or_parts, cases_lt, con
 use Rattle.layers.specs.declared.node.Node.{Node}
 use Rattle.layers.specs.declared.refusal.Refusal.{Refusal}
 use Rattle.layers.specs.declared.refusal.Refusal.TheVariants.{NoLayer, NoNode}
-use Rattle.layers.specs.Flow.{Net, node, clash, joined_arcs}
+use Rattle.layers.specs.Net.{Net, node}
+use Rattle.layers.specs.Join.{clash, joined_arcs}
 use Rattle.layers.specs.Records.{padded_targets}
 use Rattle.layers.specs.Calls.{Outcome, arcs, layer, records_with, bad_node, join_answer, after_join}
 use Rattle.layers.specs.Shape.{IsShaped, IsTimely}

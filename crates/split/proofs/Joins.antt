@@ -5,7 +5,7 @@ use Rattle.std.specs.List.{range_with_len, list_any, zip}
 use Rattle.std.proofs.lemmas.List.FromFn.{fill_by_all}
 use Rattle.std.proofs.lemmas.Bool.{eq-eqb, ne_eqb, lt-ltb, le-ltb}
 use Rattle.layers.specs.declared.node.Node.{Node}
-use Rattle.layers.specs.Flow.{targets_differ, clash, either_target, both_out, place_after_join, without_place}
+use Rattle.layers.specs.Join.{targets_differ, clash, either_target, both_out, place_after_join, without_place}
 use Rattle.layers.specs.Targets.{targets, with_targets, at_door}
 use Rattle.split.specs.Joined.{moved_to, joined_node}
 use Rattle.labels.proofs.Redirects.{written}

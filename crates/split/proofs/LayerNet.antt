@@ -6,7 +6,8 @@ use Rattle.layers.specs.declared.node.Arcs.{Arcs}
 use Rattle.layers.specs.declared.node.Node.{Node}
 use Rattle.layers.specs.declared.node.Down.{Down}
 use Rattle.layers.specs.declared.node.Label.{Label}
-use Rattle.layers.specs.Flow.{table, Outs, Layer, Net, node, IsEven}
+use Rattle.layers.specs.Net.{table, Outs, Layer, Net, node}
+use Rattle.layers.specs.Lawful.{IsEven}
 use Rattle.layers.specs.Labels.{all_agree, first_arrival, differs_from_first}
 use Rattle.layers.specs.Records.{is_used, nodes_in, arcs_in, downs_in, padded_targets, arcs_at}
 use Rattle.layers.specs.Calls.{parted_arcs, arrivals as arrivalsIn}

@@ -4,7 +4,8 @@ use Rattle.std.proofs.lemmas.List.{length-append}
 use Rattle.std.proofs.lemmas.Bool.{leb-false, le-ltb, lt-leb, or_from, cond-false}
 use Rattle.layers.specs.declared.node.Node.{Node}
 use Rattle.layers.specs.declared.refusal.Refusal.TheVariants.{NoLayer}
-use Rattle.layers.specs.Flow.{Net, node, width, arrivals_at}
+use Rattle.layers.specs.Net.{Net, node, width}
+use Rattle.layers.specs.Flow.{arrivals_at}
 use Rattle.layers.specs.Labels.{first_labels, labels_next, all_agree, arrival_over}
 use Rattle.layers.specs.Records.{nodes_in, downs_in, arcs_read, laid_arcs, labelled_records}
 use Rattle.layers.specs.Calls.{parted_arcs, arcs, layer, records_with, parts_of_layer}

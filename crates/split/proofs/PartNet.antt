@@ -7,7 +7,8 @@ use Rattle.layers.specs.declared.node.Arcs.{Arcs}
 use Rattle.layers.specs.declared.node.Node.{Node}
 use Rattle.layers.specs.declared.node.Label.{Label}
 use Rattle.layers.specs.declared.node.Down.{Down}
-use Rattle.layers.specs.Flow.{table, Outs, Layer, Net, node, arrivals_at}
+use Rattle.layers.specs.Net.{table, Outs, Layer, Net, node}
+use Rattle.layers.specs.Flow.{arrivals_at}
 use Rattle.layers.specs.Labels.{arrival_over, first_arrival, differs_from_first}
 use Rattle.layers.specs.Records.{padded_targets, arcs_at}
 use Rattle.layers.specs.Calls.{parted_arcs}

@@ -3,7 +3,7 @@ use Rattle.std.proofs.Common.{◌≡◌, ℕ, suc, ◌+◌, ◌-◌, ◌*◌, �
 use Rattle.std.proofs.lemmas.Bool.{ltb-false, leb-false, or_parts, cond_both}
 use Rattle.layers.specs.declared.node.Node.{Node}
 use Rattle.layers.specs.declared.refusal.Refusal.TheVariants.{NoLayer, NoNode}
-use Rattle.layers.specs.Flow.{Net}
+use Rattle.layers.specs.Net.{Net}
 use Rattle.layers.specs.Labels.{all_agree}
 use Rattle.layers.specs.Records.{nodes_in, arcs_in, downs_in, labelled_records}
 use Rattle.layers.specs.Calls.{Outcome, arcs, layer, parted_arcs, records_with, one_group, is_full, bad_node, part_answer, parted_records, after_part, arrivals as arrivalsIn}

@@ -1,7 +1,7 @@
 -- Records that move down by one
 use Rattle.std.proofs.Common.{◌≡◌, ℕ, ◌+◌, ◌-◌, ◌<◌, ◌≤◌, List, [], ◌∷◌, ◌++◌, length, get_or, take, drop, set, sym, ap, ◌∙◌, append_assoc, add-one, arith}
 use Rattle.std.proofs.lemmas.List.{drop_more, set_at, length-append, length-take-le, length-drop, take_all, drop_all}
-use Rattle.layers.specs.Flow.{without_place}
+use Rattle.layers.specs.Join.{without_place}
 use Rattle.split.proofs.Joins.{dropped}
 
 module _ {X : Type 0} (xs : List X) (at : ℕ) where

@@ -2,7 +2,7 @@
 -- Nobody has to believe these steps: `words` of `join` says what they come to.
 use Rattle.std.specs.Prelude.{ℕ, suc, List, [], ◌∷◌, ◌++◌, map, take, drop, slice_index_or, slice_set}
 use Rattle.layers.specs.declared.node.Node.{Node}
-use Rattle.layers.specs.Flow.{place_after_join, both_out, without_place}
+use Rattle.layers.specs.Join.{place_after_join, both_out, without_place}
 use Rattle.layers.specs.Targets.{targets, with_targets, redirected}
 
 -- the arc by a door to place b, once what was at hi stands at lo and what came after it has moved down

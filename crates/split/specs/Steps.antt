@@ -6,7 +6,7 @@ use Rattle.layers.specs.declared.node.Down.{Down}
 use Rattle.layers.specs.declared.node.Label.{Label}
 use Rattle.layers.specs.declared.refusal.Refusal.TheVariants.{Width, Short, NoLayer, NoNode, OneGroup, LayerFull, SameNode, Clash}
 use Rattle.layers.specs.Calls.{Outcome}
-use Rattle.layers.specs.Flow.{clash}
+use Rattle.layers.specs.Join.{clash}
 use Rattle.layers.specs.Labels.{arrival_over, agree, all_agree, first_arrival}
 use Rattle.layers.specs.Records.{nodes_in}
 use Rattle.layers.specs.Settings.{Setting}

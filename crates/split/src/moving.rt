@@ -1,6 +1,6 @@
 //! The nodes of a layer that move down once one is taken out: their records, and the arcs that lead to them.
 ghost use Rattle.std.specs.Prelude.{◌≡◌, ℕ, ◌-◌, ◌<◌, ◌≤◌, [], ◌∷◌, ◌++◌, map, length};
-ghost use Rattle.layers.specs.Flow.{without_place};
+ghost use Rattle.layers.specs.Join.{without_place};
 ghost use Rattle.layers.specs.Targets.{at_door};
 ghost use Rattle.split.specs.Joined.{moved_to, moved_node};
 

@@ -1,6 +1,6 @@
 //! One node in place of two.
 ghost use Rattle.std.specs.Prelude.{◌≡◌, ◌+◌, ◌-◌, ◌<◌, ◌≤◌, length};
-ghost use Rattle.layers.specs.Flow.{clash};
+ghost use Rattle.layers.specs.Join.{clash};
 ghost use Rattle.layers.specs.Targets.{targets};
 ghost use Rattle.split.specs.Joined.{joined_node, joined_layer, joined_second};
 

@@ -2,7 +2,7 @@
 use Rattle.std.proofs.Common.{◌≡◌, ℕ, zero, suc, ◌+◌, Bool, cond, not, eqb, ◌≢◌, List, [], ◌∷◌, sum_by, count_by, sym, refl, ap, ◌∙◌, arith, eq-eqb, ne_eqb}
 use Rattle.std.proofs.lemmas.List.Sums.{sum_by-cons}
 use Rattle.layers.specs.declared.node.Node.{Node}
-use Rattle.layers.specs.Flow.{count_doors, count_layer}
+use Rattle.layers.specs.Net.{count_doors, count_layer}
 use Rattle.layers.specs.Targets.{targets}
 use Rattle.tidying.specs.Counted.{arcs_of, arcs_within}
 

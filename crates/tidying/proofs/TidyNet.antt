@@ -5,7 +5,10 @@ use Rattle.std.proofs.lemmas.List.{get_or-map, get_or_past, get_or_append_left, 
 use Rattle.std.proofs.lemmas.Bool.{true≢false, false≢true, cases_lt}
 use Rattle.layers.specs.declared.node.Arcs.{Arcs}
 use Rattle.layers.specs.declared.node.Node.{Node}
-use Rattle.layers.specs.Flow.{table, Outs, Layer, Net, node, target, width, redirect, up, Mark, marks_next, marks_up, flags, rank, compress, renumber, tidy, tidied_arcs as tidiedNet, IsRanged}
+use Rattle.layers.specs.Net.{table, Outs, Layer, Net, node, target, width, redirect}
+use Rattle.layers.specs.Flow.{up}
+use Rattle.layers.specs.Tidy.{Mark, marks_next, marks_up, flags, rank, compress, renumber, tidy, tidied_arcs as tidiedNet}
+use Rattle.layers.specs.Lawful.{IsRanged}
 use Rattle.layers.specs.Records.{padded_targets, arcs_at}
 use Rattle.layers.proofs.Flows.{rank-zero, has-arc, redirect-arc, mark-next, flags-at, renumber-at}
 use Rattle.layers.proofs.Tied.{some_of, flags-back, redirect-back, redirect-length, renumber-back, marked_from, climbs, climbs-from}

@@ -1,7 +1,7 @@
 -- How many arcs leave a record, and several.
 use Rattle.std.specs.Prelude.{ℕ, List, map}
 use Rattle.layers.specs.declared.node.Node.{Node}
-use Rattle.layers.specs.Flow.{count_doors, count_layer}
+use Rattle.layers.specs.Net.{count_doors, count_layer}
 use Rattle.layers.specs.Targets.{targets}
 
 unfoldable pub arcs_of : {S V : Type 0} → Node S V → ℕ

@@ -1,5 +1,5 @@
 use Rattle.std.proofs.Common.{◌≡◌, ℕ, List, set, sym, ap, ◌∙◌, add-one, arith}
-use Rattle.layers.specs.Flow.{table}
+use Rattle.layers.specs.Net.{table}
 use Rattle.layers.specs.Records.{padded_targets}
 use Rattle.diagram.proofs.Arcs_laid.{one_more}
 use Rattle.diagram.proofs.lay.every_door.Goals as goal

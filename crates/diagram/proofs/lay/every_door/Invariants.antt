@@ -1,5 +1,5 @@
 use Rattle.std.proofs.Common.{◌≡◌}
-use Rattle.layers.specs.Flow.{table}
+use Rattle.layers.specs.Net.{table}
 use Rattle.layers.specs.Records.{padded_targets}
 use Rattle.diagram.proofs.lay.every_door.Given as goal
 

@@ -1,7 +1,7 @@
 use Rattle.std.proofs.Common.{◌≡◌, ℕ, get_or, set, replicate, sym, ap, ◌∙◌, arith}
 use Rattle.layers.specs.Targets.{with_targets}
 use Rattle.labels.proofs.Writing.{over-more}
-use Rattle.layers.specs.Flow.{either_target}
+use Rattle.layers.specs.Join.{either_target}
 use Rattle.split.proofs.Joins.{pick_some, picked, both-made}
 use Rattle.labels.proofs.Redirects.{written}
 use Rattle.split.proofs.uniting.both.Goals as goal

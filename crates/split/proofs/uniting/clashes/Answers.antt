@@ -1,7 +1,7 @@
 use Rattle.std.proofs.Common.{◌≡◌, length, ◌∙◌, ap₂, arith, rules, tests}
 use Rattle.std.proofs.lemmas.Iterator.{YieldsList-from_slice, YieldsList-from_zip}
 use Rattle.std.proofs.lemmas.Iterator.Search.{any_from_yields_List}
-use Rattle.layers.specs.Flow.{clash}
+use Rattle.layers.specs.Join.{clash}
 use Rattle.split.proofs.Joins.{apartPair, clash-zipped, all-targets}
 use Rattle.split.proofs.uniting.clashes.Goals as goal
 

@@ -1,5 +1,5 @@
 use Rattle.std.proofs.Common.{◌≡◌, ◌-◌, [], ◌∷◌, ◌++◌, get_or, set, ap, ◌∙◌, arith}
-use Rattle.layers.specs.Flow.{without_place}
+use Rattle.layers.specs.Join.{without_place}
 use Rattle.std.proofs.lemmas.List.{get_or_read}
 use Rattle.split.specs.Joined.{joined_node, joined_layer}
 use Rattle.split.proofs.uniting.unite_layer.Goals as goal
