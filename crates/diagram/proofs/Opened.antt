@@ -1,9 +1,6 @@
 -- Laying the arcs and working out all labels comes to the opened diagram.
-use Rattle.std.proofs.Common.{◌≡◌, ℕ, ◌+◌, ◌*◌, ◌≤◌, true, List, ◌++◌, length, ap, ◌∙◌, zero-add, zero-mul, arith}
+use Rattle.std.proofs.Common.{◌≡◌, ◌+◌, ◌*◌, ◌≤◌, true, List, ◌++◌, length, ap, ◌∙◌, zero-add, zero-mul, arith}
 use Rattle.std.proofs.lemmas.Bool.{and_from, le-leb}
-use Rattle.round.specs.declared.table.Round.{Round}
-use Rattle.rules.specs.Rules.{RuleSense}
-use Rattle.tallies.specs.Tallies.{TallySense}
 use Rattle.layers.specs.declared.node.Node.{Node}
 use Rattle.layers.specs.Labels.{opening_arcs}
 use Rattle.layers.specs.Records.{labelled_records}

@@ -5,7 +5,6 @@ use Rattle.std.specs.List.{range_with_len, flat_map, AllByRecursion as All}
 use Rattle.std.proofs.ByRecursion.{All-append, All-from_get_or}
 use Rattle.std.proofs.lemmas.List.FromFn.{get_or-map-range_with_len, length-map-range_with_len}
 use Rattle.std.proofs.lemmas.Bool.{cond_both}
-use Rattle.round.specs.declared.table.Round.{Round}
 use Rattle.round.specs.Clock.{latest}
 use Rattle.round.proofs.Clocks.{clock-laws}
 use Rattle.rules.specs.Rules.{RuleSense}

@@ -7,9 +7,6 @@ use Rattle.std.proofs.ByRecursion.{All-append}
 use Rattle.std.proofs.lemmas.List.{length-set, length-map, get_or-set_same, get_or-set_other, get_or-map}
 use Rattle.std.proofs.lemmas.List.FromFn.{fill_by_all}
 use Rattle.std.proofs.lemmas.Bool.{cases_eq, eq-eqb, ne_eqb, cond-false, cond_both}
-use Rattle.round.specs.declared.table.Round.{Round}
-use Rattle.rules.specs.Rules.{RuleSense}
-use Rattle.tallies.specs.Tallies.{TallySense}
 use Rattle.layers.specs.declared.node.Node.{Node}
 use Rattle.layers.specs.declared.node.Down.{Down}
 use Rattle.layers.specs.Labels.{arrival_over, merge, blank_label}

@@ -1,9 +1,6 @@
 -- The passes over the flat list, layer by layer on what is left of it.
 use Rattle.std.proofs.Common.{◌≡◌, ℕ, zero, suc, ◌+◌, ◌-◌, ◌*◌, List, [], ◌∷◌, ◌++◌, map, length, take, drop, sym, ap, ◌∙◌, ap₂, append_assoc, add_assoc, suc-mul, one-mul, zero-add, zero-mul, arith, take-append-drop}
 use Rattle.std.proofs.lemmas.List.{drop-drop, drop_at}
-use Rattle.round.specs.declared.table.Round.{Round}
-use Rattle.rules.specs.Rules.{RuleSense}
-use Rattle.tallies.specs.Tallies.{TallySense}
 use Rattle.layers.specs.declared.node.Node.{Node}
 use Rattle.layers.specs.Labels.{no_up}
 use Rattle.labels.specs.Passes.{part, over, with_up, next_layer, layer_done, layers_done, begun, pass_down, risen, layer_up, layers_up, end_cleared, pass_up}

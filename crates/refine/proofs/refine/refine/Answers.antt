@@ -1,4 +1,4 @@
-use Rattle.std.proofs.Common.{◌≡◌, ℕ, suc, ◌-◌, true, List, length, sym, ap, ◌∙◌, subst}
+use Rattle.std.proofs.Common.{◌≡◌, suc, ◌-◌, true, List, length, sym, ap, ◌∙◌, subst}
 use Rattle.layers.specs.Settings.{lent_setting}
 use Rattle.std.proofs.lemmas.Bool.{cond-true}
 use Rattle.layers.specs.declared.node.Node.{Node}
