@@ -1,8 +1,10 @@
-mod Examples
-mod Layers
+mod Lists
 mod Marks
 mod Numbers
-mod Stay
+mod Kept
+mod Nets
+mod Renewed
+mod Steps
 pub mod Targets
 pub mod TidyNet
 mod Words

@@ -1,106 +1,102 @@
--- What a table of marks holds after the targets of a node, and of the marked nodes of a layer
-use Rattle.std.proofs.Common.{◌≡◌, ℕ, zero, suc, ◌+◌, ◌<◌, ◌≤◌, Bool, true, false, cond, ◌≢◌, ◌⊎◌, List, [], ◌∷◌, length, get_or, set, replicate, fold, sym, refl, ap, ◌∙◌, subst, inl, inr, ⊎_elim, add-one, arith}
-use Rattle.std.specs.List.{range_with_len}
-use Rattle.std.proofs.lemmas.List.{get_or_past, get_or-replicate, length-replicate, get_or-set_same, get_or-set_other, length-set}
-use Rattle.std.proofs.lemmas.Bool.{cases_lt, cases_eq}
+-- Which marks a table has after the targets of a node, and of the marked nodes of a layer
+use Rattle.std.proofs.Common.{◌≡◌, ℕ, zero, suc, ◌+◌, ◌<◌, ◌≤◌, Bool, true, false, if◌then◌else◌, ◌⊎◌, List, [], ◌∷◌, ◌++◌, length, get_or, take, drop, set, replicate, sym, refl, ap, ◌∙◌, inl, inr, arith}
+use Rattle.std.specs.List.{Contains, flat_map, zip}
+use Rattle.std.proofs.lemmas.Bool.{false≢true}
+use Rattle.std.proofs.lemmas.Grind.{elements, fold-append}
+use Rattle.std.proofs.lemmas.List.{drop_all, drop_more, get_or-set_same, get_or_default, length-set, take_all}
+use Rattle.std.proofs.lemmas.List.Elements.{Contains-append_cases, Contains-append_left, Contains-append_right}
+use Rattle.std.proofs.lemmas.List.Sums.{fold_more}
 use Rattle.layers.specs.declared.node.Node.{Node}
 use Rattle.layers.specs.Targets.{targets}
-use Rattle.tidying.specs.Tidied.{marked, reach_step, reached_next}
-use Rattle.labels.proofs.Folds.{folded-counting}
+use Rattle.tidying.specs.Tidied.{marked, targets_if, reached_next}
+use Rattle.tidying.proofs.Lists.{get_or-blank}
+use Rattle.tidying.proofs.Targets.{length-targets, target-at}
 
 abbrev pub On : List Bool → ℕ → Type 0
 On m t = get_or m t false ≡ true
 
-pub never : (n t : ℕ) → get_or (replicate n false) t false ≡ false
-never n t = ⊎_elim (λ (lt : t < n). get_or-replicate n t false false lt) (λ (ge : n ≤ t). get_or_past (replicate n false) t false (omega (arith, length-replicate {A = Bool} n false))) (cases_lt t n)
+pub set-on : (m : List Bool) (x t : ℕ) → On (set m x true) t → On m t ⊎ (x ≡ t)
+set-on m x t on = grind (arith, elements)
 
-pub apart : {b : Bool} → b ≡ true → b ≡ false → ⊥
-apart p q = let z : ◌≡◌ {A = ℕ} 0 1 = cc in omega arith
-
-set_keeps : (m : List Bool) (x t : ℕ) → On m t → On (set m x true) t
-set_keeps m x t on = ⊎_elim
-    (λ (e : t ≡ x). ⊎_elim
-    (λ (lt : x < length m). ap (λ k. get_or (set m x true) k false) e ∙ get_or-set_same m x true false lt)
-    (λ (ge : length m ≤ x). absurd (apart on (get_or_past m t false (omega arith))))
-    (cases_lt x (length m)))
-    (λ (ne : t ≢ x). get_or-set_other m x t true false ne ∙ on)
-    (cases_eq t x)
-
-pub set-from : (m : List Bool) (x t : ℕ) → On (set m x true) t → On m t ⊎ (x ≡ t)
-set-from m x t on = ⊎_elim (λ (e : t ≡ x). inr (sym e)) (λ (ne : t ≢ x). inl (sym (get_or-set_other m x t true false ne) ∙ on)) (cases_eq t x)
-
-pub length_marked : (ts : List ℕ) (m : List Bool) → length (marked m ts) ≡ length m
+marked-on : (ts : List ℕ) (m : List Bool) (t : ℕ) → On (marked m ts) t → On m t ⊎ Contains ts t
 unfolding marked
-length_marked [] m = refl
-length_marked (x ∷ ts) m = length_marked ts (set m x true) ∙ length-set m x true
+marked-on [] m t on = inl on
+marked-on (x ∷ ts) m t on = elim (marked-on ts (set m x true) t on) [
+  | inl o ↦ elim (set-on m x t o) [ inl p ↦ inl p | inr e ↦ inr (0, omega arith, e) ]
+  | inr h ↦ inr (suc h.0, omega (arith, h.1), h.2)
+]
 
-pub marked-keeps : (ts : List ℕ) (m : List Bool) (t : ℕ) → On m t → On (marked m ts) t
+marked-keeps : (ts : List ℕ) (m : List Bool) (t : ℕ) → t < length m → On m t → On (marked m ts) t
 unfolding marked
-marked-keeps [] m t on = on
-marked-keeps (x ∷ ts) m t on = marked-keeps ts (set m x true) t (set_keeps m x t on)
+marked-keeps [] m t lt on = on
+marked-keeps (x ∷ ts) m t lt on = marked-keeps ts (set m x true) t (omega (arith, length-set m x true)) (grind (arith, elements))
 
-pub marked-has : (ts : List ℕ) (m : List Bool) (k t : ℕ) → k < length ts → get_or ts k 0 ≡ t → t < length m → On (marked m ts) t
+marked-has : (ts : List ℕ) (m : List Bool) (k t : ℕ) → t < length m → k < length ts → get_or ts k t ≡ t → On (marked m ts) t
 unfolding marked
-marked-has [] m k t lt e in' = absurd (omega arith)
-marked-has (x ∷ ts) m zero t lt e in' = marked-keeps ts (set m x true) t (subst (λ y. On (set m y true) t) (sym e) (get_or-set_same m t true false in'))
-marked-has (x ∷ ts) m (suc k) t lt e in' = marked-has ts (set m x true) k t (omega arith) e (omega (arith, length-set m x true))
+marked-has [] m k t lt low e = absurd (omega arith)
+marked-has (x ∷ ts) m zero t lt low e = marked-keeps ts (set m x true) t (omega (arith, length-set m x true)) (rw e (get_or-set_same m t true false lt))
+marked-has (x ∷ ts) m (suc k) t lt low e = marked-has ts (set m x true) k t (omega (arith, length-set m x true)) (omega arith) e
 
-pub marked_from : (ts : List ℕ) (m : List Bool) (t : ℕ) → On (marked m ts) t → On m t ⊎ ((k : ℕ) × (get_or ts k 0 ≡ t))
+-- the step of the loop over a node's targets, and its end
+pub marked_more : {S V : Type 0} (m : List Bool) (x : Node S V) (k : ℕ) → k < 16 → marked m (take (k + 1) (targets x)) ≡ set (marked m (take k (targets x))) (get_or x.arcs.to k 0) true
 unfolding marked
-marked_from [] m t on = inl on
-marked_from (x ∷ ts) m t on = ⊎_elim
-    (λ (o : On (set m x true) t). ⊎_elim inl (λ (e : x ≡ t). inr (0, e)) (set-from m x t o))
-    (λ h. inr (suc h.0, h.1))
-    (marked_from ts (set m x true) t on)
+marked_more m x k lt = fold_more (λ m t. set m t true) m (targets x) k 0 (omega (arith, length-targets x)) ∙ ap (λ t. set (marked m (take k (targets x))) t true) (target-at x k lt)
 
-module _ {S V : Type 0} (z : Node S V) (from : List Bool) (us : List (Node S V)) where
-  abbrev upto : ℕ → List Bool
-  upto n = fold (reach_step z from us) (replicate 256 false) (range_with_len 0 n)
+pub marked_all : {S V : Type 0} (m : List Bool) (x : Node S V) (k : ℕ) → 16 ≤ k → marked m (take k (targets x)) ≡ marked m (targets x)
+marked_all m x k all = ap (marked m) (take_all k (targets x) (omega (arith, length-targets x)))
 
-  upto-more : (n : ℕ) → upto (suc n) ≡ reach_step z from us (upto n) n
-  upto-more n = ap upto (sym (add-one n)) ∙ folded-counting (reach_step z from us) (replicate 256 false) n
+pub after-first : (from : List Bool) (a : ℕ) → get_or (drop 1 from) a false ≡ get_or from (suc a) false
+after-first [] a = refl
+after-first (b ∷ from) a = refl
 
-  step-long : (b : Bool) (m : List Bool) (ts : List ℕ) → length (cond b (marked m ts) m) ≡ length m
-  step-long true m ts = length_marked ts m
-  step-long false m ts = refl
+-- the loop's step
+pub marks-more : {S V : Type 0} (from : List Bool) (us : List (Node S V)) (m : List Bool) (a : ℕ) (x : Node S V) → a + 1 < length from → a < length us → x ≡ get_or us a x
+    → marked m (flat_map targets_if (zip (drop (a + 1) from) (drop a us))) ≡ marked (if get_or from (a + 1) false then marked m (targets x) else m) (flat_map targets_if (zip (drop (a + 1 + 1) from) (drop (a + 1) us)))
+unfolding marked
+marks-more from us m a x lt in' is = rw (drop_more from (a + 1) false lt, drop_more us a x in', ← is) (go (get_or from (a + 1) false))
+  where
+    rest : List ℕ
+    rest = flat_map targets_if (zip (drop (a + 1 + 1) from) (drop (a + 1) us))
 
-  pub upto-long : (n : ℕ) → length (upto n) ≡ 256
-  upto-long zero = length-replicate {A = Bool} 256 false
-  upto-long (suc n) = ap length (upto-more n) ∙ step-long (get_or from (n + 1) false) (upto n) (targets (get_or us n z)) ∙ upto-long n
+    go : (b : Bool) → marked m (targets_if (b, x) ++ rest) ≡ marked (if b then marked m (targets x) else m) rest
+    go true = fold-append (λ m t. set m t true) m (targets x) rest
+    go false = refl
 
-  step_keeps : (b : Bool) (m : List Bool) (ts : List ℕ) (t : ℕ) → On m t → On (cond b (marked m ts) m) t
-  step_keeps true m ts t on = marked-keeps ts m t on
-  step_keeps false m ts t on = on
+pub marks-all : {S V : Type 0} (bs : List Bool) (us : List (Node S V)) (m : List Bool) (a : ℕ) → length us ≤ a → marked m (flat_map targets_if (zip bs (drop a us))) ≡ m
+unfolding marked
+marks-all {S = S} {V = V} bs us m a all = rw (drop_all a us all) (go bs)
+  where
+    go : (bs : List Bool) → marked m (flat_map (targets_if {S = S} {V = V}) (zip bs [])) ≡ m
+    go [] = refl
+    go (b ∷ bs) = refl
 
-  step_from : (b : Bool) (m : List Bool) (ts : List ℕ) (t : ℕ) → On (cond b (marked m ts) m) t → On m t ⊎ ((b ≡ true) × ((k : ℕ) × (get_or ts k 0 ≡ t)))
-  step_from true m ts t on = ⊎_elim inl (λ h. inr (refl, h)) (marked_from ts m t on)
-  step_from false m ts t on = inl on
+module _ {S V : Type 0} (z : Node S V) where
+  targets-from : (bs : List Bool) (us : List (Node S V)) (t : ℕ) → Contains (flat_map targets_if (zip bs us)) t → (a : ℕ) × On bs a × (k : ℕ) × (get_or (targets (get_or us a z)) k 0 ≡ t)
+  targets-from [] us t c = absurd (omega (arith, c.1))
+  targets-from (b ∷ bs) [] t c = absurd (omega (arith, c.1))
+  targets-from (true ∷ bs) (u ∷ us) t c = elim (Contains-append_cases (targets u) (flat_map targets_if (zip bs us)) t c) [
+    | inl h ↦ (0, refl, h.0, get_or_default (targets u) h.0 0 t h.1 ∙ h.2)
+    | inr h ↦ (let r = targets-from bs us t h in (suc r.0, r.1, r.2, r.3))
+  ]
+  targets-from (false ∷ bs) (u ∷ us) t c = let r = targets-from bs us t c in (suc r.0, r.1, r.2, r.3)
 
-  abbrev pub Sent : ℕ → ℕ → Type 0
-  Sent n t = (a : ℕ) × (a < n) × On from (a + 1) × ((k : ℕ) × (get_or (targets (get_or us a z)) k 0 ≡ t))
+  has-targets : (bs : List Bool) (us : List (Node S V)) (a k t : ℕ) → On bs a → a < length us → k < length (targets (get_or us a z)) → get_or (targets (get_or us a z)) k 0 ≡ t → Contains (flat_map targets_if (zip bs us)) t
+  has-targets [] us a k t on lt low e = absurd (false≢true on)
+  has-targets (b ∷ bs) [] a k t on lt low e = absurd (omega arith)
+  has-targets (true ∷ bs) (u ∷ us) zero k t on lt low e = Contains-append_left (targets u) (flat_map targets_if (zip bs us)) t (k, low, get_or_default (targets u) k t 0 low ∙ e)
+  has-targets (false ∷ bs) (u ∷ us) zero k t on lt low e = absurd (false≢true on)
+  has-targets (true ∷ bs) (u ∷ us) (suc a) k t on lt low e = Contains-append_right (targets u) (flat_map targets_if (zip bs us)) t (has-targets bs us a k t on (omega arith) low e)
+  has-targets (false ∷ bs) (u ∷ us) (suc a) k t on lt low e = has-targets bs us a k t on (omega arith) low e
 
-  upto_from : (n t : ℕ) → On (upto n) t → Sent n t
-  upto_from zero t on = absurd (apart on (never 256 t))
-  upto_from (suc n) t on = ⊎_elim
-      (λ (o : On (upto n) t). (let r = upto_from n t o in (r.0, omega arith, r.2, r.3)))
-      (λ h. (n, omega arith, h.0, h.1))
-      (step_from (get_or from (n + 1) false) (upto n) (targets (get_or us n z)) t (subst (λ m. On m t) (upto-more n) on))
-
-  upto-has : (n a k t : ℕ) → a < n → On from (a + 1) → k < length (targets (get_or us a z)) → get_or (targets (get_or us a z)) k 0 ≡ t → t < 256 → On (upto n) t
-  upto-has zero a k t lt on in' e fits = absurd (omega arith)
-  upto-has (suc n) a k t lt on in' e fits = subst (λ m. On m t) (sym (upto-more n)) (⊎_elim
-      (λ (less : a < n). step_keeps (get_or from (n + 1) false) (upto n) (targets (get_or us n z)) t (upto-has n a k t less on in' e fits))
-      (λ (ge : n ≤ a).
-      let same : a ≡ n = omega arith in
-      let on' : On from (n + 1) = subst (λ i. On from (i + 1)) same on in
-      subst (λ b. On (cond b (marked (upto n) (targets (get_or us n z))) (upto n)) t) (sym on')
-      (marked-has (targets (get_or us n z)) (upto n) k t (subst (λ i. k < length (targets (get_or us i z))) same in') (subst (λ i. get_or (targets (get_or us i z)) k 0 ≡ t) same e) (omega (arith, upto-long n))))
-      (cases_lt a n))
-
-  pub marks-from : (t : ℕ) → On (reached_next z from us) t → Sent (length us) t
+  pub reached-on : (from : List Bool) (us : List (Node S V)) (t : ℕ) → On (reached_next from us) t → (a : ℕ) × On from (suc a) × (k : ℕ) × (get_or (targets (get_or us a z)) k 0 ≡ t)
   unfolding reached_next
-  marks-from t on = upto_from (length us) t on
+  reached-on from us t on = elim (marked-on (flat_map targets_if (zip (drop 1 from) us)) (replicate 256 false) t on) [
+    | inl o ↦ absurd (false≢true (sym (get_or-blank 256 t false) ∙ o))
+    | inr c ↦ (let s = targets-from (drop 1 from) us t c in (s.0, sym (after-first from s.0) ∙ s.1, s.2, s.3))
+  ]
 
-  pub marks-has : (a k t : ℕ) → a < length us → On from (a + 1) → k < length (targets (get_or us a z)) → get_or (targets (get_or us a z)) k 0 ≡ t → t < 256 → On (reached_next z from us) t
+  pub on-reached : (from : List Bool) (us : List (Node S V)) (a k t : ℕ) → t < 256 → On from (suc a) → a < length us → k < length (targets (get_or us a z)) → get_or (targets (get_or us a z)) k 0 ≡ t → On (reached_next from us) t
   unfolding reached_next
-  marks-has a k t lt on in' e fits = upto-has (length us) a k t lt on in' e fits
+  on-reached from us a k t lt on in' low e =
+      let c = has-targets (drop 1 from) us a k t (after-first from a ∙ on) in' low e in
+      marked-has (flat_map targets_if (zip (drop 1 from) us)) (replicate 256 false) c.0 t lt c.1 c.2

@@ -1,96 +1,57 @@
--- The loop that numbers the nodes with arcs
-use Rattle.std.proofs.Common.{◌≡◌, ℕ, ◌+◌, ◌-◌, ◌<◌, ◌≤◌, Bool, true, false, cond, ◌≢◌, List, map, length, get_or, take, set, replicate, filter, sym, refl, ap, ◌∙◌, ⊎_elim, arith, ne_eqb}
-use Rattle.std.proofs.lemmas.List.{get_or-map, get_or_past, length-map, get_or-replicate, length-replicate, get_or-set_same, get_or-set_other, length-set}
-use Rattle.std.proofs.lemmas.Bool.{cases_lt, cases_eq}
-use Rattle.std.proofs.lemmas.List.Filters.{length-filter_more}
-use Rattle.std.proofs.lemmas.List.FromFn.{fill_by_all}
+-- The numbers that the nodes with arcs get
+use Rattle.std.proofs.Common.{◌≡◌, ℕ, zero, suc, ◌+◌, ◌<◌, ◌≤◌, true, false, if◌then◌else◌, List, [], ◌∷◌, length, get_or, take, drop, set, replicate, filter, refl, ap, ◌∙◌, sym, inl, inr, arith}
+use Rattle.std.proofs.lemmas.Bool.{cases_Bool, cond_both, cond-true, cond-false}
+use Rattle.std.proofs.lemmas.List.{drop_all, drop_more, get_or-set_other, length-replicate, length-set}
+use Rattle.std.proofs.lemmas.Grind.{get_or-set_at}
 use Rattle.layers.specs.declared.node.Node.{Node}
-use Rattle.tidying.specs.Tidied.{lively, number_of, numbering}
+use Rattle.tidying.specs.Tidied.{lively, numbered, numbering}
+use Rattle.tidying.proofs.Lists.{get_or-blank}
 
-pub zeros : (n t : ℕ) → ◌≡◌ {A = ℕ} (get_or (replicate n 0) t 0) 0
-zeros n t = ⊎_elim (λ (lt : t < n). get_or-replicate n t 0 0 lt) (λ (ge : n ≤ t). get_or_past (replicate n 0) t 0 (omega (arith, length-replicate {A = ℕ} n 0))) (cases_lt t n)
+module _ {S V : Type 0} where
+  numbered-before : (us : List (Node S V)) (new : List ℕ) (count i t : ℕ) → t ≤ i → get_or (numbered new count i us) t 0 ≡ get_or new t 0
+  unfolding numbered
+  numbered-before [] new count i t le = refl
+  numbered-before (u ∷ us) new count i t le = cond_both (lively u) (numbered (set new (i + 1) (count + 1)) (count + 1) (i + 1) us) (numbered new count (i + 1) us) (λ ys. get_or ys t 0 ≡ get_or new t 0)
+      (λ e. numbered-before us (set new (i + 1) (count + 1)) (count + 1) (i + 1) t (omega arith) ∙ get_or-set_other new (i + 1) t (count + 1) 0 (λ e. absurd (omega arith)))
+      (λ e. numbered-before us new count (i + 1) t (omega arith))
 
-counted : (b : Bool) (n : ℕ) → cond b (n + cond b 1 0) 0 ≡ cond b (n + 1) 0
-counted true n = refl
-counted false n = refl
+  -- z stands where no node does
+  numbered-at : (z : Node S V) → lively z ≡ false → (us : List (Node S V)) (new : List ℕ) (count i a m : ℕ) → i + suc a ≡ m → i + length us < length new → ((t : ℕ) → i < t → get_or new t 0 ≡ 0)
+      → get_or (numbered new count i us) m 0 ≡ (if lively (get_or us a z) then count + suc (length (filter lively (take a us))) else 0)
+  unfolding numbered
+  numbered-at z dead [] new count i a m at fits none = none m (omega arith) ∙ sym (cond-false (lively z) _ _ dead)
+  numbered-at z dead (u ∷ us) new count i zero m at fits none = elim (cases_Bool (lively u)) [
+    | inl e ↦ rw e (numbered-before us (set new (i + 1) (count + 1)) (count + 1) (i + 1) m (omega arith) ∙ get_or-set_at new (i + 1) m (count + 1) 0 (omega arith) (omega arith))
+    | inr e ↦ rw e (numbered-before us new count (i + 1) m (omega arith) ∙ none m (omega arith))
+  ]
+  numbered-at z dead (u ∷ us) new count i (suc a) m at fits none = elim (cases_Bool (lively u)) [
+    | inl e ↦ rw e
+        (numbered-at z dead us (set new (i + 1) (count + 1)) (count + 1) (i + 1) a m (omega arith) (omega (arith, length-set new (i + 1) (count + 1)))
+        (λ t lt. get_or-set_other new (i + 1) t (count + 1) 0 (λ e. absurd (omega arith)) ∙ none t (omega arith))
+        ∙ ap (λ k. if lively (get_or us a z) then k else 0) (omega arith))
+    | inr e ↦ rw e (numbered-at z dead us new count (i + 1) a m (omega arith) (omega arith) (λ t lt. none t (omega arith)))
+  ]
 
-pub number-here : {S V : Type 0} (us : List (Node S V)) (a : ℕ) (z : Node S V) → a < length us → number_of us (a + 1) ≡ cond (lively (get_or us a z)) (length (filter lively (take a us)) + 1) 0
-unfolding number_of
-number-here us a z lt =
-    let here : a + 1 - 1 ≡ a = omega arith in
-    let n = length (filter lively (take (a + 1) us)) in
-    ap (λ b. cond b 0 (cond (get_or (map lively us) (a + 1 - 1) false) n 0)) (ne_eqb (a + 1) 0 (omega arith))
-    ∙ ap (λ k. cond (get_or (map lively us) k false) n 0) here
-    ∙ ap (λ b. cond b n 0) (get_or-map lively us a z false lt)
-    ∙ ap (λ m. cond (lively (get_or us a z)) m 0) (length-filter_more lively us a z lt)
-    ∙ counted (lively (get_or us a z)) (length (filter lively (take a us)))
+  pub number-none : (us : List (Node S V)) → get_or (numbering us) 0 0 ≡ 0
+  unfolding numbering
+  number-none us = numbered-before us (replicate 256 0) 0 0 0 (omega arith)
 
-pub number-none : {S V : Type 0} (us : List (Node S V)) (t : ℕ) → t ≤ 0 → number_of us t ≡ 0
-unfolding number_of
-number-none us t le = let e : t ≡ 0 = omega arith in ap (number_of us) e
+  pub number-at : (us : List (Node S V)) (a : ℕ) (z : Node S V) → length us < 256 → lively z ≡ false → get_or (numbering us) (suc a) 0 ≡ (if lively (get_or us a z) then suc (length (filter lively (take a us))) else 0)
+  unfolding numbering
+  number-at us a z fits dead =
+      numbered-at z dead us (replicate 256 0) 0 0 a (suc a) (omega arith) (omega (arith, length-replicate {A = ℕ} 256 0)) (λ t lt. get_or-blank {X = ℕ} 256 t 0)
+      ∙ ap (λ k. if lively (get_or us a z) then k else 0) (omega arith)
 
-pub number_past : {S V : Type 0} (us : List (Node S V)) (t : ℕ) → length us < t → number_of us t ≡ 0
-unfolding number_of
-number_past us t lt =
-    let n = length (filter lively (take t us)) in
-    ap (λ b. cond b 0 (cond (get_or (map lively us) (t - 1) false) n 0)) (ne_eqb t 0 (omega arith))
-    ∙ ap (λ b. cond b n 0) (get_or_past (map lively us) (t - 1) false (omega (arith, length-map us lively)))
+  -- the loop's step
+  pub numbered-yes : (us : List (Node S V)) (new : List ℕ) (count a : ℕ) (x : Node S V) → a < length us → x ≡ get_or us a x → lively x ≡ true
+      → numbered (set new (a + 1) (count + 1)) (count + 1) (a + 1) (drop (a + 1) us) ≡ numbered new count a (drop a us)
+  unfolding numbered
+  numbered-yes us new count a x lt is live = rw (drop_more us a x lt, ← is) (sym (cond-true (lively x) _ _ live))
 
--- the first a nodes are numbered, and count of them have arcs
-pub record Numbering {S V : Type 0} (us : List (Node S V)) (new : List ℕ) (count a : ℕ) : Type 0 where
-  pub many : count ≡ length (filter lively (take a us))
-  pub few : count ≤ a
-  pub long : length new ≡ 256
-  pub done : (t : ℕ) → t ≤ a → get_or new t 0 ≡ number_of us t
-  pub rest : (t : ℕ) → a < t → get_or new t 0 ≡ 0
+  pub numbered-no : (us : List (Node S V)) (new : List ℕ) (count a : ℕ) (x : Node S V) → a < length us → x ≡ get_or us a x → lively x ≡ false → numbered new count (a + 1) (drop (a + 1) us) ≡ numbered new count a (drop a us)
+  unfolding numbered
+  numbered-no us new count a x lt is dead = rw (drop_more us a x lt, ← is) (sym (cond-false (lively x) _ _ dead))
 
-pub numbering-none : {S V : Type 0} (us : List (Node S V)) → Numbering us (replicate 256 0) 0 0
-numbering-none us = record {
-  many = refl;
-  few = omega arith;
-  long = length-replicate {A = ℕ} 256 0;
-  done = λ t le. zeros 256 t ∙ sym (number-none us t le);
-  rest = λ t lt. zeros 256 t;
-}
-
-pub numbering-yes : {S V : Type 0} (us : List (Node S V)) (new : List ℕ) (count a : ℕ) (x : Node S V) → Numbering us new count a → a < length us → length us ≤ 128 → lively x ≡ true → x ≡ get_or us a x → Numbering us (set new (a + 1) (count + 1)) (count + 1) (a + 1)
-numbering-yes us new count a x n lt fits arcs is =
-    let here : lively (get_or us a x) ≡ true = ap lively (sym is) ∙ arcs in
-    let more : length (filter lively (take (a + 1) us)) ≡ length (filter lively (take a us)) + 1 =
-    length-filter_more lively us a x lt ∙ ap (λ b. length (filter lively (take a us)) + cond b 1 0) here in
-    let new_is : number_of us (a + 1) ≡ count + 1 =
-    number-here us a x lt ∙ ap (λ b. cond b (length (filter lively (take a us)) + 1) 0) here ∙ ap (λ m. m + 1) (sym n.many) in
-    record {
-      many = omega (arith, more, n.many);
-      few = omega (arith, n.few);
-      long = length-set new (a + 1) (count + 1) ∙ n.long;
-      done = λ t le. ⊎_elim
-          (λ (e : t ≡ a + 1). ap (λ k. get_or (set new (a + 1) (count + 1)) k 0) e ∙ get_or-set_same new (a + 1) (count + 1) 0 (omega (arith, n.long)) ∙ sym new_is ∙ ap (number_of us) (sym e))
-          (λ (ne : t ≢ a + 1). get_or-set_other new (a + 1) t (count + 1) 0 ne ∙ n.done t (omega arith))
-          (cases_eq t (a + 1));
-      rest = λ t past. (let ne : t ≢ a + 1 = omega arith in get_or-set_other new (a + 1) t (count + 1) 0 ne ∙ n.rest t (omega arith));
-    }
-
-pub numbering-no : {S V : Type 0} (us : List (Node S V)) (new : List ℕ) (count a : ℕ) (x : Node S V) → Numbering us new count a → a < length us → lively x ≡ false → x ≡ get_or us a x → Numbering us new count (a + 1)
-numbering-no us new count a x n lt no' is =
-    let here : lively (get_or us a x) ≡ false = ap lively (sym is) ∙ no' in
-    let more : length (filter lively (take (a + 1) us)) ≡ length (filter lively (take a us)) + 0 =
-    length-filter_more lively us a x lt ∙ ap (λ b. length (filter lively (take a us)) + cond b 1 0) here in
-    let new_is : number_of us (a + 1) ≡ 0 =
-    number-here us a x lt ∙ ap (λ b. cond b (length (filter lively (take a us)) + 1) 0) here in
-    record {
-      many = omega (arith, more, n.many);
-      few = omega (arith, n.few);
-      long = n.long;
-      done = λ t le. ⊎_elim
-          (λ (e : t ≡ a + 1). n.rest t (omega arith) ∙ sym new_is ∙ ap (number_of us) (sym e))
-          (λ (ne : t ≢ a + 1). n.done t (omega arith))
-          (cases_eq t (a + 1));
-      rest = λ t past. n.rest t (omega arith);
-    }
-
-pub numbering-all : {S V : Type 0} (us : List (Node S V)) (new : List ℕ) (count a : ℕ) → Numbering us new count a → length us ≤ a → new ≡ numbering us
-unfolding numbering
-numbering-all us new count a n all =
-    fill_by_all (number_of us) new 256 0 n.long
-    (λ t lt. ⊎_elim (λ (l : t < a + 1). n.done t (omega arith)) (λ (ge : a + 1 ≤ t). n.rest t (omega arith) ∙ sym (number_past us t (omega arith))) (cases_lt t (a + 1)))
+  pub numbered-all : (us : List (Node S V)) (new : List ℕ) (count a : ℕ) → length us ≤ a → numbered new count a (drop a us) ≡ new
+  unfolding numbered
+  numbered-all us new count a all = rw (drop_all a us all)

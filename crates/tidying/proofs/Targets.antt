@@ -1,34 +1,63 @@
--- Counts of arcs as sums
-use Rattle.std.proofs.Common.{◌≡◌, ℕ, zero, suc, ◌+◌, Bool, cond, not, eqb, ◌≢◌, List, [], ◌∷◌, sum_by, count_by, sym, refl, ap, ◌∙◌, arith, eq-eqb, ne_eqb}
+-- The targets of a record, and counts of arcs
+use Rattle.std.proofs.Common.{◌≡◌, ℕ, zero, suc, ◌+◌, ◌<◌, true, if◌then◌else◌, not, ◌==◌, ◌≢◌, List, [], ◌∷◌, length, get_or, sum_by, count_by, sym, refl, ap, ◌∙◌, arith}
+use Rattle.std.proofs.lemmas.Bool.Decides.{nat_tests}
+use Rattle.std.proofs.lemmas.List.FromFn.{fill_by_all, get_or-map-range_with_len}
 use Rattle.std.proofs.lemmas.List.Sums.{sum_by-cons}
 use Rattle.layers.specs.declared.node.Node.{Node}
 use Rattle.layers.specs.Net.{count_doors, count_layer}
 use Rattle.layers.specs.Targets.{targets}
 use Rattle.tidying.specs.Counted.{arcs_of, arcs_within}
+use Rattle.tidying.specs.Tidied.{lively}
 
-abbrev pub isArc : ℕ → Bool
-isArc t = not (eqb t 0)
+pub length-targets : {S V : Type 0} (x : Node S V) → length (targets x) ≡ 16
+unfolding targets
+length-targets x = refl
 
-abbrev pub oneIf : ℕ → ℕ
-oneIf t = cond (isArc t) 1 0
+pub target-at : {S V : Type 0} (x : Node S V) (k : ℕ) → k < 16 → get_or (targets x) k 0 ≡ get_or x.arcs.to k 0
+unfolding targets
+target-at x k lt = get_or-map-range_with_len (λ k. get_or x.arcs.to k 0) 0 16 k k 0 lt (omega arith)
 
-pub arc-count : (t : ℕ) → t ≢ 0 → oneIf t ≡ 1
-arc-count t ne = ap (λ b. cond (not b) 1 0) (ne_eqb t 0 ne)
+-- the sixteen targets are all that the record has
+pub targets_read : {S V : Type 0} (x : Node S V) → length x.arcs.to ≡ 16 → targets x ≡ x.arcs.to
+unfolding targets
+targets_read x long = sym (fill_by_all (λ k. get_or x.arcs.to k 0) x.arcs.to 16 0 long (λ k lt. refl))
 
-pub no-arc-count : (t : ℕ) → t ≡ 0 → oneIf t ≡ 0
-no-arc-count t e = ap (λ b. cond (not b) 1 0) (eq-eqb t 0 e)
+abbrev one_if : ℕ → ℕ
+one_if t = if not (t == 0) then 1 else 0
 
-doors-counted : (ts : List ℕ) → count_doors ts ≡ count_by isArc ts
+doors-counted : (ts : List ℕ) → count_doors ts ≡ sum_by one_if ts
 unfolding count_doors
 doors-counted [] = refl
-doors-counted (zero ∷ ts) = doors-counted ts ∙ omega (arith, sum_by-cons oneIf 0 ts, no-arc-count 0 refl)
-doors-counted (suc b ∷ ts) = ap suc (doors-counted ts) ∙ omega (arith, sum_by-cons oneIf (suc b) ts, arc-count (suc b) (λ e. absurd (omega (arith, e))))
+doors-counted (zero ∷ ts) = omega (arith, sum_by-cons one_if 0 ts, doors-counted ts)
+doors-counted (suc b ∷ ts) = grind (arith, nat_tests, sum_by-cons one_if (suc b) ts, doors-counted ts)
 
-pub arcs-counted : {S V : Type 0} (x : Node S V) → arcs_of x ≡ count_by isArc (targets x)
+pub arcs_counted : {S V : Type 0} (x : Node S V) → length x.arcs.to ≡ 16 → arcs_of x ≡ count_by (λ t. not (t == 0)) x.arcs.to
 unfolding arcs_of
-arcs-counted x = doors-counted (targets x)
+arcs_counted x long = doors-counted (targets x) ∙ ap (sum_by one_if) (targets_read x long)
 
 pub arcs-summed : {S V : Type 0} (xs : List (Node S V)) → arcs_within xs ≡ sum_by arcs_of xs
 unfolding arcs_within arcs_of count_layer
 arcs-summed [] = refl
 arcs-summed (x ∷ xs) = ap (λ n. arcs_of x + n) (arcs-summed xs) ∙ sym (sum_by-cons arcs_of x xs)
+
+-- ---- a node with arcs
+doors-have : (ts : List ℕ) → count_doors ts ≢ 0 → (k : ℕ) × (b : ℕ) × (get_or ts k 0 ≡ suc b)
+unfolding count_doors
+doors-have [] ne = absurd (ne refl)
+doors-have (zero ∷ ts) ne = let r = doors-have ts ne in (suc r.0, r.1, r.2)
+doors-have (suc b ∷ ts) ne = (0, b, refl)
+
+doors-from : (ts : List ℕ) (k b : ℕ) → get_or ts k 0 ≡ suc b → 0 < count_doors ts
+unfolding count_doors
+doors-from [] k b e = absurd (omega arith)
+doors-from (zero ∷ ts) zero b e = absurd (omega arith)
+doors-from (zero ∷ ts) (suc k) b e = doors-from ts k b e
+doors-from (suc c ∷ ts) k b e = omega arith
+
+pub lively-has : {S V : Type 0} (x : Node S V) → lively x ≡ true → (k : ℕ) × (b : ℕ) × (get_or (targets x) k 0 ≡ suc b)
+unfolding lively arcs_of
+lively-has x live = doors-have (targets x) (grind (arith, nat_tests))
+
+pub lively-from : {S V : Type 0} (x : Node S V) (k b : ℕ) → get_or (targets x) k 0 ≡ suc b → lively x ≡ true
+unfolding lively arcs_of
+lively-from x k b e = let few = doors-from (targets x) k b e in grind (arith, nat_tests)

@@ -4,10 +4,12 @@ use Rattle.layers.specs.declared.node.Node.{Node}
 use Rattle.layers.specs.Net.{count_doors, count_layer}
 use Rattle.layers.specs.Targets.{targets}
 
+-- of a record: its targets that are not 0
 unfoldable pub arcs_of : {S V : Type 0} → Node S V → ℕ
 unfolding targets count_doors
 arcs_of x = count_doors (targets x)
 
+-- of all these records together
 unfoldable pub arcs_within : {S V : Type 0} → List (Node S V) → ℕ
 unfolding targets count_layer
 arcs_within xs = count_layer (map targets xs)

@@ -1,53 +1,61 @@
--- Nodes on no path go; the rest of each layer moves together and is numbered anew.
+-- Tidying as the code does it. Nobody has to believe this page: the clauses `paths` and `words` of `tidy` say in Paths what it comes to.
 -- A layer is w records; a node's number in it is its place and one; the target 0 is no arc.
-use Rattle.std.specs.Prelude.{ℕ, zero, suc, ◌+◌, ◌-◌, Bool, true, false, cond, not, List, ◌++◌, map, length, take, drop, set, replicate, fold, filter, ◌==◌, slice_index, slice_index_or, slice_set}
-use Rattle.std.specs.List.{range_with_len}
+-- Marks and numbers stand in tables of 256 places, by a node's number.
+use Rattle.std.specs.Prelude.{ℕ, zero, suc, ◌+◌, ◌-◌, Bool, true, false, if◌then◌else◌, not, List, [], ◌∷◌, ◌++◌, map, length, take, drop, replicate, fold, filter, ◌==◌, slice_index, slice_index_or, slice_set}
+use Rattle.std.specs.List.{flat_map, range_with_len, zip}
 use Rattle.layers.specs.declared.node.Node.{Node}
 use Rattle.layers.specs.Targets.{targets, with_targets}
 use Rattle.tidying.specs.Counted.{arcs_of}
 
--- a node with arcs
+-- whether a node has arcs
 unfoldable pub lively : {S V : Type 0} → Node S V → Bool
 unfolding arcs_of
 lively x = not (arcs_of x == 0)
 
--- the marks, by number, after those of the targets ts
+-- the marks m, and those of the targets ts
 unfoldable pub marked : List Bool → List ℕ → List Bool
-marked m ts = fold (λ m t. set m t true) m ts
+marked m ts = fold (λ m t. slice_set m t true) m ts
 
-abbrev pub reach_step : {S V : Type 0} → Node S V → List Bool → List (Node S V) → List Bool → ℕ → List Bool
-reach_step z from us m a = cond (slice_index_or from (a + 1) false) (marked m (targets (slice_index_or us a z))) m
+-- the targets of the node p.1 if it is reached, as p.0 says, and else none
+abbrev pub targets_if : {S V : Type 0} → Bool × Node S V → List ℕ
+targets_if p = if p.0 then targets p.1 else []
 
--- the targets of the marked nodes of a layer
-unfoldable pub reached_next : {S V : Type 0} → Node S V → List Bool → List (Node S V) → List Bool
+-- the marks of the targets of those nodes us of a layer that have a mark
+unfoldable pub reached_next : {S V : Type 0} → List Bool → List (Node S V) → List Bool
 unfolding marked targets
-reached_next z from us = fold (reach_step z from us) (replicate 256 false) (range_with_len 0 (length us))
+reached_next from us = marked (replicate 256 false) (flat_map targets_if (zip (drop 1 from) us))
 
--- a node, if it is marked, with its targets numbered anew
+-- a node with its targets numbered anew if it is reached, as `on` says, and else z
 unfoldable pub renewed : {S V : Type 0} → Node S V → Bool → List ℕ → Node S V → Node S V
 unfolding targets
-renewed z on new x = cond on (with_targets x (map (λ t. slice_index new t) (targets x))) z
+renewed z on new x = if on then with_targets x (map (λ t. slice_index new t) (targets x)) else z
 
+-- the same of the node at place a
 abbrev pub renew_at : {S V : Type 0} → Node S V → List Bool → List ℕ → List (Node S V) → ℕ → Node S V
 renew_at z from new us a = renewed z (slice_index_or from (a + 1) false) new (slice_index_or us a z)
 
+-- the same of a layer
 unfoldable pub renewals : {S V : Type 0} → Node S V → List Bool → List ℕ → List (Node S V) → List (Node S V)
 unfolding renewed
 renewals z from new us = map (renew_at z from new us) (range_with_len 0 (length us))
 
--- those with arcs, moved together, and then places not in use
+-- the nodes with arcs, moved together, and then places not in use
 unfoldable pub together : {S V : Type 0} → Node S V → List (Node S V) → List (Node S V)
 unfolding lively
 together z us = filter lively us ++ replicate (length us - length (filter lively us)) z
 
--- the new number of the node t of a layer, 0 if it goes
-unfoldable pub number_of : {S V : Type 0} → List (Node S V) → ℕ → ℕ
+-- the numbers `new`, of which `count` are given, and those of the nodes us at place a and on: each with arcs gets the next number
+unfoldable pub numbered : {S V : Type 0} → List ℕ → ℕ → ℕ → List (Node S V) → List ℕ
 unfolding lively
-number_of us t = cond (t == 0) 0 (cond (slice_index_or (map lively us) (t - 1) false) (length (filter lively (take t us))) 0)
+numbered new count a [] = new
+numbered new count a (u ∷ us) =
+    if lively u then numbered (slice_set new (a + 1) (count + 1)) (count + 1) (a + 1) us
+    else numbered new count (a + 1) us
 
+-- the new numbers of a layer: how many nodes up to it have arcs, 0 of a node that has none
 unfoldable pub numbering : {S V : Type 0} → List (Node S V) → List ℕ
-unfolding number_of
-numbering us = map (number_of us) (range_with_len 0 256)
+unfolding numbered
+numbering us = numbered (replicate 256 0) 0 0 us
 
 -- of the end
 abbrev pub end_numbers : List ℕ
@@ -57,16 +65,16 @@ end_numbers = slice_set (replicate 256 0) 1 1
 unfoldable pub numbers : {S V : Type 0} → ℕ → Node S V → ℕ → List Bool → List (Node S V) → List ℕ
 unfolding reached_next renewals numbering
 numbers w z zero from xs = end_numbers
-numbers w z (suc r) from xs = numbering (renewals z from (numbers w z r (reached_next z from (take w xs)) (drop w xs)) (take w xs))
+numbers w z (suc r) from xs = numbering (renewals z from (numbers w z r (reached_next from (take w xs)) (drop w xs)) (take w xs))
 
 -- r layers of w records, tidied
 unfoldable pub tidied : {S V : Type 0} → ℕ → Node S V → ℕ → List Bool → List (Node S V) → List (Node S V)
 unfolding reached_next renewals together numbers
 tidied w z zero from xs = xs
 tidied w z (suc r) from xs =
-    together z (renewals z from (numbers w z r (reached_next z from (take w xs)) (drop w xs)) (take w xs))
-    ++ tidied w z r (reached_next z from (take w xs)) (drop w xs)
+    together z (renewals z from (numbers w z r (reached_next from (take w xs)) (drop w xs)) (take w xs))
+    ++ tidied w z r (reached_next from (take w xs)) (drop w xs)
 
--- the first node
+-- the mark of the first node
 abbrev pub first_mark : List Bool
 first_mark = slice_set (replicate 256 false) 1 true

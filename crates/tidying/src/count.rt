@@ -8,6 +8,7 @@ use layers::node::Node;
 use round::table::Round;
 
 /// How many arcs leave a node.
+#[tactic(auto, using(crate::proofs::Targets::arcs_counted))]
 pub fn count_of<S: Copy, V: Copy>(x: &Node<S, V>) -> usize
     ensures many { result ≡ arcs_of x.now }
     ensures few { result ≤ 16 }

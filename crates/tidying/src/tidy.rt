@@ -2,7 +2,6 @@
 //! The tables go by a target's byte, so that no target is out of their range: marks by number, and new numbers by old, of
 //! which 0, no arc, stays 0.
 ghost use Rattle.std.specs.Prelude.{◌≡◌, ◌+◌, ◌-◌, ◌*◌, ◌<◌, ◌≤◌, true, ◌++◌, map, length, take, drop, replicate, if◌then◌else◌, filter, slice_index};
-ghost use Rattle.layers.specs.declared.node.Node.{Node as ANode};
 ghost use Rattle.tidying.specs.Paths.{KeptExactly, SamePaths};
 ghost use Rattle.labels.specs.Passes.{fits};
 ghost use Rattle.layers.specs.Targets.{targets, with_targets};
@@ -14,6 +13,7 @@ use layers::node::{Arcs, Node};
 use round::table::Round;
 
 /// Whether an arc leaves the node.
+#[tactic(auto, unfolding(crate::specs::Tidied::lively))]
 fn lives<S: Copy, V: Copy>(x: &Node<S, V>) -> bool
     ensures { result ≡ lively x.now }
 {
@@ -21,6 +21,7 @@ fn lives<S: Copy, V: Copy>(x: &Node<S, V>) -> bool
 }
 
 /// Marks the targets of a node.
+#[tactic(auto, using(crate::proofs::Marks::marked_more, crate::proofs::Marks::marked_all), unfolding(crate::specs::Tidied::marked))]
 fn mark<S: Copy, V: Copy>(marks: &mut [bool; 256], x: &Node<S, V>)
     ensures { marks.new ≡ marked marks.old (targets x.now) }
 {
@@ -30,9 +31,10 @@ fn mark<S: Copy, V: Copy>(marks: &mut [bool; 256], x: &Node<S, V>)
 }
 
 /// Marks the targets of the marked nodes.
+#[tactic(auto, unfolding(crate::specs::Tidied::reached_next))]
 fn mark_next<S: Copy, V: Copy>(from: &[bool; 256], us: &[Node<S, V>]) -> [bool; 256]
     requires { length us.now ≤ 128 }
-    ensures { (z : ANode S V) → result ≡ reached_next z from.now us.now }
+    ensures { result ≡ reached_next from.now us.now }
 {
     let mut marks = [false; 256];
     for (a, x) in us.iter().enumerate() {
@@ -47,9 +49,9 @@ fn mark_next<S: Copy, V: Copy>(from: &[bool; 256], us: &[Node<S, V>]) -> [bool; 
 fn renew<S: Copy, V: Copy>(x: &Node<S, V>, new: &[u8; 256]) -> Node<S, V>
     ensures { result ≡ with_targets x.now (map (λ t. slice_index new.now t) (targets x.now)) }
 {
-    let mut to = [0; 16];
-    for (k, t) in x.arcs.to.iter().enumerate() {
-        to[k] = new[*t as usize];
+    let mut to = x.arcs.to;
+    for t in to.iter_mut() {
+        *t = new[*t as usize];
     }
     Node {
         arcs: Arcs { to },
@@ -58,6 +60,7 @@ fn renew<S: Copy, V: Copy>(x: &Node<S, V>, new: &[u8; 256]) -> Node<S, V>
 }
 
 /// Renews the nodes that are reached; the others go blank.
+#[tactic(auto, unfolding(crate::specs::Tidied::renewals))]
 fn renew_layer<S: Copy, V: Copy>(
     us: &mut [Node<S, V>],
     from: &[bool; 256],
@@ -73,6 +76,7 @@ fn renew_layer<S: Copy, V: Copy>(
 }
 
 /// The numbers that the nodes with arcs get, by the numbers that they have.
+#[tactic(auto, unfolding(crate::specs::Tidied::numbering))]
 fn number_layer<S: Copy, V: Copy>(us: &[Node<S, V>]) -> [u8; 256]
     requires { length us.now ≤ 128 }
     ensures { result ≡ numbering us.now }
@@ -104,21 +108,22 @@ fn gather_up<S: Copy, V: Copy>(us: &mut [Node<S, V>]) -> usize
     k
 }
 
-/// The places from k on are not in use.
-fn blank_from<S: Copy, V: Copy>(us: &mut [Node<S, V>], k: usize, z: Node<S, V>)
-    requires { k ≤ length us.old }
-    ensures { us.new ≡ take k us.old ++ replicate (length us.old - k) z }
+/// Writes z to each place.
+fn blank_all<S: Copy, V: Copy>(us: &mut [Node<S, V>], z: Node<S, V>)
+    ensures { us.new ≡ replicate (length us.old) z }
 {
-    for i in k..us.len() {
-        us[i] = z;
+    for x in us.iter_mut() {
+        *x = z;
     }
 }
 
+/// Moves the nodes with arcs together, and blanks the places after them.
+#[tactic(auto, unfolding(crate::specs::Tidied::together))]
 fn compact<S: Copy, V: Copy>(us: &mut [Node<S, V>], z: Node<S, V>)
     ensures { us.new ≡ together z us.old }
 {
     let k = gather_up(us);
-    blank_from(us, k, z);
+    blank_all(&mut us[k..], z);
 }
 
 /// Tidies one layer, whose marked nodes are reached; `new` has the numbers of the next.
@@ -139,6 +144,7 @@ fn tidy_layer<S: Copy, V: Copy>(
 }
 
 /// Tidies `left` layers of `w` records, the marked nodes of the first being reached, and answers its new numbers.
+#[tactic(auto, using(crate::proofs::Lists::one_more), unfolding(crate::specs::Tidied::tidied, crate::specs::Tidied::numbers))]
 fn tidy_from<S: Copy, V: Copy>(
     nodes: &mut [Node<S, V>],
     w: usize,
@@ -175,8 +181,8 @@ fn tidy_all<S: Copy, V: Copy>(nodes: &mut [Node<S, V>], n: usize, w: usize, blan
     tidy_from(nodes, w, n, &first, blank);
 }
 
-/// Tidies a diagram of the round's doors: of arcs that stay within their layers exactly the nodes on a path stay, and exactly the
-/// paths. `blank` is written to the places that are left. A list that has no room for the diagram is left alone.
+/// Tidies a diagram of the round's doors: exactly the nodes on a path stay, and exactly the paths. `blank` is written to the
+/// places that are left. A list that has no room for the diagram is left alone.
 pub fn tidy<S: Copy, V: Copy>(
     round: &Round,
     nodes: &mut [Node<S, V>],

@@ -1,5 +1,5 @@
 use Rattle.std.proofs.Common.{sym, ◌∙◌, arith}
-use Rattle.std.proofs.lemmas.List.Filters.{FiltersInPlace-all, FiltersInPlace-more_set, FiltersInPlace-more_no}
+use Rattle.std.proofs.lemmas.List.Filters.{FiltersInPlace-more_set, FiltersInPlace-more_no}
 use Rattle.tidying.proofs.tidy.gather_up.Goals as goal
 use Rattle.tidying.proofs.tidy.gather_up.Goals.{then-lives, else-lives}
 
@@ -9,8 +9,3 @@ loop-i-preserved g c =
       | then-lives w ↦ rw (w.us-is, w.k-is) (FiltersInPlace-more_set c.loop-i.invariant (omega arith) (sym c.lives.ensures ∙ w.if-lives.true) c.index-us-i.is)
       | else-lives w ↦ rw (w.us-is, w.k-is) (FiltersInPlace-more_no c.loop-i.invariant (omega arith) (sym c.lives.ensures ∙ w.if-lives.false) c.index-us-i.is)
     ]
-
-pub returns : goal.returns
-returns g c =
-    let k = c.loop-i.invariant in
-    record { front = FiltersInPlace-all k (omega arith); within = omega arith }

@@ -1,8 +1,7 @@
-use Rattle.std.proofs.Common.{◌≡◌, false, replicate, fold}
-use Rattle.std.specs.List.{range_with_len}
-use Rattle.layers.specs.declared.node.Node.{Node}
-use Rattle.tidying.specs.Tidied.{reach_step}
+use Rattle.std.proofs.Common.{◌≡◌, ◌+◌, drop}
+use Rattle.std.specs.List.{flat_map, zip}
+use Rattle.tidying.specs.Tidied.{marked, targets_if, reached_next}
 use Rattle.tidying.proofs.tidy.mark_next.Given as goal
 
 abbrev pub invariant-loop-a : goal.invariant-loop-a
-invariant-loop-a g l = ((z : Node g.row.S.Denot g.row.V.Denot) → l.marks ≡ fold (reach_step z l.from l.us) (replicate 256 false) (range_with_len 0 l.a))
+invariant-loop-a g l = marked l.marks (flat_map targets_if (zip (drop (l.a + 1) l.from) (drop l.a l.us))) ≡ reached_next l.from l.us

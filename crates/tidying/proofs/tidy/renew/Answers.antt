@@ -1,19 +1,26 @@
-use Rattle.std.proofs.Common.{◌≡◌, ℕ, ◌++◌, map, get_or, drop, set, replicate, ap, ◌∙◌, arith}
-use Rattle.std.specs.List.{range_with_len}
-use Rattle.layers.specs.Targets.{targets, with_targets}
-use Rattle.labels.proofs.Writing.{over-more}
+use Rattle.std.proofs.Common.{◌≡◌, ℕ, List, ◌++◌, map, length, get_or, take, drop, ap, ◌∙◌, append-nil, arith}
+use Rattle.std.proofs.lemmas.List.Edits.{map_over_more}
+use Rattle.std.proofs.lemmas.List.{take_all, drop_all, get_or_default, length-append, length-map, length-take, length-drop}
+use Rattle.layers.specs.Targets.{with_targets}
+use Rattle.tidying.proofs.Targets.{targets_read}
 use Rattle.tidying.proofs.tidy.renew.Goals as goal
 
-pub loop-k-preserved : goal.loop-k-preserved
-loop-k-preserved g c =
-    let k = c.loop-k.k in
-    let f : ℕ → ℕ = λ k. get_or c.args.new.now (get_or c.args.x.now.arcs.to k 0) 0 in
-    ap (λ ts. set ts k (f k)) c.loop-k.invariant ∙ over-more f (replicate {A = ℕ} 16 0) k c.loop-k-test.true
+as-long : (f : ℕ → ℕ) (xs ys : List ℕ) (i : ℕ) → ys ≡ map f (take i xs) ++ drop i xs → length xs ≡ length ys
+as-long f xs ys i e = omega (arith, ap length e, length-append (map f (take i xs)) (drop i xs), length-map (take i xs) f, length-take i xs, length-drop i xs)
+
+pub loop-t-preserved : goal.loop-t-preserved
+loop-t-preserved g c =
+    let f : ℕ → ℕ = λ t. get_or c.args.new.now t 0 in
+    let xs = c.args.x.now.arcs.to in
+    let ys = c.loop-t.t-items in
+    let i = c.loop-t.t-index in
+    let long = as-long f xs ys i c.loop-t.invariant in
+    map_over_more f xs ys i (get_or ys i 0) (omega arith) c.loop-t.invariant (get_or_default ys i 0 (get_or ys i 0) (omega arith))
 
 pub returns : goal.returns
-unfolding targets
 returns g c =
-    let x = c.args.x.now in
-    let f : ℕ → ℕ = λ k. get_or c.args.new.now (get_or x.arcs.to k 0) 0 in
-    let all : c.loop-k.k ≡ 16 = omega arith in
-    ap (with_targets x) (c.loop-k.invariant ∙ ap (λ k. map f (range_with_len 0 k) ++ drop k (replicate {A = ℕ} 16 0)) all)
+    let f : ℕ → ℕ = λ t. get_or c.args.new.now t 0 in
+    let xs = c.args.x.now.arcs.to in
+    let i = c.loop-t.t-index in
+    let long : length xs ≡ 16 = as-long f xs c.loop-t.t-items i c.loop-t.invariant ∙ omega arith in
+    ap (with_targets c.args.x.now) (c.loop-t.invariant ∙ rw (take_all i xs (omega arith), drop_all i xs (omega arith), targets_read c.args.x.now long) (append-nil (map f xs)))

@@ -1,6 +1,5 @@
-use Rattle.std.proofs.Common.{◌≡◌, ℕ, ◌++◌, map, get_or, drop, replicate}
-use Rattle.std.specs.List.{range_with_len}
+use Rattle.std.proofs.Common.{◌≡◌, ◌++◌, map, get_or, take, drop}
 use Rattle.tidying.proofs.tidy.renew.Given as goal
 
-abbrev pub invariant-loop-k : goal.invariant-loop-k
-invariant-loop-k g l = l.to ≡ map (λ k. get_or l.new (get_or l.x.arcs.to k 0) 0) (range_with_len 0 l.k) ++ drop l.k (replicate {A = ℕ} 16 0)
+abbrev pub invariant-loop-t : goal.invariant-loop-t
+invariant-loop-t g l = l.t-items ≡ map (λ t. get_or l.new t 0) (take l.t-index l.x.arcs.to) ++ drop l.t-index l.x.arcs.to

@@ -1,0 +1,26 @@
+-- Lists read with the element that stands past their end
+use Rattle.std.proofs.Common.{◌≡◌, ℕ, zero, suc, List, [], ◌∷◌, ◌++◌, ◌+◌, ◌-◌, ◌*◌, ◌≢◌, ◌⊎◌, map, get_or, replicate, refl, sym, inl, inr, suc-mul, arith}
+
+pub get_or-blank : {X : Type 0} (n i : ℕ) (z : X) → get_or (replicate n z) i z ≡ z
+get_or-blank zero i z = refl
+get_or-blank (suc n) zero z = refl
+get_or-blank (suc n) (suc i) z = get_or-blank n i z
+
+pub get_or-filled : {X : Type 0} (xs : List X) (n i : ℕ) (z : X) → get_or (xs ++ replicate n z) i z ≡ get_or xs i z
+get_or-filled [] n i z = get_or-blank n i z
+get_or-filled (x ∷ xs) n zero z = refl
+get_or-filled (x ∷ xs) n (suc i) z = get_or-filled xs n i z
+
+pub get_or-mapped : {X Y : Type 0} (f : X → Y) (xs : List X) (i : ℕ) (d : X) (e : Y) → f d ≡ e → get_or (map f xs) i e ≡ f (get_or xs i d)
+get_or-mapped f [] i d e h = sym h
+get_or-mapped f (x ∷ xs) zero d e h = refl
+get_or-mapped f (x ∷ xs) (suc i) d e h = get_or-mapped f xs i d e h
+
+pub zero-or-suc : (n : ℕ) → (n ≡ 0) ⊎ ((m : ℕ) × (n ≡ suc m))
+zero-or-suc zero = inl refl
+zero-or-suc (suc m) = inr (m, refl)
+
+-- one layer more
+pub one_more : (left w : ℕ) → left ≢ 0 → left * w ≡ (left - 1) * w + w
+one_more zero w ne = absurd (ne refl)
+one_more (suc n) w ne = let e : suc n - 1 ≡ n = omega arith in rw e (omega (arith, suc-mul n w))

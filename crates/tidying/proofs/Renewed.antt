@@ -1,0 +1,99 @@
+-- The records of a layer, renewed by the numbers of the next, and the numbers that they get
+use Rattle.std.proofs.Common.{◌≡◌, ℕ, zero, suc, ◌<◌, Bool, true, false, if◌then◌else◌, ◌≢◌, List, map, length, get_or, take, drop, filter, sym, refl, ap, ◌∙◌, inl, inr, add-one, arith}
+use Rattle.std.proofs.lemmas.Bool.{cases_Bool, cases_lt, false_from_ne_true, false≢true, true_from_ne_false, true≢false}
+use Rattle.std.proofs.lemmas.List.{get_or_past, length-take}
+use Rattle.std.proofs.lemmas.List.FromFn.{get_or-map-range_with_len, length-map-range_with_len}
+use Rattle.layers.specs.declared.node.Node.{Node}
+use Rattle.layers.specs.Targets.{targets, with_targets}
+use Rattle.tidying.specs.Tidied.{lively, reached_next, renewed, renew_at, renewals, numbers}
+use Rattle.tidying.specs.Paths.{Bare}
+use Rattle.tidying.proofs.Lists.{get_or-mapped, zero-or-suc}
+use Rattle.tidying.proofs.Marks.{On}
+use Rattle.tidying.proofs.Numbers.{number-at, number-none}
+use Rattle.tidying.proofs.Targets.{lively-has, lively-from}
+
+module _ {S V : Type 0} (z : Node S V) (new : List ℕ) (x : Node S V) where
+  pub renewed-on : (b : Bool) → b ≡ true → renewed z b new x ≡ with_targets x (map (λ t. get_or new t 0) (targets x))
+  unfolding renewed
+  renewed-on true e = refl
+  renewed-on false e = absurd (false≢true e)
+
+  pub renewed-off : (b : Bool) → b ≡ false → renewed z b new x ≡ z
+  unfolding renewed
+  renewed-off true e = absurd (true≢false e)
+  renewed-off false e = refl
+
+module _ {S V : Type 0} (w : ℕ) (z : Node S V) (bare : Bare z) (small : w < 256) where
+  pub dead : lively z ≡ false
+  dead = false_from_ne_true (lively z) (λ live. let s = lively-has z live in absurd (omega (arith, bare s.0, s.2)))
+
+  -- an arc's node stands within the layer, and its door within the doors
+  pub arc-in : (us : List (Node S V)) (a k b : ℕ) → get_or (targets (get_or us a z)) k 0 ≡ suc b → (a < length us) × (k < length (targets (get_or us a z)))
+  arc-in us a k b e = (
+    elim (cases_lt a (length us)) [ inl lt ↦ lt | inr ge ↦ absurd (let none = ap (λ x. get_or (targets x) k 0) (get_or_past us a z ge) in omega (arith, none, bare k, e)) ],
+    elim (cases_lt k (length (targets (get_or us a z)))) [ inl lt ↦ lt | inr ge ↦ absurd (omega (arith, get_or_past (targets (get_or us a z)) k 0 ge, e)) ],
+  )
+
+  pub numbers-zero : (r : ℕ) (from : List Bool) (xs : List (Node S V)) → get_or (numbers w z r from xs) 0 0 ≡ 0
+  unfolding numbers
+  numbers-zero zero from xs = refl
+  numbers-zero (suc r) from xs = number-none (renewals z from (numbers w z r (reached_next from (take w xs)) (drop w xs)) (take w xs))
+
+  -- ---- the first of r + 1 layers
+  module _ (r : ℕ) (from : List Bool) (xs : List (Node S V)) where
+    abbrev us : List (Node S V)
+    us = take w xs
+
+    abbrev new : List ℕ
+    new = numbers w z r (reached_next from us) (drop w xs)
+
+    abbrev pub renewed-layer : List (Node S V)
+    renewed-layer = renewals z from new us
+
+    long : length renewed-layer ≡ length us
+    unfolding renewals
+    long = length-map-range_with_len (renew_at z from new us) 0 (length us)
+
+    at : (a : ℕ) → a < length us → get_or renewed-layer a z ≡ renewed z (get_or from (suc a) false) new (get_or us a z)
+    unfolding renewals
+    at a lt = get_or-map-range_with_len (renew_at z from new us) 0 (length us) a a z lt (omega arith) ∙ ap (λ n. renewed z (get_or from n false) new (get_or us a z)) (add-one a)
+
+    off : (a : ℕ) → get_or from (suc a) false ≡ false → get_or renewed-layer a z ≡ z
+    off a e = elim (cases_lt a (length us)) [ inl lt ↦ at a lt ∙ renewed-off z new (get_or us a z) (get_or from (suc a) false) e | inr ge ↦ get_or_past renewed-layer a z (omega (arith, long)) ]
+
+    pub renewed-sent : (a k : ℕ) → On from (suc a) → get_or (targets (get_or renewed-layer a z)) k 0 ≡ get_or new (get_or (targets (get_or us a z)) k 0) 0
+    renewed-sent a k on = elim (cases_lt a (length us)) [
+      | inl lt ↦ ap (λ x. get_or (targets x) k 0) (at a lt ∙ renewed-on z new (get_or us a z) (get_or from (suc a) false) on) ∙ with-new (get_or us a z)
+      | inr ge ↦ rw (get_or_past us a z ge, get_or_past renewed-layer a z (omega (arith, long)), bare k) (sym (numbers-zero r (reached_next from us) (drop w xs)))
+    ]
+      where
+        with-new : (x : Node S V) → get_or (targets (with_targets x (map (λ t. get_or new t 0) (targets x)))) k 0 ≡ get_or new (get_or (targets x) k 0) 0
+        with-new x = unfold targets in get_or-mapped (λ t. get_or new t 0) (targets x) k 0 0 (numbers-zero r (reached_next from us) (drop w xs))
+
+    -- with arcs are those that are reached and have an arc to a node with a number
+    pub renewed-live : (a : ℕ) → lively (get_or renewed-layer a z) ≡ true → On from (suc a) × (k : ℕ) × (b : ℕ) × (get_or (targets (get_or us a z)) k 0 ≡ suc b) × (get_or new (suc b) 0 ≢ 0)
+    renewed-live a live = elim (cases_Bool (get_or from (suc a) false)) [
+      | inl on ↦
+          (let s = lively-has (get_or renewed-layer a z) live in
+          let n = sym (renewed-sent a s.0 on) ∙ s.2 in
+          elim (zero-or-suc (get_or (targets (get_or us a z)) s.0 0)) [
+            | inl e ↦ absurd (omega (arith, numbers-zero r (reached_next from us) (drop w xs), ap (λ t. get_or new t 0) e, n))
+            | inr h ↦ (on, s.0, h.0, h.1, λ none. absurd (omega (arith, none, ap (λ t. get_or new t 0) h.1, n)))
+          ])
+      | inr out ↦ absurd (true≢false (sym live ∙ ap lively (off a out) ∙ dead))
+    ]
+
+    pub number-is : (a : ℕ) → get_or (numbers w z (suc r) from xs) (suc a) 0 ≡ (if lively (get_or renewed-layer a z) then suc (length (filter lively (take a renewed-layer))) else 0)
+    unfolding numbers
+    number-is a = number-at renewed-layer a z (omega (arith, long, length-take w xs)) dead
+
+    pub number-live : (a : ℕ) → get_or (numbers w z (suc r) from xs) (suc a) 0 ≢ 0 → On from (suc a) × (k : ℕ) × (b : ℕ) × (get_or (targets (get_or us a z)) k 0 ≡ suc b) × (get_or new (suc b) 0 ≢ 0)
+    number-live a ne = renewed-live a (true_from_ne_false (lively (get_or renewed-layer a z)) (λ out. ne (number-is a ∙ rw out)))
+
+    pub live-number : (a k b : ℕ) → On from (suc a) → get_or (targets (get_or us a z)) k 0 ≡ suc b → get_or new (suc b) 0 ≢ 0 → get_or (numbers w z (suc r) from xs) (suc a) 0 ≢ 0
+    live-number a k b on e ne none = elim (zero-or-suc (get_or new (suc b) 0)) [
+      | inl o ↦ ne o
+      | inr h ↦
+          (let l = lively-from (get_or renewed-layer a z) k h.0 (renewed-sent a k on ∙ ap (λ t. get_or new t 0) e ∙ h.1) in
+          omega (arith, none, number-is a, ap (λ (q : Bool). if q then suc (length (filter lively (take a renewed-layer))) else 0) l))
+    ]

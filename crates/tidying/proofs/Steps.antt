@@ -1,0 +1,53 @@
+-- Tidying, one layer more
+use Rattle.std.proofs.Common.{◌≡◌, ℕ, zero, suc, ◌+◌, ◌-◌, ◌*◌, ◌≤◌, Bool, ◌≢◌, List, ◌++◌, length, take, drop, replicate, filter, refl, suc-mul, arith}
+use Rattle.std.proofs.lemmas.List.{drop-drop, drop_at, length-append, length-drop, length-replicate, length-take-le, take_at}
+use Rattle.std.proofs.lemmas.List.FromFn.{length-map-range_with_len}
+use Rattle.std.proofs.lemmas.List.Sums.{count_by-le-length, length-filter}
+use Rattle.layers.specs.declared.node.Node.{Node}
+use Rattle.tidying.specs.Tidied.{lively, reached_next, renew_at, numbers, tidied, together, renewals, numbering}
+
+-- us is the first layer, with `new` the numbers of the next, and ys what is left of the others
+pub record Step {S V : Type 0} (w : ℕ) (z : Node S V) (left : ℕ) (from : List Bool) (xs us : List (Node S V)) (new : List ℕ) (ys : List (Node S V)) : Type 0 where
+  pub some : left ≢ 0
+  pub front : us ≡ take w xs
+  pub numbers_are : new ≡ numbers w z (left - 1) (reached_next from us) (drop w xs)
+  pub rest : ys ≡ tidied w z (left - 1) (reached_next from us) (drop w xs)
+
+module _ {S V : Type 0} (w : ℕ) (z : Node S V) where
+  pub numbers-step : (left : ℕ) (from : List Bool) (xs us : List (Node S V)) (new : List ℕ) (ys : List (Node S V)) → Step w z left from xs us new ys → numbering (renewals z from new us) ≡ numbers w z left from xs
+  unfolding numbers
+  numbers-step zero from xs us new ys s = absurd (s.some refl)
+  numbers-step (suc n) from xs us new ys s = let e : suc n - 1 ≡ n = omega arith in rw (s.numbers_are, s.front, e)
+
+  pub tidied-step : (left : ℕ) (from : List Bool) (xs us : List (Node S V)) (new : List ℕ) (ys : List (Node S V)) → Step w z left from xs us new ys → together z (renewals z from new us) ++ ys ≡ tidied w z left from xs
+  unfolding tidied
+  tidied-step zero from xs us new ys s = absurd (s.some refl)
+  tidied-step (suc n) from xs us new ys s = let e : suc n - 1 ≡ n = omega arith in rw (s.numbers_are, s.rest, s.front, e)
+
+  -- the first of r + 1 layers, tidied
+  abbrev pub block : ℕ → List Bool → List (Node S V) → List (Node S V)
+  block r from xs = together z (renewals z from (numbers w z r (reached_next from (take w xs)) (drop w xs)) (take w xs))
+
+  pub block-long : (r : ℕ) (from : List Bool) (xs : List (Node S V)) → w ≤ length xs → length (block r from xs) ≡ w
+  unfolding together renewals
+  block-long r from xs fits =
+      let us = renewals z from (numbers w z r (reached_next from (take w xs)) (drop w xs)) (take w xs) in
+      let n = length us - length (filter lively us) in
+      let many = length-map-range_with_len (renew_at z from (numbers w z r (reached_next from (take w xs)) (drop w xs)) (take w xs)) 0 (length (take w xs)) in
+      omega (arith, length-append (filter lively us) (replicate n z), length-replicate n z, length-filter lively us, count_by-le-length lively us, many, length-take-le w xs fits)
+
+  pub front : (r : ℕ) (from : List Bool) (xs : List (Node S V)) → w ≤ length xs → take w (tidied w z (suc r) from xs) ≡ block r from xs
+  unfolding tidied
+  front r from xs fits = take_at (block r from xs) (tidied w z r (reached_next from (take w xs)) (drop w xs)) w (block-long r from xs fits)
+
+  pub back : (r : ℕ) (from : List Bool) (xs : List (Node S V)) → w ≤ length xs → drop w (tidied w z (suc r) from xs) ≡ tidied w z r (reached_next from (take w xs)) (drop w xs)
+  unfolding tidied
+  back r from xs fits = drop_at (block r from xs) (tidied w z r (reached_next from (take w xs)) (drop w xs)) w (block-long r from xs fits)
+
+  -- what stands after the layers
+  pub tail-is : (r : ℕ) (from : List Bool) (xs : List (Node S V)) → r * w ≤ length xs → drop (r * w) (tidied w z r from xs) ≡ drop (r * w) xs
+  tail-is zero from xs fits = unfold tidied in refl
+  tail-is (suc r) from xs fits =
+      let e : suc r * w ≡ w + r * w = omega (arith, suc-mul r w) in
+      rw (e, ← drop-drop (r * w) w (tidied w z (suc r) from xs), back r from xs (omega arith), ← drop-drop (r * w) w xs)
+      (tail-is r (reached_next from (take w xs)) (drop w xs) (omega (arith, length-drop w xs)))
