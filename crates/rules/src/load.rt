@@ -10,7 +10,7 @@ pub struct Load<'a> {
 }
 
 /// The least and the greatest load that the van may have.
-#[derive(Clone, Copy)]
+#[derive(Clone, Copy, Debug, PartialEq, Eq)]
 pub struct Interval {
     pub low: i32,
     pub high: i32,
