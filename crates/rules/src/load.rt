@@ -4,7 +4,7 @@ use round::table::Round;
 pub mod rule;
 
 /// The load of a round, of whose doors only their change counts.
-#[derive(Clone, Copy)]
+#[derive(Clone, Copy, Debug, PartialEq, Eq)]
 pub struct Load<'a> {
     pub round: &'a Round,
 }
