@@ -11,20 +11,21 @@ pub record Door (n j : ℕ) : Type 0 where
   pub low : 1 ≤ j
   pub high : j ≤ n
 
--- the same, as a test
+-- whether j is one of them
 abbrev pub is_door : ℕ → ℕ → Bool
 is_door n j = nat_le 1 j && nat_le j n
 
 -- w is a list of the doors 1 to n, none twice
 abbrev pub PartOrder : ℕ → List ℕ → Type 0
 PartOrder n [] = Unit {0}
-PartOrder n (j ∷ w) = Door n j × (In j w → ⊥) × PartOrder n w
+PartOrder n (j ∷ w) = Door n j × (¬ In j w) × PartOrder n w
 
--- whether j stands in w, and whether w is a part order: the same, as tests
+-- whether j stands in w
 abbrev pub is_in : ℕ → List ℕ → Bool
 is_in j [] = false
 is_in j (x ∷ w) = j == x || is_in j w
 
+-- whether w is a part order
 abbrev pub is_part_order : ℕ → List ℕ → Bool
 is_part_order n [] = true
 is_part_order n (j ∷ w) = is_door n j && (not (is_in j w) && is_part_order n w)
@@ -33,7 +34,7 @@ is_part_order n (j ∷ w) = is_door n j && (not (is_in j w) && is_part_order n w
 pub record Next (n : ℕ) (w : List ℕ) (j : ℕ) : Type 0 where
   pub part : PartOrder n w
   pub door : Door n j
-  pub new : In j w → ⊥
+  pub new : ¬ In j w
 
 -- P holds at each door j of w, with the doors u ahead of it
 abbrev pub AtEach : (List ℕ → ℕ → Type 0) → List ℕ → Type 0

@@ -1,17 +1,14 @@
--- Sets of doors as numbers: the binary digit j of m says whether door j is in the set m, and digit 0 stands for the yard.
-use Rattle.std.specs.Prelude.{◌≡◌, ℕ, ◌/◌, ◌%◌, ◌^◌, Bool, List, [], ◌∷◌, ◌==◌, bit_or}
-
--- the digit for door j, 0 or 1
-abbrev pub digit : ℕ → ℕ → ℕ
-digit m j = m / 2 ^ j % 2
+-- Sets of doors as numbers: bit j of m says whether door j is in the set m, and bit 0 stands for the yard.
+use Rattle.std.specs.Prelude.{◌≡◌, ℕ, ◌^◌, Bool, List, [], ◌∷◌, ◌==◌, bit_or}
+use Rattle.std.specs.Int.{bit_at}
 
 -- door j is in the set m
 abbrev pub Has : ℕ → ℕ → Type 0
-Has m j = digit m j ≡ 1
+Has m j = bit_at m j ≡ 1
 
 -- the same, as a test
 abbrev pub has : ℕ → ℕ → Bool
-has m j = digit m j == 1
+has m j = bit_at m j == 1
 
 -- the set of the doors of w
 abbrev pub set_of : List ℕ → ℕ

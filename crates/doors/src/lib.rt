@@ -2,23 +2,16 @@
 #![tactic(auto)]
 
 ghost use Rattle.std.specs.Prelude.{◌≡◌, ◌^◌, ◌<◌, ◌≤◌, bit_or};
-ghost use Rattle.doors.specs.Sets.{digit, has};
+ghost use Rattle.doors.specs.Sets.{has};
 
 /// A set of places: bit j stands for door j, and bit 0 for the yard.
 pub type DoorSet = u32;
 
-/// The bit of the set for j; a mask has none for a number above 31.
-fn bit(set: DoorSet, j: usize) -> u32
-    ensures { result ≡ digit set j }
-{
-    if j < 32 { (set >> j) & 1 } else { 0 }
-}
-
-/// Whether j is in the set.
+/// Whether j is in the set; no number above 31 is.
 pub fn contains(set: DoorSet, j: usize) -> bool
     ensures { result ≡ has set j }
 {
-    bit(set, j) == 1
+    j < 32 && (set >> j) & 1 == 1
 }
 
 /// The set and j; it stays as it is for a number above 31.

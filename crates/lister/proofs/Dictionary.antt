@@ -1,8 +1,8 @@
 -- Dictionary order: the next list and the last one, by their first number and the rest.
-use Rattle.std.proofs.Common.{◌≡◌, ℕ, zero, suc, ◌+◌, ◌-◌, ◌<◌, ◌≤◌, ◌⊎◌, leb, List, [], ◌∷◌, ◌++◌, length, take, drop, get_or, set, remove, reverse, swap, All, sym, refl, ap, ◌∙◌, subst, take_all, drop_of_length-le, append-nil, add-one, ap₂, le_antisymm, inl, inr, ⊎_elim, arith, le_refl, leb-true, leb-false}
+use Rattle.std.proofs.Common.{◌≡◌, ℕ, zero, suc, ◌+◌, ◌-◌, ◌<◌, ◌≤◌, ◌⊎◌, List, [], ◌∷◌, ◌++◌, length, drop, get_or, set, remove, reverse, swap, All, sym, refl, ap, ◌∙◌, take_all, drop_of_length-le, append-nil, add-one, inl, inr, ⊎_elim, arith, le_refl}
 use borrow.Rule.Slice.PartMut.{mid_of, put_mid}
 use Rattle.std.specs.List.Sorted.{IsPermutation}
-use Rattle.std.proofs.lemmas.Bool.{cases_Bool, cases_lt}
+use Rattle.std.proofs.lemmas.Bool.{cases_order, cases_lt}
 use Rattle.std.proofs.lemmas.Grind.{common_steps, get_or_default_zero}
 use Rattle.std.proofs.lemmas.List.{get_or-reverse, length-reverse, length-set}
 use Rattle.std.proofs.lemmas.List.Elements.{All-cons, All-head, All-from_get_or}
@@ -16,66 +16,50 @@ pub trichotomy : (v w : List ℕ) → ComesBefore v w ⊎ ((v ≡ w) ⊎ ComesBe
 trichotomy [] [] = inr (inl refl)
 trichotomy [] (y ∷ w) = inl tt
 trichotomy (x ∷ v) [] = inr (inr tt)
-trichotomy (x ∷ v) (y ∷ w) = go (cases_lt x y) (cases_lt y x) (trichotomy v w)
-  where
-    go : (x < y) ⊎ (y ≤ x) → (y < x) ⊎ (x ≤ y) → ComesBefore v w ⊎ ((v ≡ w) ⊎ ComesBefore w v)
-        → ComesBefore (x ∷ v) (y ∷ w) ⊎ ((◌≡◌ {A = List ℕ} (x ∷ v) (y ∷ w)) ⊎ ComesBefore (y ∷ w) (x ∷ v))
-    go (inl l) m t = inl (inl l)
-    go (inr l) (inl m) t = inr (inr (inl m))
-    go (inr l) (inr m) (inl b) = inl (inr (le_antisymm m l, b))
-    go (inr l) (inr m) (inr (inl e)) = inr (inl (ap₂ (λ (i : ℕ) (u : List ℕ). i ∷ u) (le_antisymm m l) e))
-    go (inr l) (inr m) (inr (inr b)) = inr (inr (inr (le_antisymm l m, b)))
+trichotomy (x ∷ v) (y ∷ w) = grind (arith, cases_order x y, trichotomy v w)
 
 pub before-trans : (u v w : List ℕ) → ComesBefore u v → ComesBefore v w → ComesBefore u w
-before-trans u [] w a b = absurd (none-before u a)
-  where
-    none-before : (u : List ℕ) → ComesBefore u [] → ⊥
-    none-before [] a = a
-    none-before (x ∷ u) a = a
+before-trans [] [] w a b = absurd a
+before-trans (x ∷ u) [] w a b = absurd a
 before-trans u (y ∷ v) [] a b = absurd b
 before-trans [] (y ∷ v) (z ∷ w) a b = tt
-before-trans (x ∷ u) (y ∷ v) (z ∷ w) (inl a) (inl b) = inl (omega arith)
-before-trans (x ∷ u) (y ∷ v) (z ∷ w) (inl a) (inr b) = inl (omega (arith, b.0))
-before-trans (x ∷ u) (y ∷ v) (z ∷ w) (inr a) (inl b) = inl (omega (arith, a.0))
-before-trans (x ∷ u) (y ∷ v) (z ∷ w) (inr a) (inr b) = inr (a.0 ∙ b.0, before-trans u v w a.1 b.1)
+before-trans (x ∷ u) (y ∷ v) (z ∷ w) a b = grind (arith, before-trans u v w)
 
 -- ---- the last list
 
 last-none : IsLast []
 last-none = record { none_after = none }
   where
-    none : (u : List ℕ) → IsPermutation [] u → ComesBefore [] u → ⊥
+    none : (u : List ℕ) → IsPermutation [] u → ¬ ComesBefore [] u
     none [] p a = a
-    none (z ∷ u) p a = absurd (omega (arith, length_permutation [] (z ∷ u) p))
+    none (z ∷ u) p a = omega (arith, length_permutation [] (z ∷ u) p)
 
 -- the same with one more number ahead
 pub next-led : (x : ℕ) (v w : List ℕ) → IsNext v w → IsNext (x ∷ v) (x ∷ w)
 next-led x v w h = record { after = inr (refl, h.after); none_between = none }
   where
-    none : (u : List ℕ) → IsPermutation (x ∷ v) u → ComesBefore (x ∷ v) u → ComesBefore u (x ∷ w) → ⊥
+    none : (u : List ℕ) → IsPermutation (x ∷ v) u → ComesBefore (x ∷ v) u → ¬ ComesBefore u (x ∷ w)
     none [] p a b = a
-    none (z ∷ u) p (inl l) (inl m) = absurd (omega arith)
-    none (z ∷ u) p (inl l) (inr m) = absurd (omega (arith, m.0))
-    none (z ∷ u) p (inr l) (inl m) = absurd (omega (arith, l.0))
-    none (z ∷ u) p (inr l) (inr m) = h.none_between u (unled x v u (subst (λ (k : ℕ). IsPermutation (x ∷ v) (k ∷ u)) (sym l.0) p)) l.1 m.1
+    none (z ∷ u) p a b = grind (arith, unled x z v u, h.none_between u)
+
+-- a number of a list that has the numbers of x ∷ v, where P holds of those
+held : (P : ℕ → Type 0) (x z : ℕ) (v u : List ℕ) → P x → All P v → IsPermutation (x ∷ v) (z ∷ u) → P z
+held P x z v u a h p = All-head P z u (All-permutation P (x ∷ v) (z ∷ u) p (All-cons P x v a h))
 
 -- none comes after, if no number is above the first and none comes after the rest
 pub last-led : (x : ℕ) (v : List ℕ) → All (λ j. j ≤ x) v → IsLast v → IsLast (x ∷ v)
 last-led x v h l = record { none_after = none }
   where
-    none : (u : List ℕ) → IsPermutation (x ∷ v) u → ComesBefore (x ∷ v) u → ⊥
+    none : (u : List ℕ) → IsPermutation (x ∷ v) u → ¬ ComesBefore (x ∷ v) u
     none [] p a = a
-    none (z ∷ u) p (inl a) =
-        let low : z ≤ x = All-head (λ j. j ≤ x) z u (All-permutation (λ j. j ≤ x) (x ∷ v) (z ∷ u) p (All-cons (λ j. j ≤ x) x v (le_refl x) h)) in
-        absurd (omega arith)
-    none (z ∷ u) p (inr a) = l.none_after u (unled x v u (subst (λ (k : ℕ). IsPermutation (x ∷ v) (k ∷ u)) (sym a.0) p)) a.1
+    none (z ∷ u) p a = let low = held (λ j. j ≤ x) x z v u (le_refl x) h p in grind (arith, unled x z v u, l.none_after u)
 
 last-rest : (x : ℕ) (v : List ℕ) → IsLast (x ∷ v) → IsLast v
 last-rest x v l = record { none_after = λ u p a. l.none_after (x ∷ u) (IsPermutation-cons x v u p) (inr (refl, a)) }
 
 -- no number of the rest is above the first one: else it would go ahead
 first-high : (x : ℕ) (v : List ℕ) (j : ℕ) → IsLast (x ∷ v) → j < length v → get_or v j 0 ≤ x
-first-high x v j l h = ⊎_elim (leb-true y x) (λ e. absurd (higher (leb-false y x e))) (cases_Bool (leb y x))
+first-high x v j l h = ⊎_elim (λ a. absurd (higher a)) (λ e. e) (cases_lt x y)
   where
     y : ℕ
     y = get_or v j 0
@@ -89,7 +73,7 @@ first-high x v j l h = ⊎_elim (leb-true y x) (λ e. absurd (higher (leb-false 
     led : IsPermutation (x ∷ v) (y ∷ x ∷ rest)
     led = IsPermutation-trans (x ∷ v) (x ∷ y ∷ rest) (y ∷ x ∷ rest) (IsPermutation-cons x v (y ∷ rest) out) (IsPermutation-swap (x ∷ y ∷ rest) (y ∷ x ∷ rest) 0 1 (omega arith) (omega arith) refl)
 
-    higher : x < y → ⊥
+    higher : ¬ (x < y)
     higher a = l.none_after (y ∷ x ∷ rest) led (inl a)
 
 -- the numbers of the last list go down
@@ -101,15 +85,13 @@ falls (x ∷ v) l (suc i) zero h e = absurd (omega arith)
 falls (x ∷ v) l (suc i) (suc j) h e = falls v (last-rest x v l) i j (omega arith) (omega arith)
 
 -- none comes before a list that goes up
-pub none_before : (v : List ℕ) → ((i j : ℕ) → i ≤ j → j < length v → get_or v i 0 ≤ get_or v j 0) → (u : List ℕ) → IsPermutation v u → ComesBefore u v → ⊥
+pub none_before : (v : List ℕ) → ((i j : ℕ) → i ≤ j → j < length v → get_or v i 0 ≤ get_or v j 0) → (u : List ℕ) → IsPermutation v u → ¬ ComesBefore u v
 none_before [] up [] p b = b
 none_before [] up (z ∷ u) p b = b
 none_before (x ∷ v) up [] p b = absurd (omega (arith, length_permutation (x ∷ v) [] p))
-none_before (x ∷ v) up (z ∷ u) p (inl b) =
-    let high : x ≤ z = All-head (λ j. x ≤ j) z u (All-permutation (λ j. x ≤ j) (x ∷ v) (z ∷ u) p (All-from_get_or (λ j. x ≤ j) (x ∷ v) 0 (λ i h. up 0 i (omega arith) h))) in
-    absurd (omega arith)
-none_before (x ∷ v) up (z ∷ u) p (inr b) =
-    none_before v (λ i j h e. up (suc i) (suc j) (omega arith) (omega arith)) u (unled x v u (subst (λ (k : ℕ). IsPermutation (x ∷ v) (k ∷ u)) b.0 p)) b.1
+none_before (x ∷ v) up (z ∷ u) p b =
+    let high = held (λ j. x ≤ j) x z v u (le_refl x) (All-from_get_or (λ j. x ≤ j) v 0 (λ i h. up 0 (suc i) (omega arith) (omega arith))) p in
+    grind (arith, unled x z v u, none_before v (λ i j h e. up (suc i) (suc j) (omega arith) (omega arith)) u)
 
 -- where no more comes after the rest v: its last number above the first goes ahead, and the rest is turned round
 module _ (x k : ℕ) (v : List ℕ) (last : IsLast v) (within : k < length v) (above : x < get_or v k 0) (below : (m : ℕ) → k < m → m < length v → get_or v m 0 ≤ x) where
@@ -130,36 +112,31 @@ module _ (x k : ℕ) (v : List ℕ) (last : IsLast v) (within : k < length v) (a
       rw (get_or-reverse w i 0 (omega arith), get_or-reverse w j 0 (omega arith)) (set-falls (length w - 1 - j) (length w - 1 - i) (omega arith) (omega arith))
 
   -- each number is at most x, or at least y
-  apart : All (λ j. (j ≤ x) ⊎ (y ≤ j)) (x ∷ v)
-  apart = All-cons (λ j. (j ≤ x) ⊎ (y ≤ j)) x v (inl (le_refl x)) (All-from_get_or (λ j. (j ≤ x) ⊎ (y ≤ j)) v 0 side)
+  apart : All (λ j. (j ≤ x) ⊎ (y ≤ j)) v
+  apart = All-from_get_or (λ j. (j ≤ x) ⊎ (y ≤ j)) v 0 side
     where
       side : (m : ℕ) → m < length v → (get_or v m 0 ≤ x) ⊎ (y ≤ get_or v m 0)
-      side m h = ⊎_elim (λ e. inr (falls v last m k (leb-true m k e) within)) (λ e. inl (below m (leb-false m k e) h)) (cases_Bool (leb m k))
+      side m h = grind (arith, cases_lt k m, falls v last m k, below m)
 
   pub next-turned : IsPermutation (x ∷ v) (y ∷ turned) → IsNext (x ∷ v) (y ∷ turned)
   next-turned same = record { after = inl above; none_between = none }
     where
-      none : (u : List ℕ) → IsPermutation (x ∷ v) u → ComesBefore (x ∷ v) u → ComesBefore u (y ∷ turned) → ⊥
+      none : (u : List ℕ) → IsPermutation (x ∷ v) u → ComesBefore (x ∷ v) u → ¬ ComesBefore u (y ∷ turned)
       none [] p a b = a
-      none (z ∷ u) p (inl a) (inl b) =
-          ⊎_elim (λ h. absurd (omega arith)) (λ h. absurd (omega arith))
-          (All-head (λ j. (j ≤ x) ⊎ (y ≤ j)) z u (All-permutation (λ j. (j ≤ x) ⊎ (y ≤ j)) (x ∷ v) (z ∷ u) p apart))
-      none (z ∷ u) p (inl a) (inr b) =
-          none_before turned turned-rises u
-          (unled y turned u (IsPermutation-trans (y ∷ turned) (x ∷ v) (y ∷ u) (IsPermutation-sym (x ∷ v) (y ∷ turned) same) (subst (λ (i : ℕ). IsPermutation (x ∷ v) (i ∷ u)) b.0 p))) b.1
-      none (z ∷ u) p (inr a) b = last.none_after u (unled x v u (subst (λ (i : ℕ). IsPermutation (x ∷ v) (i ∷ u)) (sym a.0) p)) a.1
+      none (z ∷ u) p a b =
+          let side = held (λ j. (j ≤ x) ⊎ (y ≤ j)) x z v u (inl (le_refl x)) apart p in
+          let moved = IsPermutation-trans (y ∷ turned) (x ∷ v) (z ∷ u) (IsPermutation-sym (x ∷ v) (y ∷ turned) same) p in
+          grind (arith, unled x z v u, unled y z turned u, last.none_after u, none_before turned turned-rises u)
 
 -- ---- the same, as a slice and its part from 1 on
 
 mid_rest : (x : ℕ) (v : List ℕ) → mid_of 1 (length (x ∷ v) - 1) (x ∷ v) ≡ v
-mid_rest x v =
-    let e : suc (length v) - 1 ≡ length v = omega arith in
-    ap (λ (n : ℕ). take n v) e ∙ take_all (length v) v (le_refl (length v))
+mid_rest x v = take_all (suc (length v) - 1) v (omega arith)
 
 put_rest : (x : ℕ) (v w : List ℕ) → put_mid 1 (length (x ∷ v) - 1) (x ∷ v) w ≡ x ∷ w
 put_rest x v w =
-    let e : suc (length v) - 1 ≡ length v = omega arith in
-    ap (λ (n : ℕ). x ∷ (w ++ drop n v)) e ∙ ap (λ (l : List ℕ). x ∷ (w ++ l)) (drop_of_length-le v (le_refl (length v))) ∙ ap (λ (l : List ℕ). x ∷ l) (append-nil w)
+    let none : drop (suc (length v) - 1) v ≡ [] = drop_of_length-le v (omega arith) in
+    ap (λ (l : List ℕ). x ∷ (w ++ l)) none ∙ ap (λ (l : List ℕ). x ∷ l) (append-nil w)
 
 pub next-put : (v w : List ℕ) → 0 < length v → IsNext (mid_of 1 (length v - 1) v) w → IsNext v (put_mid 1 (length v - 1) v w)
 next-put [] w h n = absurd (omega arith)
@@ -185,10 +162,6 @@ next-turned-put (x ∷ r) v w u k h is last within above below swapped round sam
     let put : w ≡ y ∷ t =
     swapped ∙ ap (λ (l : List ℕ). swap l 0 (k + 1)) (put_rest x r v) ∙ ap (λ (m : ℕ). swap (x ∷ v) 0 m) (add-one k)
     ∙ ap (λ (i : ℕ). i ∷ t) (get_or_default_zero v k x within) in
-    let made : put_mid 1 (length w - 1) w u ≡ y ∷ reverse t =
-    ap (λ (l : List ℕ). put_mid 1 (length l - 1) l u) put ∙ put_rest y t u
-    ∙ ap (λ (l : List ℕ). y ∷ l) (round ∙ ap (λ (l : List ℕ). reverse (mid_of 1 (length l - 1) l)) put ∙ ap (λ (l : List ℕ). reverse l) (mid_rest y t)) in
-    let moved : IsPermutation (x ∷ v) (y ∷ reverse t) =
-    subst (λ (l : List ℕ). IsPermutation (x ∷ l) (y ∷ reverse t)) (sym whole) (subst (λ (l : List ℕ). IsPermutation (x ∷ r) l) made same) in
-    subst (λ (l : List ℕ). IsNext (x ∷ r) l) (sym made)
-    (subst (λ (l : List ℕ). IsNext (x ∷ l) (y ∷ reverse t)) whole (next-turned x k v last within above below moved))
+    let turned : u ≡ reverse t = rw (round, put, mid_rest y t) refl in
+    let made : put_mid 1 (length w - 1) w u ≡ y ∷ reverse t = rw (put, put_rest y t u, turned) refl in
+    rw (made, ← whole) (next-turned x k v last within above below (rw (made, ← whole) at same))

@@ -1,55 +1,44 @@
 -- Each list of all doors, none twice, has the doors by number in another order.
-use Rattle.std.proofs.Common.{◌≡◌, ℕ, zero, suc, ◌+◌, ◌≤◌, true, false, cond, eqb, List, [], ◌∷◌, length, take, All, sym, refl, ap, ◌∙◌, subst, subst₂, map-id, inl, inr, ⊎_elim, eqb-true, arith}
+use Rattle.std.proofs.Common.{◌≡◌, ℕ, zero, suc, ◌+◌, ◌≤◌, List, [], ◌∷◌, length, take, All, sym, refl, ◌∙◌, subst₂, map-id, arith}
+use Rattle.std.specs.Prelude.{if◌then◌else◌}
 use Rattle.std.specs.List.{range_with_len}
 use Rattle.std.specs.List.Sorted.{IsPermutation}
-use Rattle.std.proofs.lemmas.Bool.{cases_Bool, both_ways}
+use Rattle.std.proofs.lemmas.Bool.{cases_Bool}
+use Rattle.std.proofs.lemmas.Bool.Decides.{nat_tests}
 use Rattle.std.proofs.lemmas.List.Elements.{All-from_get_or}
 use Rattle.std.proofs.lemmas.List.FromFn.{length-range_with_len, get_or-range_with_len, take-map-range_with_len}
 use Rattle.std.proofs.lemmas.List.Sorted.{All-permutation, length_permutation}
 use Rattle.doors.specs.Orders.{In, Door, PartOrder, is_in, is_door}
 use Rattle.doors.proofs.Orders.{is-in, in_is, is-door, door-is}
 use Rattle.doors.proofs.Sets.{part_length, part-door}
-use Rattle.lister.proofs.Permutations.{times, times-cons, one-same, one-other, permuted}
+use Rattle.lister.proofs.Permutations.{times, times-cons, permuted}
 
 -- ---- how often a door stands in a list
 
-not-same : (k x : ℕ) → ¬ (k ≡ x) → eqb k x ≡ false
-not-same k x n = ⊎_elim (λ e. absurd (n (eqb-true k x e))) (λ e. e) (cases_Bool (eqb k x))
-
 times-none : (k : ℕ) (w : List ℕ) → ¬ In k w → times k w ≡ 0
 times-none k [] n = refl
-times-none k (x ∷ w) n = omega (arith, times-cons k x w, one-other k x (not-same k x (λ e. n (inl e))), times-none k w (λ h. n (inr h)))
+times-none k (x ∷ w) n = grind (arith, nat_tests, times-cons k x w, times-none k w)
 
 times-once : (n k : ℕ) (w : List ℕ) → PartOrder n w → In k w → times k w ≡ 1
 times-once n k [] p h = absurd h
-times-once n k (x ∷ w) p (inl e) = subst (λ (i : ℕ). times i (x ∷ w) ≡ 1) (sym e) (omega (arith, times-cons x x w, one-same x, times-none x w p.1))
-times-once n k (x ∷ w) p (inr h) =
-    omega (arith, times-cons k x w, times-once n k w p.2 h, one-other k x (not-same k x (λ e. p.1 (subst (λ (i : ℕ). In i w) e h))))
+times-once n k (x ∷ w) p h = grind (arith, nat_tests, times-cons k x w, times-once n k w, times-none x w)
 
 -- a list of n doors, none twice, has each door
 all_there : (n k : ℕ) (w : List ℕ) → PartOrder n w → length w ≡ n → Door n k → In k w
-all_there n k w p e d = ⊎_elim (is-in k w) (λ f. absurd (omega (arith, part_length n (k ∷ w) (d, λ h. both_ways (is_in k w) f (in_is k w h), p)))) (cases_Bool (is_in k w))
+all_there n k w p e d = grind (arith, cases_Bool (is_in k w), is-in k w, in_is k w, part_length n (k ∷ w))
 
-times-door : (n k : ℕ) (w : List ℕ) → PartOrder n w → length w ≡ n → times k w ≡ cond (is_door n k) 1 0
-times-door n k w p e = ⊎_elim yes no (cases_Bool (is_door n k))
-  where
-    yes : is_door n k ≡ true → times k w ≡ cond (is_door n k) 1 0
-    yes d = times-once n k w p (all_there n k w p e (is-door n k d)) ∙ sym (ap (λ b. cond b 1 0) d)
-
-    no : is_door n k ≡ false → times k w ≡ cond (is_door n k) 1 0
-    no d = times-none k w (λ h. both_ways (is_door n k) d (door-is n k (part-door n w k p h))) ∙ sym (ap (λ b. cond b 1 0) d)
+times-door : (n k : ℕ) (w : List ℕ) → PartOrder n w → length w ≡ n → times k w ≡ (if is_door n k then 1 else 0)
+times-door n k w p e = grind (arith, nat_tests, is-door n k, door-is n k, all_there n k w, times-once n k w, times-none k w, part-door n w k)
 
 -- ---- the doors by number
 
 in-range : (k a m : ℕ) → In k (range_with_len a m) → a ≤ k
 in-range k a zero h = absurd h
-in-range k a (suc m) (inl e) = omega arith
-in-range k a (suc m) (inr h) = omega (arith, in-range k (a + 1) m h)
+in-range k a (suc m) h = grind (arith, in-range k (a + 1) m)
 
 part-range : (n a m : ℕ) → 1 ≤ a → a + m ≤ n + 1 → PartOrder n (range_with_len a m)
 part-range n a zero l h = tt
-part-range n a (suc m) l h =
-    (record { low = l; high = omega arith }, λ i. absurd (omega (arith, in-range a (a + 1) m i)), part-range n (a + 1) m (omega arith) (omega arith))
+part-range n a (suc m) l h = grind (arith, in-range a (a + 1) m, part-range n (a + 1) m)
 
 pub reordered : (n : ℕ) (w : List ℕ) → PartOrder n w → length w ≡ n → IsPermutation (range_with_len 1 n) w
 reordered n w p e =

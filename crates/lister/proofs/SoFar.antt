@@ -1,5 +1,5 @@
 -- What is listed, from one order to the next.
-use Rattle.std.proofs.Common.{◌≡◌, ℕ, ◌≤◌, ◌<◌, ◌⊎◌, List, [], ◌∷◌, ◌++◌, length, get_or, All, AllPairs, Contains, sym, refl, subst, inl, inr, ⊎_elim, arith}
+use Rattle.std.proofs.Common.{◌≡◌, ℕ, ◌≤◌, ◌<◌, ◌⊎◌, List, [], ◌∷◌, length, get_or, All, AllPairs, Contains, refl, inl, inr, ⊎_elim, arith}
 use Rattle.std.specs.List.{range_with_len}
 use Rattle.std.specs.List.Sorted.{IsPermutation}
 use Rattle.std.proofs.lemmas.List.Elements.{All-nil, All-push, All-weaker, Contains-append_left, Contains-push}
@@ -27,17 +27,13 @@ pub record UpTo (r : Round) (Keeps : List ℕ → Type 0) (v : List ℕ) (os : L
 
 module _ (r : Round) (Keeps : List ℕ → Type 0) where
   pub looked : (v : List ℕ) (os us : List (List ℕ)) → SoFar r Keeps v os → LooksAt r Keeps v os us → UpTo r Keeps v us
-  looked v os us s (inl a) = subst (UpTo r Keeps v) (sym a.1) (record {
-    whole = whole;
+  looked v os us s (inl a) = rw a.1 (record {
+    whole = λ w x. ⊎_elim (λ b. Contains-append_left os (v ∷ []) w (s.whole w x b)) (λ e. rw e (Contains-push os v));
     ascending = all_pairs_push ComesBefore os v s.ascending s.before;
     upto = All-push (λ w. ComesBefore w v ⊎ (w ≡ v)) os v (All-weaker (λ w. ComesBefore w v) (λ w. ComesBefore w v ⊎ (w ≡ v)) (λ w b. inl b) os s.before) (inr refl);
   })
-    where
-      whole : (w : List ℕ) → Allowed r Keeps w → ComesBefore w v ⊎ (w ≡ v) → Contains (os ++ v ∷ []) w
-      whole w x (inl b) = Contains-append_left os (v ∷ []) w (s.whole w x b)
-      whole w x (inr e) = subst (Contains (os ++ v ∷ [])) (sym e) (Contains-push os v)
-  looked v os us s (inr a) = subst (UpTo r Keeps v) (sym a.1) (record {
-    whole = λ w x. ⊎_elim (s.whole w x) (λ e. absurd (a.0 (subst (Allowed r Keeps) e x)));
+  looked v os us s (inr a) = rw a.1 (record {
+    whole = λ w x. ⊎_elim (s.whole w x) (λ e. absurd (a.0 (rw e at x)));
     ascending = s.ascending;
     upto = All-weaker (λ w. ComesBefore w v) (λ w. ComesBefore w v ⊎ (w ≡ v)) (λ w b. inl b) os s.before;
   })
@@ -58,13 +54,10 @@ module _ (r : Round) (Keeps : List ℕ → Type 0) where
 
   pub stepped : (v w : List ℕ) (os : List (List ℕ)) → UpTo r Keeps v os → IsNext v w → IsPermutation (range_with_len 1 r.n) v → SoFar r Keeps w os
   stepped v w os s n p = record {
-    whole = whole;
+    whole = λ u x b. ⊎_elim (λ a. s.whole u x (inl a)) (⊎_elim (λ e. s.whole u x (inr e)) (λ a. absurd (n.none_between u (same v u p x) a b))) (trichotomy u v);
     ascending = s.ascending;
-    before = All-weaker (λ u. ComesBefore u v ⊎ (u ≡ v)) (λ u. ComesBefore u w) (λ u. ⊎_elim (λ b. before-trans u v w b n.after) (λ e. subst (λ (x : List ℕ). ComesBefore x w) (sym e) n.after)) os s.upto;
+    before = All-weaker (λ u. ComesBefore u v ⊎ (u ≡ v)) (λ u. ComesBefore u w) (λ u. ⊎_elim (λ b. before-trans u v w b n.after) (λ e. rw e n.after)) os s.upto;
   }
-    where
-      whole : (u : List ℕ) → Allowed r Keeps u → ComesBefore u w → Contains os u
-      whole u x b = ⊎_elim (λ a. s.whole u x (inl a)) (⊎_elim (λ e. s.whole u x (inr e)) (λ a. absurd (n.none_between u (same v u p x) a b))) (trichotomy u v)
 
   pub ended : (v : List ℕ) (os : List (List ℕ)) → UpTo r Keeps v os → IsLast v → IsPermutation (range_with_len 1 r.n) v → (u : List ℕ) → Allowed r Keeps u → Contains os u
   ended v os s l p u x = ⊎_elim (λ a. s.whole u x (inl a)) (⊎_elim (λ e. s.whole u x (inr e)) (λ a. absurd (l.none_after u (same v u p x) a))) (trichotomy u v)

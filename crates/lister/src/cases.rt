@@ -40,8 +40,8 @@ fn the_last_order_stays(rt: HostRuntime) {
 }
 
 /// The drives from i to n doors, of no minutes.
-fn add_drives(heap: Global, text: &mut String, i: usize, n: usize) -> Result<(), AllocError> {
-    text.push_str(format!(in heap; "drive\t{i}")?.as_str())?;
+fn add_drives(alloc: Global, text: &mut String, i: usize, n: usize) -> Result<(), AllocError> {
+    text.push_str(format!(in alloc; "drive\t{i}")?.as_str())?;
     for j in 1..=n {
         text.push_str(if i == j { "\t-" } else { "\t0" })?;
     }
@@ -49,13 +49,13 @@ fn add_drives(heap: Global, text: &mut String, i: usize, n: usize) -> Result<(),
 }
 
 /// A round of n doors that are open all day, with a minute of work at each.
-fn open_round(heap: Global, n: usize, pairs: &str) -> Result<Round, Fail> {
-    let mut text = format!(in heap; "round\t{n}\t0\t0\n")?;
+fn open_round(alloc: Global, n: usize, pairs: &str) -> Result<Round, Fail> {
+    let mut text = format!(in alloc; "round\t{n}\t0\t0\n")?;
     for j in 1..=n {
-        text.push_str(format!(in heap; "door\t{j}\t0\t9999\t0\t1\t0\n")?.as_str())?;
+        text.push_str(format!(in alloc; "door\t{j}\t0\t9999\t0\t1\t0\n")?.as_str())?;
     }
     for i in 0..=n {
-        add_drives(heap, &mut text, i, n)?;
+        add_drives(alloc, &mut text, i, n)?;
     }
     text.push_str(pairs)?;
     let mut round = Round::fresh();

@@ -71,7 +71,7 @@ fn look<R: Rule, T: Tally>(
 /// then of the second, and so on. Every order of the doors is looked at, allowed or not: 40,320 of
 /// 8 doors, and some 20,000,000,000,000 of 16.
 pub fn list<R: Rule, T: Tally>(
-    heap: Global,
+    alloc: Global,
     round: &Round,
     rule: &R,
     tally: &T,
@@ -85,7 +85,7 @@ pub fn list<R: Rule, T: Tally>(
     ensures ascending { R.Rule.serves rule.now round.now.n →
         IfOk result (λ l. AllPairs ComesBefore (listed_orders round.now.n l.items)) }
 {
-    let mut allowed = Vec::new(heap);
+    let mut allowed = Vec::new(alloc);
     let mut doors = BY_NUMBER;
     loop {
         look(round, rule, tally, doors, &mut allowed)?;

@@ -1,5 +1,5 @@
 -- What a verdict says of allowed orders, and of orders of all doors.
-use Rattle.std.proofs.Common.{Bor, ◌≡◌, ◌↔◌, ℕ, true, false, ⊎_elim, List, [], ◌∷◌, ◌++◌, length, ◌==◌, sym, refl, subst, ◌∙◌, append_assoc, arith}
+use Rattle.std.proofs.Common.{Bor, ◌≡◌, ◌↔◌, ℕ, true, false, ⊎_elim, List, [], ◌∷◌, ◌++◌, length, ◌==◌, sym, refl, ◌∙◌, append_assoc, arith}
 use Rattle.std.proofs.lemmas.Bool.{cond-false, both_ways, cases_Bool, eqb-true}
 use Rattle.doors.specs.Orders.{is_part_order}
 use Rattle.doors.proofs.Orders.{is-part, part-is, each-front}
@@ -14,7 +14,7 @@ use Rattle.allowed.specs.Orders.{FullOrder, AllowedOrder, KeepsRules}
 use Rattle.allowed.specs.Senses.{side_of}
 
 -- what is no part order is no order of all doors
-pub no_full_order : (r : Round) (w : List ℕ) → is_part_order r.n w ≡ false → FullOrder r w → ⊥
+pub no_full_order : (r : Round) (w : List ℕ) → is_part_order r.n w ≡ false → ¬ FullOrder r w
 no_full_order r w e f = both_ways _ e (part-is r.n w f.part)
 
 -- A verdict on an order o of the round r and the doors w, by rules a and b that read the round's own tables.
@@ -28,24 +28,21 @@ module _ (r a b o : Bor Round) (w u : Bor (List ℕ)) (v : verdicts.Verdict) (p 
   own_meaning h = (rw (p, q, s, t) at h) (refl, refl)
 
   -- a part order that is not said to be incomplete is an order of all doors
-  pub full_order : is_part_order o.now.n u.now ≡ true → v ≡ verdict r.now (side_of r.now) w.now → (v ≡ is.Incomplete → ⊥) → FullOrder r.now w.now
+  pub full_order : is_part_order o.now.n u.now ≡ true → v ≡ verdict r.now (side_of r.now) w.now → ¬ (v ≡ is.Incomplete) → FullOrder r.now w.now
   full_order e same h = record {
     part = is-part r.now.n w.now (rw (s, t) at e);
     whole = ⊎_elim (eqb-true _ _) (λ f. absurd (h (same ∙ cond-false _ _ is.Incomplete f))) (cases_Bool (length w.now == r.now.n));
   }
 
--- the side rules are kept by every beginning
-keeps-front : (r : Round) (u v : List ℕ) → KeepsRules r (u ++ v) → KeepsRules r u
-keeps-front r u v k = (each-front _ u v k.0, each-front _ u v k.1)
-
 -- a verdict is yes exactly for an allowed order
 pub allowed_exactly : (r : Round) (w : List ℕ) (v : verdicts.Verdict) → Judged r (KeepsRules r) w v → (v ≡ is.Allowed) ↔ AllowedOrder r w
 allowed_exactly r w is.Allowed h = (λ e. record { full = record { part = h.part; whole = h.whole }; ordered = h.keeps.0; within = h.keeps.1; timely = h.timely }, λ a. refl)
 allowed_exactly r w is.Incomplete h = ((λ e. cc), λ a. absurd (h a.full.whole))
-allowed_exactly r w (is.Closes j) h = ((λ e. cc), λ a. let t = a.timely h.ahead j h.rest h.split in let late = h.wrong in absurd (omega arith))
+allowed_exactly r w (is.Closes j) h = ((λ e. cc), λ a. absurd (omega (arith, h.wrong, a.timely h.ahead j h.rest h.split)))
 allowed_exactly r w (is.Breaks j) h = (
   (λ e. cc),
   λ a.
-      let whole : w ≡ (h.ahead ++ j ∷ []) ++ h.rest = h.split ∙ sym (append_assoc h.ahead (j ∷ []) h.rest) in
-      absurd (h.wrong.1 (keeps-front r (h.ahead ++ j ∷ []) h.rest (subst (KeepsRules r) whole (a.ordered, a.within)))),
+      let begun = h.ahead ++ j ∷ [] in
+      let whole : w ≡ begun ++ h.rest = h.split ∙ sym (append_assoc h.ahead (j ∷ []) h.rest) in
+      absurd (h.wrong.1 (each-front _ begun h.rest (rw whole at a.ordered), each-front _ begun h.rest (rw whole at a.within))),
 )

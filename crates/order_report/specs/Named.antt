@@ -9,4 +9,4 @@ pub record IsDoorText (text : List ℕ) (j : ℕ) : Type 0 where
 
 -- the text is that of no door
 abbrev pub IsNoDoorText : List ℕ → Type 0
-IsNoDoorText text = (j : ℕ) → IsDoorText text j → ⊥
+IsNoDoorText text = (j : ℕ) → ¬ IsDoorText text j

@@ -18,12 +18,12 @@ pub fn door_number(text: &str) -> Option<usize>
 }
 
 /// The doors that texts name, one each, if each of them names one.
-pub fn doors_named(texts: &[String], heap: Global) -> Result<Option<Vec<usize>>, AllocError>
+pub fn doors_named(texts: &[String], alloc: Global) -> Result<Option<Vec<usize>>, AllocError>
     ensures { IfOk result (λ doors. MatchOption doors
         (Any (λ text. IsNoDoorText (string_bytes text)) texts.now)
         (λ v. AllZip (λ text. IsDoorText (string_bytes text)) texts.now v.items)) }
 {
-    let mut doors = Vec::new(heap);
+    let mut doors = Vec::new(alloc);
     for text in texts {
         match door_number(text.as_str()) {
             Some(door) => doors.push(door)?,

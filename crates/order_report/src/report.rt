@@ -27,7 +27,7 @@ pub struct Report<'a> {
 }
 
 /// Why there is no report: the doors named are no order of all the round's doors.
-#[derive(Clone, Copy, Debug)]
+#[derive(Clone, Copy, Debug, PartialEq, Eq)]
 pub struct NoOrder;
 
 impl<'a> Report<'a> {
@@ -35,7 +35,7 @@ impl<'a> Report<'a> {
     pub fn of(
         round: &'a Round,
         doors: &'a [usize],
-        heap: Global,
+        alloc: Global,
     ) -> Result<Option<Report<'a>>, AllocError>
         ensures { IfOk result (λ report. MatchOption report
             (¬ FullOrder round.now doors.now)
@@ -48,7 +48,7 @@ impl<'a> Report<'a> {
         if let Verdict::Incomplete = verdict {
             return Ok(None); // a door is missing
         }
-        let finishes = order.finishes(heap)?;
+        let finishes = order.finishes(alloc)?;
         Ok(Some(Report {
             doors,
             finishes,

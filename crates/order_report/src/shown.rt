@@ -4,7 +4,7 @@ use orders::verdict::Verdict;
 use std::fmt;
 
 /// A verdict's line, with no line feed.
-#[derive(Clone, Copy)]
+#[derive(Clone, Copy, Debug, PartialEq, Eq)]
 struct VerdictLine(Verdict);
 
 impl fmt::Display for VerdictLine {

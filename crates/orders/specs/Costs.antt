@@ -17,8 +17,10 @@ rides r T t j =
     let a = goes r t.van j in
     record { van = a; cost = T.step t.cost j (drive r t.van.last j) a.finish }
 
+-- the van, and what its way has cost, after the doors of w
 abbrev pub trip_after : {V : Type 0} → Round → TallySense V → List ℕ → Trip V
 trip_after r T w = fold (rides r T) (record { van = yard; cost = T.start }) w
 
+-- what the doors of w cost, from the yard to the last
 abbrev pub cost : {V : Type 0} → Round → TallySense V → List ℕ → V
 cost r T w = (trip_after r T w).cost

@@ -1,5 +1,5 @@
 -- What is said of a part order: allowed, incomplete, or its first fault.
-use Rattle.std.specs.Prelude.{◌≡◌, ℕ, ◌<◌, ◌≤◌, cond, List, [], ◌∷◌, ◌++◌, length, ◌==◌, nat_lt}
+use Rattle.std.specs.Prelude.{◌≡◌, ℕ, ◌<◌, ◌≤◌, if◌then◌else◌, List, [], ◌∷◌, ◌++◌, length, ◌==◌, nat_lt}
 use Rattle.round.specs.declared.table.Round.{Round}
 use Rattle.round.specs.Clock.{door}
 use Rattle.rules.specs.Rules.{RuleSense}
@@ -13,13 +13,14 @@ use Rattle.orders.specs.Times.{yard, goes, finish_of, Timely}
 abbrev pub verdict_from : {S : Type 0} → Round → RuleSense S → Van → S → List ℕ → verdicts.Verdict
 verdict_from r R a s [] = is.Allowed
 verdict_from r R a s (j ∷ w) =
-    cond (nat_lt (door r j).closes (goes r a j).finish) (is.Closes j)
-    (cond (R.bars s j) (is.Breaks j) (verdict_from r R (goes r a j) (R.step s j) w))
+    if nat_lt (door r j).closes (goes r a j).finish then is.Closes j
+    else (if R.bars s j then is.Breaks j else verdict_from r R (goes r a j) (R.step s j) w)
 
+-- what is said of w: incomplete, or what is found on the way from the yard
 abbrev pub verdict : {S : Type 0} → Round → RuleSense S → List ℕ → verdicts.Verdict
-verdict r R w = cond (length w == r.n) (verdict_from r R yard R.start w) is.Incomplete
+verdict r R w = if length w == r.n then verdict_from r R yard R.start w else is.Incomplete
 
--- the first fault of w is at door j: the doors u ahead of it are all in order
+-- the first fault of w is at door j: the doors ahead of it are all in order, and after them j is wrong
 pub record Fault (r : Round) (Keeps : List ℕ → Type 0) (w : List ℕ) (j : ℕ) (Wrong : List ℕ → Type 0) : Type 0 where
   pub ahead : List ℕ
   pub rest : List ℕ
@@ -31,6 +32,6 @@ pub record Fault (r : Round) (Keeps : List ℕ → Type 0) (w : List ℕ) (j : �
 -- what a verdict on w means
 abbrev pub Judged : Round → (List ℕ → Type 0) → List ℕ → verdicts.Verdict → Type 0
 Judged r Keeps w is.Allowed = Allowed r Keeps w
-Judged r Keeps w is.Incomplete = length w ≡ r.n → ⊥
+Judged r Keeps w is.Incomplete = ¬ (length w ≡ r.n)
 Judged r Keeps w (is.Closes j) = Fault r Keeps w j (λ u. (door r j).closes < finish_of r (u ++ j ∷ []))
-Judged r Keeps w (is.Breaks j) = Fault r Keeps w j (λ u. (finish_of r (u ++ j ∷ []) ≤ (door r j).closes) × (Keeps (u ++ j ∷ []) → ⊥))
+Judged r Keeps w (is.Breaks j) = Fault r Keeps w j (λ u. (finish_of r (u ++ j ∷ []) ≤ (door r j).closes) × (¬ Keeps (u ++ j ∷ [])))

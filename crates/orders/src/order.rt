@@ -8,7 +8,7 @@ pub mod asking;
 pub mod making;
 
 /// A part order of a round's doors: each of them a door of the round, none twice.
-#[derive(Clone, Copy)]
+#[derive(Clone, Copy, Debug, PartialEq, Eq)]
 pub struct Order<'a> {
     pub round: &'a Round,
     pub doors: &'a [usize],

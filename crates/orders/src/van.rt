@@ -6,7 +6,7 @@ ghost use Rattle.orders.specs.Times.{yard, goes};
 use round::table::Round;
 
 /// The place where the van stands, and the minute at which its last work ended.
-#[derive(Clone, Copy)]
+#[derive(Clone, Copy, Debug, PartialEq, Eq)]
 pub struct Van {
     pub last: usize,
     pub finish: u32,

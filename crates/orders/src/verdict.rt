@@ -1,5 +1,5 @@
 /// What is said of an order.
-#[derive(Clone, Copy, Debug, PartialEq)]
+#[derive(Clone, Copy, Debug, PartialEq, Eq)]
 pub enum Verdict {
     Allowed,
     /// a door of the round is missing

@@ -8,9 +8,17 @@ abbrev pub Begins : ℕ → List ℕ → Type 0
 Begins d [] = Unit {0}
 Begins d (x ∷ w) = x ≡ d
 
+-- whether the two are equal
 abbrev pub same_bool : Bool → Bool → Bool
 same_bool true t = t
 same_bool false t = not t
 
+-- what the rule answers, in rounds of n doors: a state is whether the van may have begun, and at the yard any door but d is barred
 abbrev pub opener_sense : ℕ → ℕ → RuleSense Bool
-opener_sense n d = record { start = false; step = λ s j. s || is_door n j; cover = ◌||◌; bars = λ s j. not s && (is_door n j && not (j == d)); same = same_bool }
+opener_sense n d = record {
+  start = false;
+  step = λ s j. s || is_door n j;
+  cover = ◌||◌;
+  bars = λ s j. not s && (is_door n j && not (j == d));
+  same = same_bool;
+}

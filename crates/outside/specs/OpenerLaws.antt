@@ -1,7 +1,8 @@
 -- The rule of the first door is lawful.
 use Rattle.std.specs.Prelude.{◌≡◌, ℕ, Bool, true, false, not, ◌&&◌, ◌||◌, List, [], ◌∷◌, ◌++◌, fold, ◌==◌, refl}
-use Rattle.std.proofs.Common.{sym, ap, subst, ◌∙◌, ⊎_elim}
+use Rattle.std.proofs.Common.{sym, ap, ◌∙◌, arith}
 use Rattle.std.proofs.lemmas.Bool.{and_parts, and_from, or_parts, or_right, not-true, not_from_false, both_ways, cases_Bool, eqb-true, eq-eqb}
+use Rattle.std.proofs.lemmas.Bool.Decides.{nat_tests}
 use Rattle.doors.specs.Orders.{is_door}
 use Rattle.doors.proofs.Orders.{door-is, not-door}
 use Rattle.rules.specs.Rules.{RuleLaws}
@@ -32,15 +33,12 @@ module _ (n d : ℕ) where
   abbrev Stands : Bool → List ℕ → Type 0
   Stands s w = s ≡ false → w ≡ []
 
-  bars-one : (s : Bool) (w : List ℕ) (j : ℕ) → Stands s w → (not s && (is_door n j && not (j == d))) ≡ true → Begins d (w ++ j ∷ []) → ⊥
-  bars-one s w j h b k =
-      let p = and_parts (not s) _ b in
-      let q = and_parts (is_door n j) _ p.1 in
-      let first : Begins d (j ∷ []) = subst (λ (v : List ℕ). Begins d (v ++ j ∷ [])) (h (not-true s p.0)) k in
-      both_ways (j == d) (not-true _ q.1) (eq-eqb j d first)
+  bars-one : (s : Bool) (w : List ℕ) (j : ℕ) → Stands s w → (not s && (is_door n j && not (j == d))) ≡ true → ¬ Begins d (w ++ j ∷ [])
+  bars-one true w j h b k = grind arith
+  bars-one false w j h b k = let first = rw (h refl) at k in grind (arith, nat_tests)
 
   clear-one : (w : List ℕ) (j : ℕ) → is_door n j ≡ true → Begins d w → (not (fold (λ s i. s || is_door n i) false w) && (is_door n j && not (j == d))) ≡ false → Begins d (w ++ j ∷ [])
-  clear-one [] j door k b = ⊎_elim (eqb-true j d) (λ e. absurd (both_ways _ b (and_from _ _ refl (and_from _ _ door (not_from_false _ e))))) (cases_Bool (j == d))
+  clear-one [] j door k b = grind (arith, nat_tests)
   clear-one (x ∷ w) j door k b = k
 
   pub opener_lawful : RuleLaws n (opener_sense n d) (Begins d) Stands

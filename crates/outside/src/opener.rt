@@ -8,7 +8,7 @@ ghost use Rattle.outside.specs.OpenerLaws.{opener_lawful};
 use rules::rule::Rule;
 
 /// The rule that an order begins with this door, in rounds of n doors.
-#[derive(Clone, Copy)]
+#[derive(Clone, Copy, Debug, PartialEq, Eq)]
 pub struct Opener {
     pub n: usize,
     pub door: usize,
@@ -34,7 +34,7 @@ impl Rule for Opener {
     }
 
     fn step(&self, s: bool, j: usize) -> bool {
-        s || (1 <= j && j <= self.n)
+        s || (1..=self.n).contains(&j)
     }
 
     fn cover(&self, s: bool, t: bool) -> bool {
@@ -42,7 +42,7 @@ impl Rule for Opener {
     }
 
     fn bars(&self, s: bool, j: usize) -> bool {
-        !s && 1 <= j && j <= self.n && j != self.door
+        !s && (1..=self.n).contains(&j) && j != self.door
     }
 
     fn same(&self, s: bool, t: bool) -> bool {

@@ -4,10 +4,11 @@ use Rattle.round.specs.declared.door.Door.{Door}
 use Rattle.round.specs.declared.table.Round.{Round}
 use Rattle.round.specs.Tables.{at, leg}
 
--- the record of door j, and the drive minutes from i to door j
+-- the record of door j, blank where there is none
 abbrev pub door : Round → ℕ → Door
 door r j = at r.doors j
 
+-- the drive minutes from i to door j, 0 where there are none
 abbrev pub drive : Round → ℕ → ℕ → ℕ
 drive r i j = leg r.drives i j
 

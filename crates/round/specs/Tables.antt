@@ -10,10 +10,10 @@ blank = record { opens = 0; closes = 0; due = 0; work = 0; change = pos 0 }
 abbrev pub new_door : Door
 new_door = record { opens = 0; closes = 0; due = 0; work = 1; change = pos 0 }
 
--- the record of door j
+-- the record of door j, blank past the end
 abbrev pub at : List Door → ℕ → Door
 at doors j = slice_index_or doors j blank
 
--- the drive minutes from i to door j
+-- the drive minutes from i to door j, 0 past the end
 abbrev pub leg : List (List ℕ) → ℕ → ℕ → ℕ
 leg drives i j = slice_index (slice_index_or drives i []) j

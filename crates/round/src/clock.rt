@@ -39,7 +39,7 @@ impl Round {
     pub fn has_door(&self, j: usize) -> bool
         ensures { result ≡ is_door self.now.n j }
     {
-        1 <= j && j <= self.n
+        (1..=self.n).contains(&j)
     }
 
     /// The record of door j, blank where there is none.
@@ -59,6 +59,7 @@ impl Round {
     }
 
     /// The minute at which the work at door j ends, for a van that left its last place at minute `from` and drove `leg` minutes.
+    #[tactic(auto, unfolding(crate::specs::Clock::finish))]
     pub fn finish(&self, from: u32, leg: u32, j: usize) -> u64
         ensures value { result ≡ finish self.now from leg j }
         ensures laws { ClockLaws self.now }

@@ -1,7 +1,7 @@
 //! One door of a round.
 
 /// Minutes count from the round's start.
-#[derive(Clone, Copy, Debug, PartialEq)]
+#[derive(Clone, Copy, Debug, PartialEq, Eq)]
 pub struct Door {
     pub opens: u16,
     pub closes: u16,

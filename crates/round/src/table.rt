@@ -7,7 +7,7 @@ use doors::DoorSet;
 
 /// The tables go by number, with the yard at 0: a door's record, the minutes `drives[i][j]` from i to door j, and the
 /// set `ahead[j]` of the doors that have to come ahead of door j. What stands past n, or at the yard, is blank.
-#[derive(Clone, Copy)]
+#[derive(Clone, Copy, Debug, PartialEq, Eq)]
 pub struct Round {
     pub n: usize,
     /// the key boxes in the van at the start, and the most that it holds

@@ -2,6 +2,7 @@
 use Rattle.std.specs.Prelude.{◌&&◌, ◌||◌}
 use Rattle.rules.specs.Rules.{RuleSense}
 
+-- what the two rules answer together
 abbrev pub both_sense : {S U : Type 0} → RuleSense S → RuleSense U → RuleSense (S × U)
 both_sense A B = record {
   start = (A.start, B.start);

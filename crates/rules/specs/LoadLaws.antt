@@ -1,10 +1,10 @@
 -- The rule of the load is lawful.
 use Rattle.std.specs.Prelude.{◌≡◌, ℕ, ◌+◌, ◌*◌, true, false, ◌||◌, ◌⊎◌, List, [], ◌∷◌, ◌++◌, length, ℤ, pos, negsuc, ◌+ℤ◌, ◌≤ℤ◌, ◌<ℤ◌, fold, int_lt, refl}
-use Rattle.std.proofs.Common.{sym, ap, ap₂, subst, ◌∙◌, ⊎_elim, arith, length-append}
+use Rattle.std.proofs.Common.{ap₂, ⊎_elim, arith, length-append}
 use Rattle.std.specs.Int.Signed.{≤ℤ_refl}
 use Rattle.std.proofs.lemmas.Int.{ints, clamps}
 use Rattle.std.proofs.lemmas.List.Sums.{fold_push}
-use Rattle.std.proofs.lemmas.Bool.{cond-true, cond-false, and_parts, and_from, or_cases, or_parts}
+use Rattle.std.proofs.lemmas.Bool.{cond-true, cond-false, and_parts, and_from, or_cases}
 use Rattle.doors.specs.Orders.{PartOrder, Next, is_door}
 use Rattle.doors.specs.Orders as orders
 use Rattle.doors.proofs.Orders.{door-is, not-door, part-ind, each_none, each-front, each_last, each_more}
@@ -75,9 +75,6 @@ module _ (r : Round) where
   bars-door : (s : Interval) (j : ℕ) → orders.Door n j → overflows n cap doors s j ≡ (int_lt (pos cap) (s.low +ℤ (at doors j).change) || int_lt (s.high +ℤ (at doors j).change) (pos 0))
   bars-door s j d = cond-true (is_door n j) _ _ (door-is n j d)
 
-  point : ℤ → Interval
-  point z = interval z z
-
   -- the state of a part order is its load, twice
   state-is : (w : List ℕ) → PartOrder n w → fold (moves n doors) (interval (pos load) (pos load)) w ≡ interval (load_of load doors w) (load_of load doors w)
   state-is =
@@ -85,40 +82,37 @@ module _ (r : Round) where
       (λ w j x ih.
       let i = inside w j x in
       let z = load_of load doors w in
-      let same : held (z +ℤ (at doors j).change) ≡ load_of load doors (w ++ j ∷ []) = held_same _ i.0 i.1 ∙ sym (load-last w j) in
-      fold_push (moves n doors) (interval (pos load) (pos load)) w j
-      ∙ ap (λ (s : Interval). moves n doors s j) ih
-      ∙ moves-door (interval z z) j x.door
-      ∙ ap₂ interval same same)
+      let same = held_same (z +ℤ (at doors j).change) i.0 i.1 in
+      rw (fold_push (moves n doors) (interval (pos load) (pos load)) w j, ih, moves-door (interval z z) j x.door, same, load-last w j))
       refl
+
+  -- a load in the interval, moved by a door, is in the interval moved by it
+  moved : (s : Interval) (w : List ℕ) (j : ℕ) → Next n w j → Between load doors s w → Between load doors (moves n doors s j) (w ++ j ∷ [])
+  moved s w j x h =
+      let i = inside w j x in
+      let l = load-last w j in
+      rw (moves-door s j x.door) (omega (arith, ints, clamps), omega (arith, ints, clamps))
 
   pub load_lawful : RuleLaws n (load_sense n load cap doors) (Within load cap doors) (Between load doors)
   load_lawful = record {
     keeps_none = each_none _;
     keeps_front = λ w v p h. each-front _ w v h;
     start_stands = (≤ℤ_refl (pos load), ≤ℤ_refl (pos load));
-    step_stands = λ s w j x h.
-        let i = inside w j x in
-        let c = (at doors j).change in
-        let z = load_of load doors w +ℤ c in
-        subst (λ (t : Interval). Between load doors t (w ++ j ∷ [])) (sym (moves-door s j x.door))
-        (subst (λ (z : ℤ). (held (s.low +ℤ (at doors j).change) ≤ℤ z) × (z ≤ℤ held (s.high +ℤ (at doors j).change))) (sym (load-last w j))
-        (held_low (s.low +ℤ c) z (omega (arith, ints)) i.0, held_high (s.high +ℤ c) z (omega (arith, ints)) i.1));
+    step_stands = moved;
     cover_left = λ s t w p h. (omega (arith, ints, clamps), omega (arith, ints, clamps));
     cover_right = λ s t w p h. (omega (arith, ints, clamps), omega (arith, ints, clamps));
     cover_same = λ s. ap₂ interval (omega (arith, ints, clamps)) (omega (arith, ints, clamps));
     bars_breaks = λ s w j x h b k.
         let l = load-last w j in
-        let r = each_last _ w j k in
-        let a = s.low +ℤ (at doors j).change in
-        let z = s.high +ℤ (at doors j).change in
-        let either : (int_lt (pos cap) a ≡ true) ⊎ (int_lt z (pos 0) ≡ true) = or_cases _ _ (sym (bars-door s j x.door) ∙ b) in
-        ⊎_elim (λ e. omega (arith, ints, below_true (pos cap) a e)) (λ e. omega (arith, ints, below_true z (pos 0) e)) either;
+        let within = each_last _ w j k in
+        let either : (int_lt (pos cap) (s.low +ℤ (at doors j).change) ≡ true) ⊎ (int_lt (s.high +ℤ (at doors j).change) (pos 0) ≡ true) = or_cases _ _ (rw (bars-door s j x.door) at b) in
+        ⊎_elim (λ e. omega (arith, ints, below_true (pos cap) (s.low +ℤ (at doors j).change) e)) (λ e. omega (arith, ints, below_true (s.high +ℤ (at doors j).change) (pos 0) e)) either;
     clear_keeps = λ w j x k b.
         let l = load-last w j in
-        let z = load_of load doors w +ℤ (at doors j).change in
-        let c : (int_lt (pos cap) z ≡ false) × (int_lt z (pos 0) ≡ false) = or_parts _ _ (sym (bars-door (interval (load_of load doors w) (load_of load doors w)) j x.door) ∙ subst (λ (s : Interval). overflows n cap doors s j ≡ false) (state-is w x.part) b) in
-        each_more _ w j k (omega (arith, ints, below_false z (pos 0) c.1), omega (arith, ints, below_false (pos cap) z c.0));
+        let z = load_of load doors w in
+        let e = bars-door (interval z z) j x.door in
+        let clear : overflows n cap doors (interval z z) j ≡ false = rw (state-is w x.part) at b in
+        each_more _ w j k (grind (arith, ints), grind (arith, ints));
     same_is = λ s t e. let p = and_parts (same_int s.low t.low) _ e in ap₂ interval (same_int-is _ _ p.0) (same_int-is _ _ p.1);
     same_self = λ s. and_from _ _ (same_int-self s.low) (same_int-self s.high);
     outside_step = λ s j h. cond-false (is_door n j) _ _ (not-door n j h);

@@ -1,5 +1,5 @@
 -- The rule of the load, by the start load, the cap and the doors' changes.
-use Rattle.std.specs.Prelude.{ℕ, Bool, false, cond, ◌&&◌, ◌||◌, List, [], ◌∷◌, ◌++◌, ℤ, pos, negsuc, ◌+ℤ◌, ◌≤ℤ◌, fold, int_le, int_lt}
+use Rattle.std.specs.Prelude.{ℕ, Bool, false, if◌then◌else◌, ◌&&◌, ◌||◌, List, [], ◌∷◌, ◌++◌, ℤ, pos, negsuc, ◌+ℤ◌, ◌≤ℤ◌, fold, int_le, int_lt}
 use Rattle.std.specs.Int.{int_max, int_min}
 use Rattle.doors.specs.Orders.{AtEach, is_door}
 use Rattle.round.specs.declared.door.Door.{Door}
@@ -13,8 +13,10 @@ load_of load doors w = fold (λ l j. l +ℤ (at doors j).change) (pos load) w
 
 -- the load is 0 to cap after every door of w
 abbrev pub Within : ℕ → ℕ → List Door → List ℕ → Type 0
-Within load cap doors w = AtEach (λ u j. (pos 0 ≤ℤ load_of load doors (u ++ j ∷ [])) × (load_of load doors (u ++ j ∷ []) ≤ℤ pos cap)) w
+Within load cap doors w =
+    AtEach (λ u j. (pos 0 ≤ℤ load_of load doors (u ++ j ∷ [])) × (load_of load doors (u ++ j ∷ []) ≤ℤ pos cap)) w
 
+-- the loads from a to b
 abbrev pub interval : ℤ → ℤ → Interval
 interval a b = record { low = a; high = b }
 
@@ -26,21 +28,27 @@ Between load doors s w = (s.low ≤ℤ load_of load doors w) × (load_of load do
 abbrev pub held : ℤ → ℤ
 held z = int_max (negsuc 9998) (int_min z (pos 9999))
 
--- both ends moved by the change of door j
+-- both ends moved by the change of door j; a number that is no door of the round moves none
 abbrev pub moves : ℕ → List Door → Interval → ℕ → Interval
-moves n doors s j = cond (is_door n j) (interval (held (s.low +ℤ (at doors j).change)) (held (s.high +ℤ (at doors j).change))) s
+moves n doors s j =
+    if is_door n j then interval (held (s.low +ℤ (at doors j).change)) (held (s.high +ℤ (at doors j).change)) else s
 
+-- the least interval that has both
 abbrev pub spans : Interval → Interval → Interval
 spans s t = interval (int_min s.low t.low) (int_max s.high t.high)
 
--- the lowest load would pass the cap, or the highest fall below 0
+-- at door j the lowest load would pass the cap, or the highest fall below 0
 abbrev pub overflows : ℕ → ℕ → List Door → Interval → ℕ → Bool
-overflows n cap doors s j = cond (is_door n j) (int_lt (pos cap) (s.low +ℤ (at doors j).change) || int_lt (s.high +ℤ (at doors j).change) (pos 0)) false
+overflows n cap doors s j =
+    if is_door n j
+    then int_lt (pos cap) (s.low +ℤ (at doors j).change) || int_lt (s.high +ℤ (at doors j).change) (pos 0)
+    else false
 
 -- a and b are one number
 abbrev pub same_int : ℤ → ℤ → Bool
 same_int a b = int_le a b && int_le b a
 
+-- what the rule answers: from the start load on, each door moves the interval
 abbrev pub load_sense : ℕ → ℕ → ℕ → List Door → RuleSense Interval
 load_sense n load cap doors = record {
   start = interval (pos load) (pos load);

@@ -28,17 +28,17 @@ pub record RuleLaws {S : Type 0} (n : ℕ) (R : RuleSense S) (Keeps : List ℕ �
   pub cover_right : (s t : S) (w : List ℕ) → PartOrder n w → Stands t w → Stands (R.cover s t) w
   pub cover_same : (s : S) → R.cover s s ≡ s
   -- if a state that stands for w bars j, then w followed by j breaks the rule
-  pub bars_breaks : (s : S) (w : List ℕ) (j : ℕ) → Next n w j → Stands s w → R.bars s j ≡ true → Keeps (w ++ j ∷ []) → ⊥
+  pub bars_breaks : (s : S) (w : List ℕ) (j : ℕ) → Next n w j → Stands s w → R.bars s j ≡ true → ¬ Keeps (w ++ j ∷ [])
   -- what the state of w itself does not bar keeps the rule
   pub clear_keeps : (w : List ℕ) (j : ℕ) → Next n w j → Keeps w → R.bars (state_of R w) j ≡ false → Keeps (w ++ j ∷ [])
-  -- same tells equal states
+  -- same is yes exactly for equal states
   pub same_is : (s t : S) → R.same s t ≡ true → s ≡ t
   pub same_self : (s : S) → R.same s s ≡ true
   -- a number that is no door of the round changes no state and is not barred
-  pub outside_step : (s : S) (j : ℕ) → (Door n j → ⊥) → R.step s j ≡ s
-  pub outside_bars : (s : S) (j : ℕ) → (Door n j → ⊥) → R.bars s j ≡ false
+  pub outside_step : (s : S) (j : ℕ) → ¬ Door n j → R.step s j ≡ s
+  pub outside_bars : (s : S) (j : ℕ) → ¬ Door n j → R.bars s j ≡ false
 
 -- The answer b, to whether j is barred after w, is yes exactly when w followed by j breaks the rule.
 pub record Exact (Keeps : List ℕ → Type 0) (w : List ℕ) (j : ℕ) (b : Bool) : Type 0 where
-  pub yes_breaks : b ≡ true → Keeps (w ++ j ∷ []) → ⊥
-  pub breaks_yes : (Keeps (w ++ j ∷ []) → ⊥) → b ≡ true
+  pub yes_breaks : b ≡ true → ¬ Keeps (w ++ j ∷ [])
+  pub breaks_yes : ¬ Keeps (w ++ j ∷ []) → b ≡ true

@@ -10,7 +10,7 @@ use crate::rule::Rule;
 use round::table::Round;
 
 /// Two rules together: kept if both are.
-#[derive(Clone, Copy)]
+#[derive(Clone, Copy, Debug, PartialEq, Eq)]
 pub struct Both<A, B> {
     pub first: A,
     pub second: B,

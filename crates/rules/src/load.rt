@@ -4,13 +4,13 @@ use round::table::Round;
 pub mod rule;
 
 /// The load of a round, of whose doors only their change counts.
-#[derive(Clone, Copy)]
+#[derive(Clone, Copy, Debug, PartialEq, Eq)]
 pub struct Load<'a> {
     pub round: &'a Round,
 }
 
 /// The least and the greatest load that the van may have.
-#[derive(Clone, Copy)]
+#[derive(Clone, Copy, Debug, PartialEq, Eq)]
 pub struct Interval {
     pub low: i32,
     pub high: i32,

@@ -1,2 +1,2 @@
-mod Paths
-mod Places
+pub mod Paths
+pub mod Places

@@ -6,10 +6,11 @@ ghost use Rattle.seek.specs.Rows.{fits};
 use crate::row::first_row;
 use layers::node::Node;
 
-fn fits(n: usize, width: usize, long: usize) -> bool
-    ensures { result ≡ fits n width long }
+/// Whether a list of that length has room for a diagram of n doors and that width.
+fn fits(n: usize, width: usize, len: usize) -> bool
+    ensures { result ≡ fits n width len }
 {
-    width >= 1 && width <= 128 && n <= 16 && long >= n * width + 1
+    (1..=128).contains(&width) && n <= 16 && len >= n * width + 1
 }
 
 /// Yes if no path of the diagram of n doors has the door j at an earlier place than the door i. No for a list too short for the

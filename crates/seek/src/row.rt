@@ -1,7 +1,7 @@
 //! A row: what is seen from each node of a layer, by target number.
 ghost use Rattle.std.specs.Prelude.{◌≡◌, ℕ, ◌+◌, ◌*◌, ◌≤◌, length, slice_index_or};
 ghost use Rattle.layers.specs.Calls.{arcs};
-ghost use Rattle.seek.specs.Rows.{by_first, none, of_target, seen_from};
+ghost use Rattle.seek.specs.Rows.{by_first, none, row_of, seen_from};
 
 use crate::seen::{NONE, Seen, either, through};
 use layers::node::Node;
@@ -35,8 +35,8 @@ fn row_of<S: Copy, V: Copy>(
 ) -> [Seen; 256]
     requires n_bound { n ≤ 16 }
     requires us_len_bound { length us.now ≤ 128 }
-    ensures { (t : ℕ)
-        → slice_index_or result t none ≡ of_target (λ u. by_first i j below.now u n) us.now t }
+    ensures { (t : ℕ) → slice_index_or result t none
+        ≡ slice_index_or (row_of (λ u. by_first i j below.now u n) us.now) t none }
 {
     let mut row = [NONE; 256];
     for (a, u) in us.iter().enumerate() {

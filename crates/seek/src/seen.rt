@@ -3,13 +3,14 @@ ghost use Rattle.std.specs.Prelude.{◌≡◌};
 ghost use Rattle.seek.specs.Rows.{either, through};
 
 /// A path to the end; one with the door i; one with the door j and the door i after it.
-#[derive(Clone, Copy)]
+#[derive(Clone, Copy, Debug, PartialEq, Eq)]
 pub(crate) struct Seen {
     pub(crate) ends: bool,
     pub(crate) one: bool,
     pub(crate) both: bool,
 }
 
+/// Nothing.
 pub(crate) const NONE: Seen = Seen {
     ends: false,
     one: false,
@@ -17,7 +18,6 @@ pub(crate) const NONE: Seen = Seen {
 };
 
 /// Over an arc by `door`, to a node from which `below` is seen.
-#[tactic(auto, unfolding(crate::specs::Rows::through))]
 pub(crate) fn through(i: usize, j: usize, door: usize, below: Seen) -> Seen
     ensures { result ≡ through i j door below }
 {
@@ -28,7 +28,7 @@ pub(crate) fn through(i: usize, j: usize, door: usize, below: Seen) -> Seen
     }
 }
 
-#[tactic(auto, unfolding(crate::specs::Rows::either))]
+/// One way or the other.
 pub(crate) fn either(a: Seen, b: Seen) -> Seen
     ensures { result ≡ either a b }
 {

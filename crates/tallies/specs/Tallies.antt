@@ -1,5 +1,5 @@
 -- What a tally is: four functions, and laws that tie them.
-use Rattle.std.specs.Prelude.{◌≡◌, Bool, true, false, cond, ℕ, suc, ◌<◌, ◌≤◌}
+use Rattle.std.specs.Prelude.{◌≡◌, Bool, true, false, if◌then◌else◌, ℕ, suc, ◌<◌, ◌≤◌}
 use Rattle.doors.specs.Orders.{Door}
 use Rattle.round.specs.Clock.{latest}
 
@@ -18,7 +18,7 @@ pub record TallyLaws {V : Type 0} (n : ℕ) (T : TallySense V) (Allows : ℕ →
   pub order_same : (a b : V) → T.not_above a b ≡ true → T.not_above b a ≡ true → a ≡ b
   pub order_total : (a b : V) → T.not_above a b ≡ false → T.not_above b a ≡ true
   -- lesser(a, b) is a if a is not above b, else b
-  pub lesser_is : (a b : V) → T.lesser a b ≡ cond (T.not_above a b) a b
+  pub lesser_is : (a b : V) → T.lesser a b ≡ (if T.not_above a b then a else b)
   -- start is allowed after 0 doors, and a step leads from k doors to k + 1
   pub start_allowed : Allows 0 T.start
   pub step_allowed : (k : ℕ) (v : V) (j leg finish : ℕ) → k < 16 → Door n j → leg ≤ 999 → finish ≤ latest 16 → Allows k v → Allows (suc k) (T.step v j leg finish)

@@ -3,14 +3,12 @@ ghost use Rattle.std.specs.Prelude.{◌*◌, ◌≤◌};
 ghost use Rattle.tallies.specs.Driving.{driving_sense};
 ghost use Rattle.std.proofs.Common.{rules};
 
+use crate::capped::capped_sum;
 use crate::tally::Tally;
 
 /// The tally of drive minutes, from the yard to the last door.
-#[derive(Clone, Copy)]
+#[derive(Clone, Copy, Debug, PartialEq, Eq)]
 pub struct Driving;
-
-/// No number passes this.
-const MOST: u32 = 1_000_000;
 
 impl Tally for Driving {
     type Value = u32;
@@ -28,7 +26,7 @@ impl Tally for Driving {
     }
 
     fn step(&self, v: u32, _j: usize, leg: u32, _finish: u32) -> u32 {
-        v.saturating_add(leg).min(MOST)
+        capped_sum(v, leg)
     }
 
     fn not_above(&self, a: u32, b: u32) -> bool {

@@ -4,7 +4,7 @@ use round::table::Round;
 pub mod tally;
 
 /// Of the round's doors only their due minutes count.
-#[derive(Clone, Copy)]
+#[derive(Clone, Copy, Debug, PartialEq, Eq)]
 pub struct LateDoors<'a> {
     pub round: &'a Round,
 }

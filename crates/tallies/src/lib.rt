@@ -1,6 +1,7 @@
 //! Tallies: what a tally is, and driving and late doors.
 #![tactic(auto)]
 
+mod capped;
 pub mod driving;
 pub mod late;
 pub mod tally;

@@ -1,6 +1,6 @@
 //! When each door of an order finishes, what the order costs, and what is wrong with it.
-ghost use Rattle.std.specs.Prelude.{◌≡◌, ℕ, ◌≤◌, IfOk, nat_lt, slice_index};
-ghost use Rattle.round.specs.Clock.{latest, door};
+ghost use Rattle.std.specs.Prelude.{◌≡◌, ℕ, ◌≤◌, IfOk, slice_index};
+ghost use Rattle.round.specs.Clock.{latest};
 ghost use Rattle.orders.specs.Costs.{cost};
 ghost use Rattle.orders.specs.Times.{yard, finishes};
 ghost use Rattle.orders.specs.Verdicts.{verdict, verdict_from, Judged};
@@ -13,20 +13,14 @@ use rules::rule::Rule;
 use std::alloc::{AllocError, Global};
 use tallies::tally::Tally;
 
-/// Whether door j closes before the work of the van there ends.
-fn closes_before(round: &Round, van: Van, j: usize) -> bool
-    ensures { result ≡ nat_lt (door round.now j).closes van.finish }
-{
-    u32::from(round.door(j).closes) < van.finish
-}
-
 impl<'a> Order<'a> {
     /// The minutes at which the doors finish, in their order.
-    pub fn finishes(&self, heap: Global) -> Result<Vec<u32>, AllocError>
+    #[tactic(auto, using(crate::proofs::Times::soon))]
+    pub fn finishes(&self, alloc: Global) -> Result<Vec<u32>, AllocError>
         ensures value { IfOk result (λ v. v.items ≡ finishes self.now.round.now self.now.doors.now) }
         ensures bound { IfOk result (λ v. (k : ℕ) → slice_index v.items k ≤ latest 16) }
     {
-        let mut minutes = Vec::new(heap);
+        let mut minutes = Vec::new(alloc);
         let mut van = Van::at_yard();
         for j in self.doors {
             van = van.goes(self.round, *j);
@@ -36,6 +30,7 @@ impl<'a> Order<'a> {
     }
 
     /// What the order costs by this tally.
+    #[tactic(auto, using(crate::proofs::Times::soon_on_trip))]
     pub fn cost<T: Tally>(&self, tally: &T) -> T::Value
         ensures { result ≡ cost self.now.round.now (T.Tally.sense tally.now) self.now.doors.now }
     {
@@ -64,6 +59,7 @@ impl<'a> Order<'a> {
     }
 
     /// The first door that closes too early or breaks the rule, if there is one.
+    #[tactic(auto, using(crate::proofs::Times::soon))]
     fn first_fault<R: Rule>(&self, rule: &R) -> Verdict
         ensures { result ≡ verdict_from self.now.round.now (R.Rule.sense rule.now) yard
             (R.Rule.sense rule.now).start self.now.doors.now }
@@ -72,7 +68,7 @@ impl<'a> Order<'a> {
         let mut state = rule.start();
         for j in self.doors {
             van = van.goes(self.round, *j);
-            if closes_before(self.round, van, *j) {
+            if u32::from(self.round.door(*j).closes) < van.finish {
                 return Verdict::Closes(*j);
             }
             if rule.bars(state, *j) {

@@ -9,7 +9,7 @@ ghost use Rattle.rules.specs.PairsLaws.{pairs_lawful};
 
 use super::Pairs;
 use crate::rule::Rule;
-use doors::DoorSet;
+use doors::{DoorSet, with};
 use round::table::Round;
 
 impl<'a> Pairs<'a> {
@@ -44,7 +44,7 @@ impl<'a> Rule for Pairs<'a> {
 
     fn step(&self, s: DoorSet, j: usize) -> DoorSet {
         if self.round.has_door(j) {
-            s | (1 << j)
+            with(s, j)
         } else {
             s
         }

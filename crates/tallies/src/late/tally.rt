@@ -1,21 +1,13 @@
 //! `LateDoors` is a tally: late doors, then late minutes summed, compared in that order.
-ghost use Rattle.std.specs.Prelude.{◌≡◌, ◌+◌, ◌*◌, ◌≤◌, min};
+ghost use Rattle.std.specs.Prelude.{◌≡◌, ◌*◌, ◌≤◌};
 ghost use Rattle.round.specs.Clock.{latest};
 ghost use Rattle.tallies.specs.Late.{late_by, late_sense};
 ghost use Rattle.std.proofs.Common.{rules, arith};
 
 use super::LateDoors;
+use crate::capped::capped_sum;
 use crate::tally::Tally;
 use round::table::Round;
-
-/// No number passes this.
-const MOST: u32 = 1_000_000;
-
-fn capped_sum(a: u32, by: u32) -> u32
-    ensures { result ≡ min (a + by) 1000000 }
-{
-    a.saturating_add(by).min(MOST)
-}
 
 impl<'a> LateDoors<'a> {
     /// The due minutes of a round.

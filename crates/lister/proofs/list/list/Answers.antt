@@ -1,5 +1,5 @@
 -- From each order to the next one, and at the last.
-use Rattle.std.proofs.Common.{◌≡◌, ℕ, ◌-◌, ◌^◌, ◌<◌, ◌≤◌, List, ◌++◌, length, take, drop, All, refl, sym, ap, ◌∙◌, subst, take_all, le_refl, arith}
+use Rattle.std.proofs.Common.{◌≡◌, ℕ, ◌-◌, ◌^◌, ◌<◌, ◌≤◌, List, ◌++◌, length, take, drop, refl, sym, ap, ◌∙◌, subst, take_all, le_refl, arith}
 use Rattle.std.specs.List.{range_with_len}
 use Rattle.std.specs.List.Sorted.{IsPermutation}
 use Rattle.std.proofs.lemmas.List.{take-append-le}
@@ -10,7 +10,7 @@ use Rattle.lister.specs.Listed.{Good, listed_orders}
 use Rattle.lister.specs.Orders.{IsNext}
 use Rattle.lister.proofs.Rank.{rank, rank-lt, rank-before}
 use Rattle.lister.proofs.Doors.{long, small, by_number}
-use Rattle.lister.proofs.SoFar.{SoFar, looked, started, stepped, ended}
+use Rattle.lister.proofs.SoFar.{looked, started, stepped, ended}
 use Rattle.lister.proofs.list.list.Goals as goal
 
 -- the first n places after the step
@@ -29,13 +29,12 @@ loop-allowed-init g c =
     let n = c.args.round.now.n in
     let K = g.R.Rule.keeps c.args.rule.now in
     let first = by_number n c.args.round.now.most in
+    let none = c.new-allowed.ensures.items in
     record {
-      reordered = subst (IsPermutation (range_with_len 1 n)) (sym first) (IsPermutation-refl (range_with_len 1 n));
+      reordered = rw first (IsPermutation-refl (range_with_len 1 n));
       later = refl {a = drop n (range_with_len 1 16)};
-      good = λ s. subst (All (Good c.args.round.now K (g.T.Tally.sense c.args.tally.now))) (sym c.new-allowed.ensures.items) (All-nil (Good c.args.round.now K (g.T.Tally.sense c.args.tally.now)));
-      so_far = λ s.
-          subst (λ (v : List ℕ). SoFar c.args.round.now K v (listed_orders n c.new-allowed.result.items)) (sym first)
-          (subst (λ xs. SoFar c.args.round.now K (range_with_len 1 n) (listed_orders n xs)) (sym c.new-allowed.ensures.items) (started c.args.round.now K));
+      good = λ s. rw none (All-nil (Good c.args.round.now K (g.T.Tally.sense c.args.tally.now)));
+      so_far = λ s. rw (first, none) (started c.args.round.now K);
     }
 
 pub loop-allowed-preserved : goal.loop-allowed-preserved
@@ -49,21 +48,16 @@ loop-allowed-preserved g c =
     let moved = IsPermutation-trans (range_with_len 1 n) v w h.reordered c.next_order.ensures.same_doors in
     let t = taken n w (drop n c.loop-allowed.doors) moved in
     record {
-      reordered = subst (IsPermutation (range_with_len 1 n)) (sym t) moved;
+      reordered = rw t moved;
       later = drop-append-drop n c.loop-allowed.doors w n (le_refl n) (long n w moved) ∙ h.later;
       good = λ s. c.look.ensures.good s (h.good s);
-      so_far = λ s.
-          subst (λ (u : List ℕ). SoFar c.args.round.now K u us) (sym t)
-          (stepped c.args.round.now K v w us (looked c.args.round.now K v _ us (h.so_far s) (c.in_ok-look.ensures.orders s)) (c.next_order.ensures.next c.if-not-next_order.false) h.reordered);
+      so_far = λ s. rw t (stepped c.args.round.now K v w us (looked c.args.round.now K v _ us (h.so_far s) (c.in_ok-look.ensures.orders s)) (c.next_order.ensures.next c.if-not-next_order.false) h.reordered);
     }
 
 pub loop-allowed-smaller : goal.loop-allowed-smaller
 loop-allowed-smaller g c =
     smaller c.args.round.now.n (take c.args.round.now.n c.loop-allowed.doors) c.next_order.new.doors (drop c.args.round.now.n c.loop-allowed.doors) c.args.round.now.most
     c.loop-allowed.invariant.reordered c.next_order.ensures.same_doors (c.next_order.ensures.next c.if-not-next_order.false)
-
-pub returns-then-not-next_order-clause-sound : goal.returns-then-not-next_order-clause-sound
-returns-then-not-next_order-clause-sound g c = λ s. c.look.ensures.good s (c.loop-allowed.invariant.good s)
 
 pub returns-then-not-next_order-clause-whole : goal.returns-then-not-next_order-clause-whole
 returns-then-not-next_order-clause-whole g c = λ s.

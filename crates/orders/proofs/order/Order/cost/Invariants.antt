@@ -1,4 +1,4 @@
-use Rattle.std.proofs.Common.{◌≡◌, ◌≤◌, length, take}
+use Rattle.std.proofs.Common.{◌≡◌, take}
 use Rattle.orders.specs.Costs.{trip_after}
 use Rattle.orders.proofs.order.Order.cost.Given as goal
 
@@ -6,4 +6,4 @@ abbrev pub invariant-loop-j : goal.invariant-loop-j
 invariant-loop-j g l =
     let w = l.self.doors.now in
     let r = l.self.round.now in
-    (l.j-index ≤ length w) × (record { van = l.van; cost = l.value } ≡ trip_after r (g.T.Tally.sense l.tally) (take l.j-index w))
+    record { van = l.van; cost = l.value } ≡ trip_after r (g.T.Tally.sense l.tally) (take l.j-index w)

@@ -1,26 +1,26 @@
-use Rattle.std.proofs.Common.{ℕ, ◌+◌, get_or, take, sym, subst, arith, take_all}
-use Rattle.std.proofs.lemmas.Bool.{and_parts, not-true}
-use Rattle.doors.specs.Orders.{PartOrder}
-use Rattle.doors.proofs.Orders.{is-door, part-is}
-use Rattle.doors.proofs.Sets.{has-false}
-use Rattle.orders.proofs.Parts.{Seen, seen_more, broken, new-fails}
+use Rattle.std.proofs.Common.{slice_index, sym, arith, take_all}
+use Rattle.std.proofs.lemmas.Bool.Decides.{nat_tests}
+use Rattle.doors.specs.Orders.{Door}
+use Rattle.doors.specs.Sets.{Has}
+use Rattle.doors.proofs.Orders.{part-is}
+use Rattle.orders.proofs.Parts.{seen_more, broken}
 use Rattle.orders.proofs.order.making.is_part_order.Goals as goal
 
-pub returns-then-not-is_new : goal.returns-then-not-is_new
-returns-then-not-is_new c =
-    sym (broken c.args.n c.loop-j.seen c.args.list.now c.loop-j.j-index c.loop-j-test.true c.loop-j.invariant.1
-    (new-fails _ _ _ (sym c.if-not-is_new.ensures)))
+pub returns-then-not-has_door : goal.returns-then-not-has_door
+returns-then-not-has_door c =
+    let n = c.args.round.now.n in
+    let j = slice_index c.args.list.now c.loop-j.j-index in
+    let old : Door n j → Has c.loop-j.seen j = grind (arith, nat_tests, c.then-not-has_door.branch) in
+    sym (broken n c.loop-j.seen c.args.list.now c.loop-j.j-index c.loop-j-test.true c.loop-j.invariant old)
 
 pub loop-j-preserved : goal.loop-j-preserved
 loop-j-preserved c =
-    let j = get_or c.args.list.now c.loop-j.j-index 0 in
-    let p = and_parts _ _ (sym c.if-not-is_new.ensures) in
-    let d = is-door c.args.n j p.0 in
-    let added = c.with-seen.ensures.added (omega arith) in (
-      omega arith,
-      subst (λ (s : ℕ). Seen c.args.n s (take (c.loop-j.j-index + 1) c.args.list.now)) (sym added)
-          (seen_more c.args.n c.loop-j.seen c.args.list.now c.loop-j.j-index c.loop-j-test.true c.loop-j.invariant.1 d (has-false c.loop-j.seen j (not-true _ p.1))),
-    )
+    let n = c.args.round.now.n in
+    let j = slice_index c.args.list.now c.loop-j.j-index in
+    let most = c.args.round.now.most in
+    let door : Door n j = grind (arith, nat_tests) in
+    let new : ¬ Has c.loop-j.seen j = grind (arith, nat_tests) in
+    rw (c.with-seen.ensures.added (omega arith)) (seen_more n c.loop-j.seen c.args.list.now c.loop-j.j-index c.loop-j-test.true c.loop-j.invariant door new)
 
 pub returns : goal.returns
-returns c = sym (part-is c.args.n c.args.list.now (subst (PartOrder c.args.n) (take_all _ _ c.loop-j-test.false) c.loop-j.invariant.1.part))
+returns c = rw (take_all c.loop-j.j-index c.args.list.now c.loop-j-test.false) at (sym (part-is c.args.round.now.n _ c.loop-j.invariant.part))
