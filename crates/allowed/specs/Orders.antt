@@ -1,38 +1,38 @@
 -- Allowed orders and what they cost, in words of the round alone.
 use Rattle.std.specs.Prelude.{◌≡◌, ◌⊎◌, ◌↔◌, ℕ, ◌<◌, ◌≤◌, List, length}
-use Rattle.doors.specs.Orders.{PartOrder}
+use Rattle.doors.specs.Orders.{IsPartOrder}
 use Rattle.round.specs.declared.table.Round.{Round}
-use Rattle.rules.specs.Pairs.{Ordered}
-use Rattle.rules.specs.Loads.{Within}
+use Rattle.rules.specs.Pairs.{IsOrdered}
+use Rattle.rules.specs.Loads.{IsWithinCap}
 use Rattle.tallies.specs.Driving.{driving_sense}
 use Rattle.tallies.specs.Late.{late_sense}
-use Rattle.orders.specs.Allowed.{Allowed}
+use Rattle.orders.specs.Allowed.{IsAllowed}
 use Rattle.orders.specs.Costs.{cost}
-use Rattle.orders.specs.Times.{Timely}
+use Rattle.orders.specs.Times.{KeepsHours}
 
 -- w has each door of the round once
-pub record FullOrder (r : Round) (w : List ℕ) : Type 0 where
-  pub part : PartOrder r.n w
+pub record IsFullOrder (r : Round) (w : List ℕ) : Type 0 where
+  pub part : IsPartOrder r.n w
   pub whole : length w ≡ r.n
 
 -- an order of the round's doors that is allowed
-pub record AllowedOrder (r : Round) (w : List ℕ) : Type 0 where
+pub record IsAllowedOrder (r : Round) (w : List ℕ) : Type 0 where
   -- each door once
-  pub full : FullOrder r w
+  pub full : IsFullOrder r w
   -- the first door of each pair stands ahead of the second
-  pub ordered : Ordered r.ahead w
+  pub ordered : IsOrdered r.ahead w
   -- the van holds 0 to cap key boxes after every door
-  pub within : Within r.load r.cap r.doors w
+  pub within : IsWithinCap r.load r.cap r.doors w
   -- no door is finished after it closes
-  pub timely : Timely r w
+  pub timely : KeepsHours r w
 
 -- the side rules of the round: its pairs, and its load
 abbrev pub KeepsRules : Round → List ℕ → Type 0
-KeepsRules r w = Ordered r.ahead w × Within r.load r.cap r.doors w
+KeepsRules r w = IsOrdered r.ahead w × IsWithinCap r.load r.cap r.doors w
 
 -- allowed orders are those that the claim calls allowed, where the side rule is that of pairs and load
 abbrev pub AllowedMeans : Type 0
-AllowedMeans = (r : Round) (w : List ℕ) → AllowedOrder r w ↔ Allowed r (KeepsRules r) w
+AllowedMeans = (r : Round) (w : List ℕ) → IsAllowedOrder r w ↔ IsAllowed r (KeepsRules r) w
 
 -- what an order costs: its late doors, and the minutes by which they are late
 abbrev pub late_cost : Round → List ℕ → ℕ × ℕ
@@ -43,5 +43,5 @@ abbrev pub driving_cost : Round → List ℕ → ℕ
 driving_cost r w = cost r driving_sense w
 
 -- the cost a is not above the cost b: it has fewer late doors, or as many and no more late minutes
-abbrev pub NotAbove : ℕ × ℕ → ℕ × ℕ → Type 0
-NotAbove a b = (a.0 < b.0) ⊎ ((a.0 ≡ b.0) × (a.1 ≤ b.1))
+abbrev pub IsNotAbove : ℕ × ℕ → ℕ × ℕ → Type 0
+IsNotAbove a b = (a.0 < b.0) ⊎ ((a.0 ≡ b.0) × (a.1 ≤ b.1))

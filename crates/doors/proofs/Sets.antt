@@ -7,7 +7,7 @@ use Rattle.std.specs.Int.{bit_at}
 use Rattle.std.proofs.lemmas.Bool.Decides.{nat_tests}
 use Rattle.std.proofs.lemmas.Nat.Bits.{bit_at-suc, bit_at-lt, bit_at_and, bit_at_or, bit_at-zero, bit_at-pow_same, bit_at-pow_other, same_from_bits}
 use Rattle.doors.specs.Sets.{Has, has, set_of}
-use Rattle.doors.specs.Orders.{In, Door, PartOrder}
+use Rattle.doors.specs.Orders.{StandsIn, IsDoor, IsPartOrder}
 pub use Rattle.std.proofs.lemmas.Nat.Bits.{bit_at_and as digit_and, bit_at-pow_same as digit-one, bit_at-pow_other as digit-other}
 
 -- ---- members
@@ -83,28 +83,28 @@ ones-within a b h = within-upto a a b (le_refl a) h
 
 -- ---- the set of a list
 
-pub has-set : (w : List ℕ) (j : ℕ) → Has (set_of w) j → In j w
+pub has-set : (w : List ℕ) (j : ℕ) → Has (set_of w) j → StandsIn j w
 has-set [] j h = has-none j h
 has-set (x ∷ w) j h = grind (arith, has-set w j, has_more (set_of w) x j)
 
-pub ones-set : (n : ℕ) (w : List ℕ) → PartOrder n w → ones (set_of w) ≡ length w
+pub ones-set : (n : ℕ) (w : List ℕ) → IsPartOrder n w → ones (set_of w) ≡ length w
 ones-set n [] p = ones_none
 ones-set n (x ∷ w) p = grind (arith, ones-added x (set_of w), has-set w x, ones-set n w)
 
 -- a set that has each of k doors, none twice, has k doors or more
-pub length-within : (n m : ℕ) (w : List ℕ) → PartOrder n w → ((j : ℕ) → In j w → Has m j) → length w ≤ ones m
+pub length-within : (n m : ℕ) (w : List ℕ) → IsPartOrder n w → ((j : ℕ) → StandsIn j w → Has m j) → length w ≤ ones m
 length-within n m w p h = omega (arith, ones-set n w p, ones-within (set_of w) m (λ j e. h j (has-set w j e)))
 
-set-lt : (n : ℕ) (w : List ℕ) → PartOrder n w → set_of w < 2 ^ suc n
+set-lt : (n : ℕ) (w : List ℕ) → IsPartOrder n w → set_of w < 2 ^ suc n
 set-lt n [] p = pow_pos (suc n)
 set-lt n (x ∷ w) p = or_lt (suc n) (set_of w) (2 ^ x) (set-lt n w p.2) (pow-lt (omega arith))
 
-pub part-door : (n : ℕ) (w : List ℕ) (j : ℕ) → PartOrder n w → In j w → Door n j
+pub part-door : (n : ℕ) (w : List ℕ) (j : ℕ) → IsPartOrder n w → StandsIn j w → IsDoor n j
 part-door n [] j p h = absurd h
 part-door n (x ∷ w) j p h = grind (arith, part-door n w j)
 
 -- a part order of n doors has at most n
-pub part_length : (n : ℕ) (w : List ℕ) → PartOrder n w → length w ≤ n
+pub part_length : (n : ℕ) (w : List ℕ) → IsPartOrder n w → length w ≤ n
 part_length n w p =
     let m = set_of w in
     let below : m / 2 < 2 ^ n = omega (arith, set-lt n w p, pow-suc 2 n) in

@@ -2,7 +2,7 @@
 -- Nobody has to believe these steps: the facts at the end say, in the definitions of the calls, what they come to on the records of a diagram.
 use Rattle.std.specs.Prelude.{◌≡◌, ℕ, ◌*◌, Bool, true, ◌&&◌, List, [], ◌∷◌, length, take, Option, ◌==◌, nat_le}
 use Rattle.round.specs.declared.table.Round.{Round}
-use Rattle.round.specs.Clock.{finish, latest}
+use Rattle.round.specs.Clock.{finish, latest_finish}
 use Rattle.rules.specs.Rules.{RuleSense}
 use Rattle.layers.specs.declared.node.Node.{Node}
 use Rattle.layers.specs.declared.node.Down.{Down}
@@ -19,7 +19,7 @@ use Rattle.filter.specs.Kept.{kept_from}
 -- no finish is above what the clock allows after 15 doors
 abbrev pub timely : {S V : Type 0} → List (Node S V) → Bool
 timely [] = true
-timely (x ∷ xs) = nat_le x.label.down.finish (latest 15) && timely xs
+timely (x ∷ xs) = nat_le x.label.down.finish (latest_finish 15) && timely xs
 
 -- arcs of a diagram of n doors and width W
 unfoldable pub arc_count : {S V : Type 0} → ℕ → ℕ → List (Node S V) → ℕ

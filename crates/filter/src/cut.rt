@@ -1,6 +1,6 @@
 //! Cut: the filter by a ceiling.
 ghost use Rattle.std.specs.Prelude.{◌≡◌, ◌-◌, ◌*◌, ◌≤◌, ◌&&◌, length, take, if◌then◌else◌};
-ghost use Rattle.round.specs.Clock.{latest};
+ghost use Rattle.round.specs.Clock.{latest_finish};
 ghost use Rattle.layers.specs.Settings.{lent_setting};
 ghost use Rattle.layers.specs.Labels.{is_above_ceiling};
 ghost use Rattle.labels.specs.Passes.{fits};
@@ -37,7 +37,7 @@ impl<'a, T: Tally, S: Copy> Test for Ceiling<'a, T, S, T::Value> {
 
     ghost goes = { λ t. is_above_ceiling t.round.now (T.Tally.sense t.tally.now) t.ceiling };
 
-    ghost fits = { λ t u. u.finish ≤ latest 15 };
+    ghost fits = { λ t u. u.finish ≤ latest_finish 15 };
 
     fn takes_out(
         &self,

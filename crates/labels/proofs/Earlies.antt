@@ -5,7 +5,7 @@ use Rattle.std.specs.List.{range_with_len, flat_map, AllByRecursion as All}
 use Rattle.std.proofs.ByRecursion.{All-append, All-from_get_or}
 use Rattle.std.proofs.lemmas.List.FromFn.{get_or-map-range_with_len, length-map-range_with_len}
 use Rattle.std.proofs.lemmas.Bool.{cond_both}
-use Rattle.round.specs.Clock.{latest}
+use Rattle.round.specs.Clock.{latest_finish}
 use Rattle.round.proofs.Clocks.{clock-laws}
 use Rattle.rules.specs.Rules.{RuleSense}
 use Rattle.tallies.specs.Tallies.{TallySense}
@@ -38,15 +38,15 @@ module _ {S V : Type 0} (by : Setting S V) where
   abbrev Soon : ℕ → Down S V → Type 0
   Soon m l = l.finish ≤ m
 
-  arrive-soon : (k : ℕ) (u : Down S V) (j : ℕ) → u.finish ≤ latest k → (arrival_over by u j).finish ≤ latest (suc k)
+  arrive-soon : (k : ℕ) (u : Down S V) (j : ℕ) → u.finish ≤ latest_finish k → (arrival_over by u j).finish ≤ latest_finish (suc k)
   unfolding arrival_over
   arrive-soon k u j h = (clock-laws by.round).bound k u.finish (leg by.round u.lasts j) j h (leg-most by.round u.lasts j)
 
-  arrives-soon : (k t : ℕ) (us : List (Node S V)) → All (Early (latest k)) us → All (Soon (latest (suc k))) (arrivals by t us)
+  arrives-soon : (k t : ℕ) (us : List (Node S V)) → All (Early (latest_finish k)) us → All (Soon (latest_finish (suc k))) (arrivals by t us)
   unfolding from_node by_door
   arrives-soon i t us h =
-      let P = Soon (latest (suc i)) in
-      all-joined P (Early (latest i)) (from_node by t)
+      let P = Soon (latest_finish (suc i)) in
+      all-joined P (Early (latest_finish i)) (from_node by t)
       (λ u e. cond_both (eqb u.label.down.lasts 0) [] (flat_map (by_door by t u) (range_with_len 0 16)) (All P) (λ _. tt)
       (λ _. all-joined P (λ _. Unit {0}) (by_door by t u)
       (λ k _. cond_both (eqb (get_or u.arcs.to k 0) t) (arrival_over by u.label.down (k + 1) ∷ []) [] (All P) (λ _. (arrive-soon i u.label.down (k + 1) e, tt)) (λ _. tt))
@@ -58,14 +58,14 @@ module _ {S V : Type 0} (by : Setting S V) where
   gathered-soon m [] h = omega arith
   gathered-soon m (x ∷ xs) h = folded_keeps (Soon m) (merge by.rule by.tally) (λ l y e. omega arith) x xs h.0
 
-  pub next-early : (k : ℕ) (us vs : List (Node S V)) → All (Early (latest k)) us → All (Early (latest (suc k))) (next_layer by us vs)
+  pub next-early : (k : ℕ) (us vs : List (Node S V)) → All (Early (latest_finish k)) us → All (Early (latest_finish (suc k))) (next_layer by us vs)
   unfolding next_layer labelled
   next-early k us vs h =
       let f = labelled by us vs in
       let n = length vs in
-      All-from_get_or (Early (latest (suc k))) (map f (range_with_len 0 n)) (blank_node by.rule by.tally)
-      (λ b lt. subst (Early (latest (suc k))) (sym (get_or-map-range_with_len f 0 n b b (blank_node by.rule by.tally) (omega (arith, length-map-range_with_len f 0 n)) (omega arith)))
-      (gathered-soon (latest (suc k)) (arrivals by (b + 1) us) (arrives-soon k (b + 1) us h)))
+      All-from_get_or (Early (latest_finish (suc k))) (map f (range_with_len 0 n)) (blank_node by.rule by.tally)
+      (λ b lt. subst (Early (latest_finish (suc k))) (sym (get_or-map-range_with_len f 0 n b b (blank_node by.rule by.tally) (omega (arith, length-map-range_with_len f 0 n)) (omega arith)))
+      (gathered-soon (latest_finish (suc k)) (arrivals by (b + 1) us) (arrives-soon k (b + 1) us h)))
 
   first-early : (us : List (Node S V)) → All (Early 9999) (first_layer by.rule by.tally us)
   first-early [] = tt
@@ -106,7 +106,7 @@ module _ {S V : Type 0} (by : Setting S V) where
         let long : length (next_layer by us vs) ≡ by.width = next-long us vs ∙ length_part ((i + 1) * by.width) by.width ys (omega arith) in
         length_over ((i + 1) * by.width) (next_layer by us vs) ys (omega arith) ∙ before
 
-    pub layers-early : (i : ℕ) → i < by.round.n → All (Early (latest i)) (part (i * by.width) by.width (layers_done by i (begun by.rule by.tally by.width xs)))
+    pub layers-early : (i : ℕ) → i < by.round.n → All (Early (latest_finish i)) (part (i * by.width) by.width (layers_done by i (begun by.rule by.tally by.width xs)))
     unfolding layer_done begun
     layers-early zero lt =
         let l = length_part 0 by.width xs (omega (arith, first_ends by.round.one)) in
@@ -120,9 +120,9 @@ module _ {S V : Type 0} (by : Setting S V) where
         let vs = part ((i + 1) * by.width) by.width ys in
         let long : length (next_layer by us vs) ≡ by.width = next-long us vs ∙ length_part ((i + 1) * by.width) by.width ys (omega arith) in
         let at : (i + 1) * by.width ≡ suc i * by.width = ap (λ k. k * by.width) (add-one i) in
-        subst (λ p. All (Early (latest (suc i))) (part p by.width (over ((i + 1) * by.width) (next_layer by us vs) ys))) at
-        (subst (All (Early (latest (suc i)))) (sym (part-over ((i + 1) * by.width) (next_layer by us vs) ys by.width long (omega arith)))
+        subst (λ p. All (Early (latest_finish (suc i))) (part p by.width (over ((i + 1) * by.width) (next_layer by us vs) ys))) at
+        (subst (All (Early (latest_finish (suc i)))) (sym (part-over ((i + 1) * by.width) (next_layer by us vs) ys by.width long (omega arith)))
         (next-early i us vs (layers-early i (omega arith))))
 
-    pub layers-ready : (i : ℕ) → i < by.round.n → All (Early (latest 15)) (part (i * by.width) by.width (layers_done by i (begun by.rule by.tally by.width xs)))
-    layers-ready i lt = all-mono (Early (latest i)) (Early (latest 15)) (λ u h. omega (arith, by.round.most)) _ (layers-early i lt)
+    pub layers-ready : (i : ℕ) → i < by.round.n → All (Early (latest_finish 15)) (part (i * by.width) by.width (layers_done by i (begun by.rule by.tally by.width xs)))
+    layers-ready i lt = all-mono (Early (latest_finish i)) (Early (latest_finish 15)) (λ u h. omega (arith, by.round.most)) _ (layers-early i lt)

@@ -1,7 +1,7 @@
 //! The pass down: each arrival is added to its target, sources by number, then doors.
 ghost use Rattle.std.specs.Prelude.{◌≡◌, ℕ, ◌+◌, ◌*◌, ◌<◌, ◌≤◌, map, length, get_or, slice_index_or};
 ghost use Rattle.std.specs.List.{AllByRecursion};
-ghost use Rattle.round.specs.Clock.{latest};
+ghost use Rattle.round.specs.Clock.{latest_finish};
 ghost use Rattle.layers.specs.declared.node.Node.{Node as ANode};
 ghost use Rattle.layers.specs.Labels.{arrival_over, merge, first_label, blank_label};
 ghost use Rattle.layers.specs.Settings.{lent_setting};
@@ -20,7 +20,7 @@ pub(crate) fn arrive<R: Rule, T: Tally>(
     j: usize,
 ) -> Down<R::State, T::Value>
     requires j_bound { j < 17 }
-    requires finish_bound { u.now.finish ≤ latest 15 }
+    requires finish_bound { u.now.finish ≤ latest_finish 15 }
     ensures { let by = lent_setting by.now (R.sense by.now.rule.now) (T.sense by.now.tally.now) in
         result ≡ arrival_over by u.now j }
 {
@@ -85,7 +85,7 @@ fn cross<R: Rule, T: Tally>(
     k: usize,
 )
     requires k_bound { k < 16 }
-    requires finish_bound { u.now.label.down.finish ≤ latest 15 }
+    requires finish_bound { u.now.label.down.finish ≤ latest_finish 15 }
     ensures { let by = lent_setting by.now (R.sense by.now.rule.now) (T.sense by.now.tally.now) in
         vs.new ≡ crossed by u.now vs.old k }
 {
@@ -103,7 +103,7 @@ fn spread_node<R: Rule, T: Tally>(
     u: &Node<R::State, T::Value>,
     vs: &mut [Node<R::State, T::Value>],
 )
-    requires { u.now.label.down.finish ≤ latest 15 }
+    requires { u.now.label.down.finish ≤ latest_finish 15 }
     ensures { let by = lent_setting by.now (R.sense by.now.rule.now) (T.sense by.now.tally.now) in
         vs.new ≡ spread by vs.old u.now }
 {
@@ -148,7 +148,7 @@ fn relabel_layer<R: Rule, T: Tally>(
 )
     requires width_bound { from + by.now.width ≤ at }
     requires count_in_bounds { at + count ≤ length nodes.old }
-    requires all_early { AllByRecursion (Early (latest 15)) (part from by.now.width nodes.old) }
+    requires all_early { AllByRecursion (Early (latest_finish 15)) (part from by.now.width nodes.old) }
     ensures { let by = lent_setting by.now (R.sense by.now.rule.now) (T.sense by.now.tally.now) in
         nodes.new ≡ layer_done by from count at nodes.old }
 {

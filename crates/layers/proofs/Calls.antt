@@ -1,12 +1,12 @@
 -- No call loses an allowed order that no ceiling rules out.
 use Rattle.std.proofs.Common.{◌≡◌, ℕ, zero, suc, ◌<◌, ◌≤◌, Bool, true, false, cond, not, List, [], ◌∷◌, ◌++◌, length, get_or, Some, None, Option, sym, refl, ap, ◌∙◌, subst, append-nil, arith}
-use Rattle.doors.specs.Orders.{Door, PartOrder}
+use Rattle.doors.specs.Orders.{IsDoor, IsPartOrder}
 use Rattle.round.proofs.Clocks.{clock-laws}
 use Rattle.round.specs.Clock.{drive}
 use Rattle.rules.specs.Rules.{RuleLaws}
 use Rattle.tallies.specs.Tallies.{TallyLaws}
-use Rattle.orders.specs.Allowed.{Allowed}
-use Rattle.orders.specs.Costs.{Trip, cost, rides, trip_after}
+use Rattle.orders.specs.Allowed.{IsAllowed}
+use Rattle.orders.specs.Costs.{Trip, cost, next_trip, trip_after}
 use Rattle.layers.specs.Net.{table, Net, node, target, width, PathFrom}
 use Rattle.layers.specs.Flow.{end_label}
 use Rattle.layers.specs.Join.{clash, joined_arcs}
@@ -34,7 +34,7 @@ module _ {S V : Type 0} {Keeps : List ℕ → Type 0} {Stands : S → List ℕ �
       let s = (clock-laws by.round).bound (length p) (trip_after by.round by.tally p).van.finish (drive by.round (trip_after by.round by.tally p).van.last j) j t.soon dl in
       tallied.order_chain (cost by.round by.tally p) (cost by.round by.tally (p ++ (j ∷ []))) (cost by.round by.tally (p ++ (j ∷ w)))
       (subst (λ (z : Trip V). by.tally.not_above (cost by.round by.tally p) z.cost ≡ true) (sym (trip-snoc by.round by.tally p j))
-      (tallied.step_above (length p) (cost by.round by.tally p) j (drive by.round (trip_after by.round by.tally p).van.last j) (rides by.round by.tally (trip_after by.round by.tally p) j).van.finish facts.2 facts.0 dl (within (length p) _ facts.2 s) t.fine))
+      (tallied.step_above (length p) (cost by.round by.tally p) j (drive by.round (trip_after by.round by.tally p).van.last j) (next_trip by.round by.tally (trip_after by.round by.tally p) j).van.finish facts.2 facts.0 dl (within (length p) _ facts.2 s) t.fine))
       (subst (λ (q : List ℕ). by.tally.not_above (cost by.round by.tally (p ++ (j ∷ []))) (cost by.round by.tally q) ≡ true) (snoc-assoc p w j) rest)
 
   cuts-keep : (c : V) (i : ℕ) (p w : List ℕ) (labs : List (Option (Down S V))) (Ls : Net) (a : ℕ) → by.tally.not_above (cost by.round by.tally (p ++ w)) c ≡ true → Going by ruled tallied p w → Told by ruled tallied p
@@ -61,7 +61,7 @@ module _ {S V : Type 0} {Keeps : List ℕ → Type 0} {Stands : S → List ℕ �
             (rw (length-snoc p j) good') neat.1 q.2,
       )
 
-  cut_keeps : (c : V) (w : List ℕ) (Ls : Net) → Allowed by.round Keeps w → by.tally.not_above (cost by.round by.tally w) c ≡ true → Neat by.round.n Ls → PathFrom Ls 0 w → PathFrom (cut by c Ls) 0 w
+  cut_keeps : (c : V) (w : List ℕ) (Ls : Net) → IsAllowed by.round Keeps w → by.tally.not_above (cost by.round by.tally w) c ≡ true → Neat by.round.n Ls → PathFrom Ls 0 w → PathFrom (cut by c Ls) 0 w
   unfolding cut
   cut_keeps c w Ls o u neat q = tidy-keeps (cuts by c 0 (first_labels by.rule by.tally) Ls) w
       (cuts-keep c 0 [] w (first_labels by.rule by.tally) Ls 0 u (setting-out by ruled tallied w o) (told_none by ruled tallied) (at_first by ruled tallied) (good-first by ruled tallied) neat q)
@@ -86,13 +86,13 @@ module _ {S V : Type 0} {Keeps : List ℕ → Type 0} {Stands : S → List ℕ �
       (rw (length-snoc p j) good') neat.1 q.2 in
       (x.0, x.1, rw (← (snoc-assoc p w j)) x.2)
 
-  pub bound-below : (w : List ℕ) (Ls : Net) → Allowed by.round Keeps w → Neat by.round.n Ls → PathFrom Ls 0 w → (v : V) × (bound by Ls ≡ Some v) × (by.tally.not_above v (cost by.round by.tally w) ≡ true)
+  pub bound-below : (w : List ℕ) (Ls : Net) → IsAllowed by.round Keeps w → Neat by.round.n Ls → PathFrom Ls 0 w → (v : V) × (bound by Ls ≡ Some v) × (by.tally.not_above v (cost by.round by.tally w) ≡ true)
   unfolding bound
   bound-below w Ls o neat q =
       let x = final-fits [] w (first_labels by.rule by.tally) Ls 0 (setting-out by ruled tallied w o) (told_none by ruled tallied) (at_first by ruled tallied) (good-first by ruled tallied) neat q in
       (x.0.value, ap (valueO by) x.1, x.2)
 
-  module _ (w1 : 1 ≤ by.width) (w : List ℕ) (o : Allowed by.round Keeps w) where
+  module _ (w1 : 1 ≤ by.width) (w : List ℕ) (o : IsAllowed by.round Keeps w) where
     -- a diagram in which w is a path
     unfoldable pub Safe : Net → Type 0
     Safe Ls = Proper by.round.n by.width Ls × PathFrom Ls 0 w
@@ -113,11 +113,11 @@ module _ {S V : Type 0} {Keeps : List ℕ → Type 0} {Stands : S → List ℕ �
     unfolding Safe
     kept-join_at d lo hi Ls a b n s = (proper-join by w1 d lo hi Ls a b n s.0, join-keeps d lo hi Ls 0 w a b n s.1)
 
-    open-door : (j : ℕ) → Door by.round.n j → target (all_doors by.round.n) j ≡ 1
+    open-door : (j : ℕ) → IsDoor by.round.n j → target (all_doors by.round.n) j ≡ 1
     open-door zero d = absurd (omega (arith, d.low))
     open-door (suc k) d = table_at by.round.n k (λ m. 1) 0 (omega (arith, d.high))
 
-    open-path : (k : ℕ) (v : List ℕ) → PartOrder by.round.n v → length v ≡ k → PathFrom (table k (λ i. all_doors by.round.n ∷ [])) 0 v
+    open-path : (k : ℕ) (v : List ℕ) → IsPartOrder by.round.n v → length v ≡ k → PathFrom (table k (λ i. all_doors by.round.n ∷ [])) 0 v
     open-path zero [] d e = refl
     open-path zero (j ∷ v) d e = absurd (omega arith)
     open-path (suc k) [] d e = absurd (omega arith)

@@ -4,15 +4,15 @@ use lib.Bits.{bit_or}
 use lib.Count.{ones}
 use Rattle.std.proofs.lemmas.Bool.{true≢false, not-true, ltb-false, eqb-true, eqb-false, ne_eqb, and_parts, or_parts}
 use Rattle.doors.proofs.Orders.{each_none, each_more}
-use Rattle.doors.specs.Orders.{Door, In}
+use Rattle.doors.specs.Orders.{IsDoor, StandsIn}
 use Rattle.doors.specs.Sets.{has}
 use Rattle.round.specs.Clock.{door, drive, finish}
 use Rattle.rules.specs.Rules.{RuleLaws, state_of}
 use Rattle.tallies.specs.Tallies.{TallyLaws}
 use Rattle.orders.proofs.Times.{trip-van}
-use Rattle.orders.specs.Allowed.{Allowed}
-use Rattle.orders.specs.Costs.{Trip, cost, rides, trip_after}
-use Rattle.orders.specs.Times.{finish_of, Timely}
+use Rattle.orders.specs.Allowed.{IsAllowed}
+use Rattle.orders.specs.Costs.{Trip, cost, next_trip, trip_after}
+use Rattle.orders.specs.Times.{finish_of, KeepsHours}
 use Rattle.orders.specs.declared.van.Van.{Van}
 use Rattle.layers.specs.declared.node.Up.{Up}
 use Rattle.layers.specs.Net.{Outs, Layer, Net, node, target, PathFrom, every_door, every_arc}
@@ -77,11 +77,11 @@ module _ {S V : Type 0} {Keeps : List ℕ → Type 0} {Stands : S → List ℕ �
   -- ---- exact labels
   pub record Sound (p : List ℕ) : Type 0 where
     pub keeps : Keeps p
-    pub timely : Timely by.round p
+    pub timely : KeepsHours by.round p
     pub told : Told by ruled tallied p
 
   pub record Exact (l : Down S V) (p : List ℕ) : Type 0 where
-    pub all : (j : ℕ) → In j p → has l.all j ≡ true
+    pub all : (j : ℕ) → StandsIn j p → has l.all j ≡ true
     pub finish : l.finish ≡ (trip_after by.round by.tally p).van.finish
     pub lasts : l.lasts ≡ bit_of (trip_after by.round by.tally p).van.last
     pub state : l.state ≡ state_of by.rule p
@@ -121,15 +121,15 @@ module _ {S V : Type 0} {Keeps : List ℕ → Type 0} {Stands : S → List ℕ �
     pub exact : Exact (arrival_over by l j) (p ++ (j ∷ []))
     pub worth : l.value ≡ cost by.round by.tally p → (arrival_over by l j).value ≡ cost by.round by.tally (p ++ (j ∷ []))
 
-  onward : (l : Down S V) (p : List ℕ) (j : ℕ) → length p < 16 → Door by.round.n j → Sound p → Exact l p → Clear l j → Onward l p j
+  onward : (l : Down S V) (p : List ℕ) (j : ℕ) → length p < 16 → IsDoor by.round.n j → Sound p → Exact l p → Clear l j → Onward l p j
   unfolding arrival_over
   onward l p j k d s e c =
-      let n : ¬ In j p = λ i. absurd (true≢false (sym (e.all j i) ∙ c.new)) in
+      let n : ¬ StandsIn j p = λ i. absurd (true≢false (sym (e.all j i) ∙ c.new)) in
       let z = trip-snoc by.round by.tally p j in
       let t = s.told in
       let g : leg by.round l.lasts j ≡ drive by.round (trip_after by.round by.tally p).van.last j =
       ap (λ (m : ℕ). leg by.round m j) e.lasts ∙ leg-one by.round (trip_after by.round by.tally p).van.last j t.here (ne_eqb (trip_after by.round by.tally p).van.last j (t.last j n d.low)) in
-      let f : finish by.round l.finish (leg by.round l.lasts j) j ≡ (rides by.round by.tally (trip_after by.round by.tally p) j).van.finish =
+      let f : finish by.round l.finish (leg by.round l.lasts j) j ≡ (next_trip by.round by.tally (trip_after by.round by.tally p) j).van.finish =
       ap (λ (x : ℕ). finish by.round x (leg by.round l.lasts j) j) e.finish ∙ ap (λ (x : ℕ). finish by.round (trip_after by.round by.tally p).van.finish x j) g in
       let v : finish_of by.round (p ++ (j ∷ [])) ≡ finish by.round l.finish (leg by.round l.lasts j) j =
       ap (λ (a : Van). a.finish) (sym (trip-van by.round by.tally (p ++ (j ∷ [])))) ∙ ap (λ (q : Trip V). q.van.finish) z ∙ sym f in
@@ -200,7 +200,7 @@ module _ {S V : Type 0} {Keeps : List ℕ → Type 0} {Stands : S → List ℕ �
       rw (← (snoc-assoc p w j)) (paths-sound (suc i) (p ++ (j ∷ [])) w (labels_next by labs L (length M)) (M ∷ Ls) b n.0 (omega (arith, length-snoc p j)) sn.1 n.1
       (exact_same (arrival_over by l j) n.0 (p ++ (j ∷ [])) same on.exact) on.sound neat.1 q.2)
 
-  pub paths-allowed : (D : Net) (w : List ℕ) → length D ≡ by.round.n → Neat by.round.n D → settled by D ≡ true → PathFrom D 0 w → Allowed by.round Keeps w
+  pub paths-allowed : (D : Net) (w : List ℕ) → length D ≡ by.round.n → Neat by.round.n D → settled by D ≡ true → PathFrom D 0 w → IsAllowed by.round Keeps w
   unfolding settled
   paths-allowed D w t neat s q =
       let o = paths-sound 0 [] w (first_labels by.rule by.tally) D 0 (first_label by.rule by.tally) (omega arith) s refl exact-first sound_none neat q in

@@ -3,7 +3,7 @@ use Rattle.std.proofs.Common.{◌≡◌, ℕ, ◌+◌, ◌*◌, ◌≤◌, Bool,
 use Rattle.std.proofs.lemmas.Bool.{true≢false, both_ways, not-true, not-false}
 use Rattle.rules.specs.Rules.{RuleLaws, RuleSense}
 use Rattle.tallies.specs.Tallies.{TallyLaws, TallySense}
-use Rattle.orders.specs.Allowed.{Allowed}
+use Rattle.orders.specs.Allowed.{IsAllowed}
 use Rattle.layers.specs.declared.node.Node.{Node}
 use Rattle.layers.specs.Net.{Net, PathFrom, has_path_with}
 use Rattle.layers.specs.Labels.{opening_arcs}
@@ -65,7 +65,7 @@ module _ {S V : Type 0} {Keeps : List ℕ → Type 0} {Stands : S → List ℕ �
   unfolding mustOf
   none-false s =
       let s' : settled_of by D ≡ true = sym (settled-X by ruled.same_self w1 later D well) ∙ s in
-      let ok : (w : List ℕ) → PathFrom D 0 w → Allowed by.round Keeps w = λ w q. paths-allowed by ruled tallied D w well.deep neat s' q in
+      let ok : (w : List ℕ) → PathFrom D 0 w → IsAllowed by.round Keeps w = λ w q. paths-allowed by ruled tallied D w well.deep neat s' q in
       record {
         allowed = λ w q. ok w (off-path w q);
         least = λ v e. let b = bound-attained by ruled tallied D v well.deep neat s' (of-bound (Some v) e) in (b.0, on-path b.0 b.1, b.2);

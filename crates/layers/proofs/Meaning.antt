@@ -1,6 +1,6 @@
 -- What the labels mean, carried from the arcs to the records that a run leaves.
 use Rattle.std.proofs.Common.{◌≡◌, ℕ, zero, suc, ◌+◌, ◌*◌, ◌<◌, ◌≤◌, Bool, cond, not, List, [], ◌∷◌, length, get_or, drop, Some, None, Option, sym, refl, ap, ◌∙◌, subst, le_of_suc-le-suc, not-suc-le-zero, arith}
-use Rattle.round.specs.Clock.{latest}
+use Rattle.round.specs.Clock.{latest_finish}
 use Rattle.rules.specs.Rules.{RuleLaws, RuleSense}
 use Rattle.tallies.specs.Tallies.{TallyLaws, TallySense}
 use Rattle.layers.specs.declared.node.Node.{Node}
@@ -82,7 +82,7 @@ module _ {S V : Type 0} {Keeps : List ℕ → Type 0} {Stands : S → List ℕ �
         let o = owed-at by ruled w1 D i h a s.label s.labelled in
         let t : (w : List ℕ) → LeadsTo D i a w → Tells s.label.all s.label.some w =
         λ w q. let y = tells_at by ruled w1 D p.tied i h a w q in let e : y.0 ≡ s.label = cc (y.1, s.labelled) in rw (← e) y.2 in
-        let g : Allows i s.label.value × (s.label.finish ≤ latest i) = unfold Good in good-at by ruled w1 D tallied (omega (arith, p.deep, by.round.most)) neat i h a s.label s.labelled in
+        let g : Allows i s.label.value × (s.label.finish ≤ latest_finish i) = unfold Good in good-at by ruled w1 D tallied (omega (arith, p.deep, by.round.most)) neat i h a s.label s.labelled in
         let u = up-exact (drop i D) a in
         record {
           reached = o.way;

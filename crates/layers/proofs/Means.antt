@@ -3,7 +3,7 @@ use Rattle.std.proofs.Common.{◌≡◌, ℕ, zero, suc, ◌<◌, ◌≤◌, tru
 use lib.Bits.{bit_and, bit_or}
 use Rattle.std.proofs.lemmas.Bool.{cases_eq}
 use Rattle.doors.proofs.Sets.{digit_and, has-true, true-has}
-use Rattle.doors.specs.Orders.{In}
+use Rattle.doors.specs.Orders.{StandsIn}
 use Rattle.doors.specs.Sets.{has}
 use Rattle.rules.specs.Rules.{RuleLaws}
 use Rattle.tallies.specs.Tallies.{TallyLaws}
@@ -30,13 +30,13 @@ and_both a b j x y = true-has (bit_and a b) j (omega (arith, digit_and a b j, ha
 -- what the label has is owed to the paths
 pub record Owed (all some : ℕ) (P : List ℕ → Type 0) : Type 0 where
   pub way : (w : List ℕ) × P w
-  pub all-if : (j : ℕ) → ((w : List ℕ) → P w → In j w) → has all j ≡ true
+  pub all-if : (j : ℕ) → ((w : List ℕ) → P w → StandsIn j w) → has all j ≡ true
   pub some-from : (j : ℕ) → has some j ≡ true → OnOne P j
 
 -- what the path w has is told by the label
 pub record Tells (all some : ℕ) (w : List ℕ) : Type 0 where
-  pub all_in : (j : ℕ) → has all j ≡ true → In j w
-  pub in_some : (j : ℕ) → In j w → has some j ≡ true
+  pub all_in : (j : ℕ) → has all j ≡ true → StandsIn j w
+  pub in_some : (j : ℕ) → StandsIn j w → has some j ≡ true
 
 pub all-exact : (all some : ℕ) (P : List ℕ → Type 0) → Owed all some P → ((w : List ℕ) → P w → Tells all some w) → Exactly all (OnEvery P)
 all-exact all some P o t j = (λ h. (o.way, λ w p. (t w p).all_in j (true-has all j h)), λ h. has-true all j (o.all-if j h.1))
@@ -53,9 +53,9 @@ owed-merge a s a' s' P x y = record {
 
 -- bit_of door k more, at either end of the path
 pub record Longer (k : ℕ) (more : List ℕ → List ℕ) : Type 0 where
-  pub here : (w : List ℕ) → In k (more w)
-  pub stays : (j : ℕ) (w : List ℕ) → In j w → In j (more w)
-  pub only : (j : ℕ) (w : List ℕ) → In j (more w) → (j ≡ k) ⊎ In j w
+  pub here : (w : List ℕ) → StandsIn k (more w)
+  pub stays : (j : ℕ) (w : List ℕ) → StandsIn j w → StandsIn j (more w)
+  pub only : (j : ℕ) (w : List ℕ) → StandsIn j (more w) → (j ≡ k) ⊎ StandsIn j w
 
 at_front : (k : ℕ) → Longer k (λ w. k ∷ w)
 at_front k = record { here = λ w. inl refl; stays = λ j w i. inr i; only = λ j w i. i }

@@ -2,7 +2,7 @@
 use Rattle.std.proofs.Common.{◌≡◌, ℕ, zero, suc, ◌+◌, Bool, true, false, cond, eqb, ◌⊎◌, List, [], ◌∷◌, length, get_or, fold, sym, refl, ap, ◌∙◌, subst, inl, inr, arith}
 use Rattle.std.proofs.lemmas.Bool.{false≢true, eqb-true, eqb-false, eq-eqb, and_parts, or_cases, or_left, or_right}
 use Rattle.doors.proofs.Sets.{part_length}
-use Rattle.doors.specs.Orders.{In, Door, PartOrder}
+use Rattle.doors.specs.Orders.{StandsIn, IsDoor, IsPartOrder}
 use Rattle.layers.specs.Net.{Outs, Net, node, PathFrom, still_sought, is_nil, any_door, has_path_with}
 use Rattle.layers.specs.Claim.{StandsAhead}
 
@@ -51,7 +51,7 @@ hits-nil : (w : List ℕ) → fold still_sought [] w ≡ []
 hits-nil [] = refl
 hits-nil (k ∷ w) = hits-nil w
 
-hits-one : (i : ℕ) (w : List ℕ) → In i w → fold still_sought (i ∷ []) w ≡ []
+hits-one : (i : ℕ) (w : List ℕ) → StandsIn i w → fold still_sought (i ∷ []) w ≡ []
 hits-one i [] h = absurd h
 hits-one i (k ∷ w) (inl e) = rw (eq-eqb i k e) (hits-nil w)
 hits-one i (k ∷ w) (inr h) = go (eqb i k) (hits-one i w h)
@@ -60,15 +60,15 @@ hits-one i (k ∷ w) (inr h) = go (eqb i k) (hits-one i w h)
     go true e = hits-nil w
     go false e = e
 
-one-hits : (i : ℕ) (w : List ℕ) → fold still_sought (i ∷ []) w ≡ [] → In i w
+one-hits : (i : ℕ) (w : List ℕ) → fold still_sought (i ∷ []) w ≡ [] → StandsIn i w
 one-hits i [] e = absurd cc
 one-hits i (k ∷ w) e = go (eqb i k) refl e (λ h. one-hits i w h)
   where
-    go : (q : Bool) → eqb i k ≡ q → fold still_sought (cond q [] (i ∷ [])) w ≡ [] → (fold still_sought (i ∷ []) w ≡ [] → In i w) → In i (k ∷ w)
+    go : (q : Bool) → eqb i k ≡ q → fold still_sought (cond q [] (i ∷ [])) w ≡ [] → (fold still_sought (i ∷ []) w ≡ [] → StandsIn i w) → StandsIn i (k ∷ w)
     go true f h g = inl (eqb-true i k f)
     go false f h g = inr (g h)
 
-pub ahead_in : (j i : ℕ) (w : List ℕ) → StandsAhead j i w → In i w
+pub ahead_in : (j i : ℕ) (w : List ℕ) → StandsAhead j i w → StandsIn i w
 ahead_in j i [] h = h
 ahead_in j i (k ∷ w) (inl h) = inr h.1
 ahead_in j i (k ∷ w) (inr h) = inr (ahead_in j i w h)
@@ -97,23 +97,23 @@ pub sought : (Ls : Net) (j i : ℕ) → has_path_with Ls 0 (j ∷ i ∷ []) ≡ 
 sought Ls j i e = let q = seeks-from Ls 0 (j ∷ i ∷ []) e in (q.0, q.1, two-hits j i q.0 q.2)
 
 -- ---- an order of all doors has each door
-pub in-or-not : (i : ℕ) (w : List ℕ) → In i w ⊎ (¬ In i w)
+pub in-or-not : (i : ℕ) (w : List ℕ) → StandsIn i w ⊎ (¬ StandsIn i w)
 in-or-not i [] = inr (λ h. h)
 in-or-not i (k ∷ w) = go (eqb i k) refl (in-or-not i w)
   where
-    go : (q : Bool) → eqb i k ≡ q → In i w ⊎ (¬ In i w) → In i (k ∷ w) ⊎ (¬ In i (k ∷ w))
+    go : (q : Bool) → eqb i k ≡ q → StandsIn i w ⊎ (¬ StandsIn i w) → StandsIn i (k ∷ w) ⊎ (¬ StandsIn i (k ∷ w))
     go true e r = inl (inl (eqb-true i k e))
     go false e (inl h) = inl (inr h)
     go false e (inr f) = inr (λ h. elim h [ inl x ↦ eqb-false i k e x | inr x ↦ f x ])
 
-pub all_there : (n : ℕ) (w : List ℕ) → length w ≡ n → PartOrder n w → (i : ℕ) → Door n i → In i w
+pub all_there : (n : ℕ) (w : List ℕ) → length w ≡ n → IsPartOrder n w → (i : ℕ) → IsDoor n i → StandsIn i w
 all_there n w e p i h = go (in-or-not i w)
   where
-    go : In i w ⊎ (¬ In i w) → In i w
+    go : StandsIn i w ⊎ (¬ StandsIn i w) → StandsIn i w
     go (inl x) = x
     go (inr f) = absurd (omega (arith, part_length n (i ∷ w) (h, f, p)))
 
-pub one-ahead : (i j : ℕ) (w : List ℕ) → ¬ (i ≡ j) → In i w → In j w → StandsAhead i j w ⊎ StandsAhead j i w
+pub one-ahead : (i j : ℕ) (w : List ℕ) → ¬ (i ≡ j) → StandsIn i w → StandsIn j w → StandsAhead i j w ⊎ StandsAhead j i w
 one-ahead i j [] n a b = absurd a
 one-ahead i j (k ∷ w) n (inl x) (inl y) = absurd (n (x ∙ sym y))
 one-ahead i j (k ∷ w) n (inl x) (inr y) = inl (inl (x, y))

@@ -4,7 +4,7 @@ use lib.Bits.{bit_and, bit_or}
 use lib.Count.{ones}
 use Rattle.std.proofs.lemmas.Bool.{cases_eq}
 use Rattle.doors.proofs.Sets.{digit_and, digit-one, digit-other, has-none, has_left, has_right, has_either, has-true, true-has, length-within}
-use Rattle.doors.specs.Orders.{In, PartOrder}
+use Rattle.doors.specs.Orders.{StandsIn, IsPartOrder}
 use Rattle.doors.specs.Sets.{has}
 use Rattle.layers.specs.Labels.{bit_of}
 
@@ -32,5 +32,5 @@ one-self j = true-has (bit_of j) j (digit-one j)
 pub one_only : (k j : ℕ) → has (bit_of k) j ≡ true → j ≡ k
 one_only k j e = ⊎_elim (λ h. h) (λ n. absurd (omega (arith, digit-other k j n, has-true (bit_of k) j e))) (cases_eq j k)
 
-pub ones_in : (n m : ℕ) (w : List ℕ) → PartOrder n w → ((j : ℕ) → In j w → has m j ≡ true) → length w ≤ ones m
+pub ones_in : (n m : ℕ) (w : List ℕ) → IsPartOrder n w → ((j : ℕ) → StandsIn j w → has m j ≡ true) → length w ≤ ones m
 ones_in n m w p h = length-within n m w p (λ j i. has-true m j (h j i))

@@ -3,7 +3,7 @@ use Rattle.std.proofs.Common.{◌≡◌, ℕ, zero, suc, ◌+◌, ◌*◌, ◌�
 use Rattle.std.specs.List.{AllByRecursion as All}
 use Rattle.std.proofs.ByRecursion.{All-append}
 use Rattle.round.proofs.Clocks.{clock-laws}
-use Rattle.round.specs.Clock.{latest}
+use Rattle.round.specs.Clock.{latest_finish}
 use Rattle.layers.specs.declared.node.Node.{Node}
 use Rattle.layers.specs.Net.{table, Layer, Net, width}
 use Rattle.layers.specs.Flow.{arrivals_at}
@@ -34,7 +34,7 @@ most-at f m (x ∷ xs) h (suc k) = most-at f m xs h.1 k
 module _ {S V : Type 0} (by : Setting S V) where
   -- ---- no finish of the labels is above what the clock allows after i steps
   unfoldable Soon : ℕ → List (Option (Down S V)) → Type 0
-  Soon i labs = (a : ℕ) (l : Down S V) → get_or labs a None ≡ Some l → l.finish ≤ latest i
+  Soon i labs = (a : ℕ) (l : Down S V) → get_or labs a None ≡ Some l → l.finish ≤ latest_finish i
 
   soon-first : Soon 0 (first_labels by.rule by.tally)
   unfolding Soon
@@ -44,26 +44,26 @@ module _ {S V : Type 0} (by : Setting S V) where
   soon-next : (i : ℕ) (labs : List (Option (Down S V))) (L : Layer) (count : ℕ) → Soon i labs → Soon (suc i) (labels_next by labs L count)
   unfolding Soon labels_next arrival_over merge
   soon-next i labs L count soon b m e =
-      gather-all (merge by.rule by.tally) (λ x. x.finish ≤ latest (suc i)) (λ x y p q. omega arith) (arrivals_at (arrival_over by) b labs L) m
+      gather-all (merge by.rule by.tally) (λ x. x.finish ≤ latest_finish (suc i)) (λ x y p q. omega arith) (arrivals_at (arrival_over by) b labs L) m
       (λ x h. each x (ins-from (arrival_over by) b labs L x h)) (next-some (arrival_over by) (merge by.rule by.tally) labs L count b m e)
     where
-      each : (x : Down S V) → From (arrival_over by) b labs L x → x.finish ≤ latest (suc i)
+      each : (x : Down S V) → From (arrival_over by) b labs L x → x.finish ≤ latest_finish (suc i)
       each x f =
           let l = f.label in
           rw f.is ((clock-laws by.round).bound i l.finish (leg by.round l.lasts f.door) f.door (soon f.source l f.labelled) (leg-bound by.round l.lasts f.door))
 
   -- a place of such a layer; a blank one has finish 0
-  soon-place : (i : ℕ) (labs : List (Option (Down S V))) → i ≤ 15 → Soon i labs → (k : ℕ) → (or_blank by.rule by.tally (get_or labs k None)).finish ≤ latest 15
+  soon-place : (i : ℕ) (labs : List (Option (Down S V))) → i ≤ 15 → Soon i labs → (k : ℕ) → (or_blank by.rule by.tally (get_or labs k None)).finish ≤ latest_finish 15
   unfolding Soon
   soon-place i labs h soon k = go (get_or labs k None) refl
     where
-      go : (o : Option (Down S V)) → get_or labs k None ≡ o → (or_blank by.rule by.tally o).finish ≤ latest 15
+      go : (o : Option (Down S V)) → get_or labs k None ≡ o → (or_blank by.rule by.tally o).finish ≤ latest_finish 15
       go None e = omega arith
       go (Some l) e = omega (arith, soon k l e)
 
   -- ---- the places of all layers before the end, from layer i on
   abbrev Early : Node S V → Type 0
-  Early x = x.label.down.finish ≤ latest 15
+  Early x = x.label.down.finish ≤ latest_finish 15
 
   laid-early : (i : ℕ) (labs : List (Option (Down S V))) (Ls : Net) (later : List (Node S V)) → i + length Ls ≤ 16 → Soon i labs
       → All Early (take (length Ls * by.width) (labelled_from by labs Ls ++ later))
@@ -84,6 +84,6 @@ pub relaid-timely : {S V : Type 0} (by : Setting S V) (xs : List (Node S V)) (Ls
 unfolding records_with labelled_records
 relaid-timely {S} {V} by xs Ls e =
     let ys = labelled_from by (first_labels by.rule by.tally) Ls ++ drop (by.round.n * by.width + 1) xs in
-    most-at (λ (x : Node S V). x.label.down.finish) (latest 15) (take (by.round.n * by.width) ys)
+    most-at (λ (x : Node S V). x.label.down.finish) (latest_finish 15) (take (by.round.n * by.width) ys)
     (subst (λ (n : ℕ). All (Early by) (take (n * by.width) ys)) e
     (laid-early by 0 (first_labels by.rule by.tally) Ls (drop (by.round.n * by.width + 1) xs) (omega (arith, by.round.most)) (soon-first by)))

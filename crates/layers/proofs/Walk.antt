@@ -4,16 +4,16 @@ use lib.Bits.{bit_or}
 use lib.Count.{ones}
 use Rattle.std.proofs.lemmas.Bool.{le-ltb, ne_eqb, false_from_ne_true}
 use Rattle.doors.proofs.Orders.{in_left, part-next, next-part}
-use Rattle.doors.specs.Orders.{Door, In, PartOrder}
+use Rattle.doors.specs.Orders.{IsDoor, StandsIn, IsPartOrder}
 use Rattle.doors.specs.Sets.{has}
 use Rattle.round.proofs.Clocks.{clock-laws}
-use Rattle.round.specs.Clock.{door, drive, finish, latest}
+use Rattle.round.specs.Clock.{door, drive, finish, latest_finish}
 use Rattle.round.specs.declared.table.Round.{Round}
 use Rattle.rules.specs.Rules.{RuleLaws}
 use Rattle.tallies.specs.Tallies.{TallyLaws}
 use Rattle.orders.proofs.Times.{trip-van}
-use Rattle.orders.specs.Allowed.{Allowed}
-use Rattle.orders.specs.Costs.{Trip, cost, rides, trip_after}
+use Rattle.orders.specs.Allowed.{IsAllowed}
+use Rattle.orders.specs.Costs.{Trip, cost, next_trip, trip_after}
 use Rattle.orders.specs.Times.{van_after}
 use Rattle.layers.specs.declared.node.Up.{Up}
 use Rattle.layers.specs.Net.{Outs, Layer, Net, node, target, width, PathFrom}
@@ -36,7 +36,7 @@ Neat n [] = Unit {0}
 Neat n (L ∷ Ls) = NeatLayer n L × Neat n Ls
 
 -- a finish of fewer than 16 doors and bit_of more
-pub within : (k f : ℕ) → k < 16 → f ≤ latest (suc k) → f ≤ latest 16
+pub within : (k f : ℕ) → k < 16 → f ≤ latest_finish (suc k) → f ≤ latest_finish 16
 within k f h e = omega arith
 
 pub node-among : (L : Layer) (a : ℕ) → a < length L → Among (node L a) L
@@ -49,7 +49,7 @@ door-at [] k b e = absurd (omega arith)
 door-at (t ∷ ts) zero b e = omega arith
 door-at (t ∷ ts) (suc k) b e = let h = door-at ts k b e in omega arith
 
-pub neat-door : (r : Round) (L : Layer) → NeatLayer r.n L → (a j b : ℕ) → target (node L a) j ≡ suc b → Door r.n j
+pub neat-door : (r : Round) (L : Layer) → NeatLayer r.n L → (a j b : ℕ) → target (node L a) j ≡ suc b → IsDoor r.n j
 neat-door r L neat a zero b e = absurd (omega arith)
 neat-door r L neat a (suc k) b e =
     let h = door-at (node L a) k b e in let g = neat (node L a) (node-among L a (has-arc L a (suc k) b e)) in record { low = omega arith; high = omega arith }
@@ -57,7 +57,7 @@ neat-door r L neat a (suc k) b e =
 module _ {S V : Type 0} {Keeps : List ℕ → Type 0} {Stands : S → List ℕ → Type 0} {Allows : ℕ → V → Type 0} (by : Setting S V) (ruled : RuleLaws by.round.n by.rule Keeps Stands) (tallied : TallyLaws by.round.n by.tally Allows) where
   -- ---- an order under way
   pub record Going (p w : List ℕ) : Type 0 where
-    pub part : PartOrder by.round.n (p ++ w)
+    pub part : IsPartOrder by.round.n (p ++ w)
     pub keeps : Keeps (p ++ w)
     pub timely : TimelyFrom by.round (van_after by.round p) w
     pub total : length p + length w ≡ by.round.n
@@ -72,20 +72,20 @@ module _ {S V : Type 0} {Keeps : List ℕ → Type 0} {Stands : S → List ℕ �
 
   -- what is so of the true clock and cost after p
   pub record Told (p : List ℕ) : Type 0 where
-    pub part : PartOrder by.round.n p
-    pub soon : (trip_after by.round by.tally p).van.finish ≤ latest (length p)
+    pub part : IsPartOrder by.round.n p
+    pub soon : (trip_after by.round by.tally p).van.finish ≤ latest_finish (length p)
     pub fine : Allows (length p) (cost by.round by.tally p)
     pub here : (trip_after by.round by.tally p).van.last ≤ by.round.n
-    pub last : (j : ℕ) → ¬ In j p → 1 ≤ j → ¬ ((trip_after by.round by.tally p).van.last ≡ j)
+    pub last : (j : ℕ) → ¬ StandsIn j p → 1 ≤ j → ¬ ((trip_after by.round by.tally p).van.last ≡ j)
 
   pub told_none : Told []
   told_none = record { part = tt; soon = omega arith; fine = tallied.start_allowed; here = omega arith; last = λ j f h. omega arith }
 
   -- ---- labels that fit
   pub record Fits (l : Down S V) (p : List ℕ) : Type 0 where
-    pub part : PartOrder by.round.n p
-    pub all : (j : ℕ) → has l.all j ≡ true → In j p
-    pub some : (j : ℕ) → In j p → has l.some j ≡ true
+    pub part : IsPartOrder by.round.n p
+    pub all : (j : ℕ) → has l.all j ≡ true → StandsIn j p
+    pub some : (j : ℕ) → StandsIn j p → has l.some j ≡ true
     pub finish : l.finish ≤ (trip_after by.round by.tally p).van.finish
     pub lasts : has l.lasts (trip_after by.round by.tally p).van.last ≡ true
     pub state : Stands l.state p
@@ -135,7 +135,7 @@ module _ {S V : Type 0} {Keeps : List ℕ → Type 0} {Stands : S → List ℕ �
     value = tallied.order_chain _ y.value _ (lesser-right x.value y.value) f.value;
   }
 
-  pub told-next : (p : List ℕ) (j : ℕ) → Told p → Door by.round.n j → length p < 16 → ¬ In j p → Told (p ++ (j ∷ []))
+  pub told-next : (p : List ℕ) (j : ℕ) → Told p → IsDoor by.round.n j → length p < 16 → ¬ StandsIn j p → Told (p ++ (j ∷ []))
   told-next p j t d k f =
       let e = trip-snoc by.round by.tally p j in
       let le = by.round.legs (trip_after by.round by.tally p).van.last j in
@@ -144,13 +144,13 @@ module _ {S V : Type 0} {Keeps : List ℕ → Type 0} {Stands : S → List ℕ �
         part = next-part by.round.n p j t.part d f;
         soon = rw (e, (length-snoc p j)) s;
         fine = subst (λ (z : Trip V). Allows (length (p ++ (j ∷ []))) z.cost) (sym e)
-            (subst (λ (z : ℕ). Allows z (rides by.round by.tally (trip_after by.round by.tally p) j).cost) (sym (length-snoc p j))
-            (tallied.step_allowed (length p) (cost by.round by.tally p) j (drive by.round (trip_after by.round by.tally p).van.last j) (rides by.round by.tally (trip_after by.round by.tally p) j).van.finish k d le (within (length p) _ k s) t.fine));
+            (subst (λ (z : ℕ). Allows z (next_trip by.round by.tally (trip_after by.round by.tally p) j).cost) (sym (length-snoc p j))
+            (tallied.step_allowed (length p) (cost by.round by.tally p) j (drive by.round (trip_after by.round by.tally p).van.last j) (next_trip by.round by.tally (trip_after by.round by.tally p) j).van.finish k d le (within (length p) _ k s) t.fine));
         here = rw e d.high;
         last = λ i g h x. g (in-snd i p (j ∷ []) (inl (sym x ∙ ap (λ (z : Trip V). z.van.last) e)));
       }
 
-  pub arrive-fits : (l : Down S V) (p : List ℕ) (j : ℕ) → Fits l p → Told p → Allows (length p) l.value → Door by.round.n j → length p < 16 → ¬ In j p → Fits (arrival_over by l j) (p ++ (j ∷ []))
+  pub arrive-fits : (l : Down S V) (p : List ℕ) (j : ℕ) → Fits l p → Told p → Allows (length p) l.value → IsDoor by.round.n j → length p < 16 → ¬ StandsIn j p → Fits (arrival_over by l j) (p ++ (j ∷ []))
   unfolding arrival_over
   arrive-fits l p j f t fine d k n =
       let e = trip-snoc by.round by.tally p j in
@@ -170,13 +170,13 @@ module _ {S V : Type 0} {Keeps : List ℕ → Type 0} {Stands : S → List ℕ �
         lasts = rw e (one-self j);
         state = ruled.step_stands l.state p j (record { part = t.part; door = d; new = n }) f.state;
         value = subst (λ (z : Trip V). by.tally.not_above (by.tally.step l.value j (leg by.round l.lasts j) (finish by.round l.finish (leg by.round l.lasts j) j)) z.cost ≡ true) (sym e)
-            (tallied.step_rises (length p) l.value (cost by.round by.tally p) j (leg by.round l.lasts j) (drive by.round (trip_after by.round by.tally p).van.last j) (finish by.round l.finish (leg by.round l.lasts j) j) (rides by.round by.tally (trip_after by.round by.tally p) j).van.finish
+            (tallied.step_rises (length p) l.value (cost by.round by.tally p) j (leg by.round l.lasts j) (drive by.round (trip_after by.round by.tally p).van.last j) (finish by.round l.finish (leg by.round l.lasts j) j) (next_trip by.round by.tally (trip_after by.round by.tally p) j).van.finish
             k d g dl early (within (length p) _ k s) fine t.fine f.value);
       }
 
   -- ---- every label's value is bit_of that the by.tally allows
   unfoldable pub Good : ℕ → List (Option (Down S V)) → Type 0
-  Good k labs = (a : ℕ) (l : Down S V) → get_or labs a None ≡ Some l → (Allows k l.value) × (l.finish ≤ latest k)
+  Good k labs = (a : ℕ) (l : Down S V) → get_or labs a None ≡ Some l → (Allows k l.value) × (l.finish ≤ latest_finish k)
 
   pub good-first : Good 0 (first_labels by.rule by.tally)
   unfolding Good
@@ -193,19 +193,19 @@ module _ {S V : Type 0} {Keeps : List ℕ → Type 0} {Stands : S → List ℕ �
   pub good-next : (k : ℕ) (labs : List (Option (Down S V))) (L : Layer) (count : ℕ) → k < 16 → Good k labs → NeatLayer by.round.n L → Good (suc k) (labels_next by labs L count)
   unfolding Good labels_next arrival_over merge
   good-next k labs L count h good neat b m e =
-      gather-all (merge by.rule by.tally) (λ x. (Allows (suc k) x.value) × (x.finish ≤ latest (suc k)))
+      gather-all (merge by.rule by.tally) (λ x. (Allows (suc k) x.value) × (x.finish ≤ latest_finish (suc k)))
       (λ x y p q. (lesser-fine (suc k) x.value y.value p.0 q.0, omega arith))
       (arrivals_at (arrival_over by) b labs L) m
       (λ x i. each x (ins-from (arrival_over by) b labs L x i))
       (next-some (arrival_over by) (merge by.rule by.tally) labs L count b m e)
     where
-      each : (x : Down S V) → From (arrival_over by) b labs L x → (Allows (suc k) x.value) × (x.finish ≤ latest (suc k))
+      each : (x : Down S V) → From (arrival_over by) b labs L x → (Allows (suc k) x.value) × (x.finish ≤ latest_finish (suc k))
       each x f =
           let d = neat-door by.round L neat f.source f.door b f.arc in
           let g = good f.source f.label f.labelled in
           let lb = leg-bound by.round f.label.lasts f.door in
           let fin = finish by.round f.label.finish (leg by.round f.label.lasts f.door) f.door in
-          let early : fin ≤ latest (suc k) = (clock-laws by.round).bound k f.label.finish (leg by.round f.label.lasts f.door) f.door g.1 lb in
+          let early : fin ≤ latest_finish (suc k) = (clock-laws by.round).bound k f.label.finish (leg by.round f.label.lasts f.door) f.door g.1 lb in
           rw f.is (tallied.step_allowed k f.label.value f.door (leg by.round f.label.lasts f.door) fin h d lb (within k fin h early) g.0, early)
 
   -- ---- the label at a place fits the beginning p
@@ -217,7 +217,7 @@ module _ {S V : Type 0} {Keeps : List ℕ → Type 0} {Stands : S → List ℕ �
   at_first = (first_label by.rule by.tally, refl, fits-first)
 
   pub at_next : (labs : List (Option (Down S V))) (L : Layer) (count a j b : ℕ) (p : List ℕ) → target (node L a) j ≡ suc b → b < count
-      → At labs a p → Told p → Good (length p) labs → Door by.round.n j → length p < 16 → ¬ In j p → At (labels_next by labs L count) b (p ++ (j ∷ []))
+      → At labs a p → Told p → Good (length p) labs → IsDoor by.round.n j → length p < 16 → ¬ StandsIn j p → At (labels_next by labs L count) b (p ++ (j ∷ []))
   unfolding At Good labels_next Less
   at_next labs L count a j b p e h x t good d k n =
       let q = next-at {A = Down S V} (merge by.rule by.tally) Less (λ x p f. f) (λ x y z f g p h. g p (f p h)) less-left less-right (arrival_over by) labs L count a j b x.0 e x.1 h in
@@ -225,8 +225,8 @@ module _ {S V : Type 0} {Keeps : List ℕ → Type 0} {Stands : S → List ℕ �
 
 -- ---- upward
 pub record FitsUp (u : Up) (w : List ℕ) : Type 0 where
-  pub all : (j : ℕ) → has u.allup j ≡ true → In j w
-  pub some : (j : ℕ) → In j w → has u.someup j ≡ true
+  pub all : (j : ℕ) → has u.allup j ≡ true → StandsIn j w
+  pub some : (j : ℕ) → StandsIn j w → has u.someup j ≡ true
 
 climb-fits : (u : Up) (j : ℕ) (w : List ℕ) → FitsUp u w → FitsUp (climb u j) (j ∷ w)
 climb-fits u j w f = record {
@@ -260,7 +260,7 @@ or-none : (a b c d e f : Bool) → a ≡ false → b ≡ false → c ≡ false �
 or-none a b c d e f p q s t u v = rw (p, q, s, t, u, v)
 
 module _ {S V : Type 0} {Keeps : List ℕ → Type 0} {Stands : S → List ℕ → Type 0} {Allows : ℕ → V → Type 0} (by : Setting S V) (ruled : RuleLaws by.round.n by.rule Keeps Stands) (tallied : TallyLaws by.round.n by.tally Allows) where
-  pub going-facts : (p w : List ℕ) (j : ℕ) → Going by ruled tallied p (j ∷ w) → Door by.round.n j × (¬ In j p) × (length p < 16)
+  pub going-facts : (p w : List ℕ) (j : ℕ) → Going by ruled tallied p (j ∷ w) → IsDoor by.round.n j × (¬ StandsIn j p) × (length p < 16)
   going-facts p w j g =
       let x = part-next by.round.n p j w g.part in
       (x.door, x.new, omega (arith, g.total, by.round.most))
@@ -310,10 +310,10 @@ module _ {S V : Type 0} {Keeps : List ℕ → Type 0} {Stands : S → List ℕ �
       )
 
   -- an allowed order, not yet under way
-  pub setting-out : (w : List ℕ) → Allowed by.round Keeps w → Going by ruled tallied [] w
+  pub setting-out : (w : List ℕ) → IsAllowed by.round Keeps w → Going by ruled tallied [] w
   setting-out w o = record { part = o.part; keeps = o.keeps; timely = timely-from by.round [] w o.timely; total = omega (arith, o.whole) }
 
-  pub sweep-keeps : (w : List ℕ) (Ls : Net) → Allowed by.round Keeps w → Neat by.round.n Ls → PathFrom Ls 0 w → PathFrom (sweep by Ls) 0 w
+  pub sweep-keeps : (w : List ℕ) (Ls : Net) → IsAllowed by.round Keeps w → Neat by.round.n Ls → PathFrom Ls 0 w → PathFrom (sweep by Ls) 0 w
   unfolding sweep
   sweep-keeps w Ls o neat q = tidy-keeps (sweeps by 0 (first_labels by.rule by.tally) Ls) w
       (sweeps-keep [] w (first_labels by.rule by.tally) Ls 0 (setting-out w o) (told_none by ruled tallied) (at_first by ruled tallied) (good-first by ruled tallied) neat q)

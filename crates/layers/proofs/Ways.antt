@@ -3,33 +3,33 @@ use Rattle.std.proofs.Common.{◌≡◌, ℕ, zero, suc, ◌+◌, ◌<◌, ◌�
 use Rattle.std.proofs.lemmas.List.Sums.{fold_push}
 use Rattle.std.proofs.lemmas.Bool.{eqb-true, eqb-false, and_parts}
 use Rattle.std.specs.List.{range_with_len}
-use Rattle.doors.specs.Orders.{In, PartOrder}
+use Rattle.doors.specs.Orders.{StandsIn, IsPartOrder}
 use Rattle.doors.specs.Sets.{has}
 use Rattle.round.specs.Clock.{door, drive}
 use Rattle.round.specs.declared.table.Round.{Round}
 use Rattle.rules.specs.Rules.{RuleSense, state_of}
 use Rattle.tallies.specs.Tallies.{TallySense}
-use Rattle.orders.specs.Costs.{rides, trip_after}
-use Rattle.orders.specs.Times.{yard, goes, van_after, Timely}
+use Rattle.orders.specs.Costs.{next_trip, trip_after}
+use Rattle.orders.specs.Times.{yard, next_van, van_after, KeepsHours}
 use Rattle.orders.specs.declared.van.Van.{Van}
 use Rattle.layers.specs.Labels.{bit_of, nearest, leg_step, leg}
 use Rattle.layers.proofs.Sets.{one-self, one_only}
 
 -- ---- lists of doors
-pub in_split : (j : ℕ) (u v : List ℕ) → In j (u ++ v) → In j u ⊎ In j v
+pub in_split : (j : ℕ) (u v : List ℕ) → StandsIn j (u ++ v) → StandsIn j u ⊎ StandsIn j v
 in_split j [] v h = inr h
 in_split j (x ∷ u) v (inl e) = inl (inl e)
 in_split j (x ∷ u) v (inr h) = go (in_split j u v h)
   where
-    go : In j u ⊎ In j v → In j (x ∷ u) ⊎ In j v
+    go : StandsIn j u ⊎ StandsIn j v → StandsIn j (x ∷ u) ⊎ StandsIn j v
     go (inl a) = inl (inr a)
     go (inr a) = inr a
 
-pub in-snd : (j : ℕ) (u v : List ℕ) → In j v → In j (u ++ v)
+pub in-snd : (j : ℕ) (u v : List ℕ) → StandsIn j v → StandsIn j (u ++ v)
 in-snd j [] v h = h
 in-snd j (x ∷ u) v h = inr (in-snd j u v h)
 
-pub part-tail : (n : ℕ) (u v : List ℕ) → PartOrder n (u ++ v) → PartOrder n v
+pub part-tail : (n : ℕ) (u v : List ℕ) → IsPartOrder n (u ++ v) → IsPartOrder n v
 part-tail n [] v p = p
 part-tail n (x ∷ u) v p = part-tail n u v p.2
 
@@ -40,11 +40,11 @@ pub snoc-assoc : (p w : List ℕ) (j : ℕ) → (p ++ (j ∷ [])) ++ w ≡ p ++ 
 snoc-assoc p w j = append_assoc p (j ∷ []) w
 
 -- ---- bit_of door more
-pub trip-snoc : {V : Type 0} (r : Round) (tally : TallySense V) (p : List ℕ) (j : ℕ) → trip_after r tally (p ++ (j ∷ [])) ≡ rides r tally (trip_after r tally p) j
-trip-snoc r tally p j = fold_push (rides r tally) (record { van = yard; cost = tally.start }) p j
+pub trip-snoc : {V : Type 0} (r : Round) (tally : TallySense V) (p : List ℕ) (j : ℕ) → trip_after r tally (p ++ (j ∷ [])) ≡ next_trip r tally (trip_after r tally p) j
+trip-snoc r tally p j = fold_push (next_trip r tally) (record { van = yard; cost = tally.start }) p j
 
-pub van-snoc : (r : Round) (p : List ℕ) (j : ℕ) → van_after r (p ++ (j ∷ [])) ≡ goes r (van_after r p) j
-van-snoc r p j = fold_push (goes r) yard p j
+pub van-snoc : (r : Round) (p : List ℕ) (j : ℕ) → van_after r (p ++ (j ∷ [])) ≡ next_van r (van_after r p) j
+van-snoc r p j = fold_push (next_van r) yard p j
 
 pub state-snoc : {S : Type 0} (rule : RuleSense S) (p : List ℕ) (j : ℕ) → state_of rule (p ++ (j ∷ [])) ≡ rule.step (state_of rule p) j
 state-snoc rule p j = fold_push rule.step rule.start p j
@@ -52,9 +52,9 @@ state-snoc rule p j = fold_push rule.step rule.start p j
 -- going on through w from the van a, no door finishes after it closes
 abbrev pub TimelyFrom : Round → Van → List ℕ → Type 0
 TimelyFrom r a [] = Unit {0}
-TimelyFrom r a (j ∷ w) = ((goes r a j).finish ≤ (door r j).closes) × TimelyFrom r (goes r a j) w
+TimelyFrom r a (j ∷ w) = ((next_van r a j).finish ≤ (door r j).closes) × TimelyFrom r (next_van r a j) w
 
-pub timely-from : (r : Round) (p w : List ℕ) → Timely r (p ++ w) → TimelyFrom r (van_after r p) w
+pub timely-from : (r : Round) (p w : List ℕ) → KeepsHours r (p ++ w) → TimelyFrom r (van_after r p) w
 timely-from r p [] h = tt
 timely-from r p (j ∷ w) h = (
   subst (λ (a : Van). a.finish ≤ (door r j).closes) (van-snoc r p j) (h p j w refl),

@@ -1,10 +1,10 @@
 -- The claim: only what a ceiling rules out can go missing, and once the diagram is settled nothing false is left in it.
 use Rattle.std.specs.Prelude.{◌≡◌, ℕ, ◌≤◌, Bool, true, false, ◌&&◌, ◌⊎◌, List, [], ◌∷◌, Some, None, ◌==◌, ◌≢◌}
-use Rattle.doors.specs.Orders.{In, Door}
+use Rattle.doors.specs.Orders.{StandsIn, IsDoor}
 use Rattle.round.specs.declared.table.Round.{Round}
 use Rattle.rules.specs.Rules.{RuleSense}
 use Rattle.tallies.specs.Tallies.{TallySense}
-use Rattle.orders.specs.Allowed.{Allowed}
+use Rattle.orders.specs.Allowed.{IsAllowed}
 use Rattle.orders.specs.Costs.{cost}
 use Rattle.layers.specs.declared.node.Node.{Node}
 use Rattle.layers.specs.declared.refined.Refined.TheVariants.{Whole}
@@ -16,7 +16,7 @@ use Rattle.layers.specs.Calls.{EachCut, arcs, labels, records_with, in_arcs_agre
 -- i stands ahead of j in w
 abbrev pub StandsAhead : ℕ → ℕ → List ℕ → Type 0
 StandsAhead i j [] = ⊥
-StandsAhead i j (k ∷ w) = ((i ≡ k) × In j w) ⊎ StandsAhead i j w
+StandsAhead i j (k ∷ w) = ((i ≡ k) × StandsIn j w) ⊎ StandsAhead i j w
 
 -- w is read along a path from the first node to the end, in the diagram of n doors and width W in these records
 abbrev pub IsPath : {S V : Type 0} → ℕ → ℕ → List (Node S V) → List ℕ → Type 0
@@ -31,7 +31,7 @@ pub record MustMeans {S V : Type 0} (n W i j : ℕ) (xs : List (Node S V)) (b : 
 module _ {S V : Type 0} (by : Setting S V) (Keeps : List ℕ → Type 0) (cs : List (Call V)) where
   -- an allowed order whose cost is above none of the ceilings
   abbrev pub Wanted : List ℕ → Type 0
-  Wanted w = Allowed by.round Keeps w × EachCut (λ c. by.tally.not_above (cost by.round by.tally w) c ≡ true) cs
+  Wanted w = IsAllowed by.round Keeps w × EachCut (λ c. by.tally.not_above (cost by.round by.tally w) c ≡ true) cs
 
   -- what holds at any time
   pub record NothingLost (xs : List (Node S V)) : Type 0 where
@@ -42,12 +42,12 @@ module _ {S V : Type 0} (by : Setting S V) (Keeps : List ℕ → Type 0) (cs : L
     -- if there is none, no order is wanted
     pub low_none : bound by.round.n by.width xs ≡ None → (w : List ℕ) → Wanted w → ⊥
     -- if i must be ahead of j, it is so in every wanted order
-    pub must_yes : (i j : ℕ) → Door by.round.n i → Door by.round.n j → (i ≢ j) → must by.round.n by.width i j xs ≡ true → (w : List ℕ) → Wanted w → StandsAhead i j w
+    pub must_yes : (i j : ℕ) → IsDoor by.round.n i → IsDoor by.round.n j → (i ≢ j) → must by.round.n by.width i j xs ≡ true → (w : List ℕ) → Wanted w → StandsAhead i j w
 
   -- what holds of a settled diagram
   pub record NothingFalse (xs : List (Node S V)) : Type 0 where
     -- every path is an allowed order
-    pub allowed : (w : List ℕ) → IsPath by.round.n by.width xs w → Allowed by.round Keeps w
+    pub allowed : (w : List ℕ) → IsPath by.round.n by.width xs w → IsAllowed by.round Keeps w
     -- the bound is the cost of a path, and not above that of any
     pub least : (v : V) → bound by.round.n by.width xs ≡ Some v → (w : List ℕ) × IsPath by.round.n by.width xs w × (cost by.round by.tally w ≡ v)
     pub least_of : (v : V) → bound by.round.n by.width xs ≡ Some v → (w : List ℕ) → IsPath by.round.n by.width xs w → by.tally.not_above v (cost by.round by.tally w) ≡ true

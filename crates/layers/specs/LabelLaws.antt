@@ -1,8 +1,8 @@
 -- What the labels mean, in terms of the paths of the diagram in which they stand. Layers and places in a layer count from 0.
 use Rattle.std.specs.Prelude.{◌≡◌, ℕ, suc, ◌<◌, ◌≤◌, List, [], ◌∷◌, length, drop, slice_index_or}
-use Rattle.doors.specs.Orders.{In}
+use Rattle.doors.specs.Orders.{StandsIn}
 use Rattle.doors.specs.Sets.{Has}
-use Rattle.round.specs.Clock.{latest}
+use Rattle.round.specs.Clock.{latest_finish}
 use Rattle.round.specs.declared.table.Round.{Round}
 use Rattle.rules.specs.Rules.{RuleSense}
 use Rattle.tallies.specs.Tallies.{TallySense}
@@ -28,11 +28,11 @@ LeadsOn D i a w = PathFrom (drop i D) a w
 
 -- there are such paths, and door j is on every one
 abbrev pub OnEvery : (List ℕ → Type 0) → ℕ → Type 0
-OnEvery Path j = ((w : List ℕ) × Path w) × ((w : List ℕ) → Path w → In j w)
+OnEvery Path j = ((w : List ℕ) × Path w) × ((w : List ℕ) → Path w → StandsIn j w)
 
 -- door j is on at least one such path
 abbrev pub OnOne : (List ℕ → Type 0) → ℕ → Type 0
-OnOne Path j = (w : List ℕ) × Path w × In j w
+OnOne Path j = (w : List ℕ) × Path w × StandsIn j w
 
 -- door j is in the set m exactly if P is so of j
 abbrev pub Exactly : ℕ → (ℕ → Type 0) → Type 0
@@ -50,7 +50,7 @@ pub record Labelled {S V : Type 0} (Allows : ℕ → V → Type 0) (D : Net) (i 
   pub allup : Exactly x.label.up.allup (OnEvery (LeadsOn D i a))
   pub someup : Exactly x.label.up.someup (OnOne (LeadsOn D i a))
   -- the finish is at most 9999 + i * 1998, and the value is allowed after i doors
-  pub finish : x.label.down.finish ≤ latest i
+  pub finish : x.label.down.finish ≤ latest_finish i
   pub value : Allows i x.label.down.value
 
 -- for one rule and one tally: every round that both serve, every width from 1 to 128, every lent list, every list of calls after opening,

@@ -1,6 +1,6 @@
 -- What arcs alone decide of the records of a diagram of n doors and width W.
 use Rattle.std.specs.Prelude.{◌≡◌, ℕ, ◌+◌, ◌-◌, ◌*◌, ◌≤◌, min, List, [], map, length, take, slice_index, slice_index_or}
-use Rattle.round.specs.Clock.{latest}
+use Rattle.round.specs.Clock.{latest_finish}
 use Rattle.layers.specs.declared.node.Arcs.{Arcs}
 use Rattle.layers.specs.declared.node.Node.{Node}
 use Rattle.layers.specs.Net.{width, count_layer}
@@ -38,4 +38,4 @@ module _ {S V : Type 0} (n W : ℕ) (xs : List (Node S V)) where
 
   -- no finish of the layers before the end is above what the clock allows after 15 doors
   abbrev pub IsTimely : Type 0
-  IsTimely = (k : ℕ) → slice_index (map (λ x. x.label.down.finish) (take (n * W) xs)) k ≤ latest 15
+  IsTimely = (k : ℕ) → slice_index (map (λ x. x.label.down.finish) (take (n * W) xs)) k ≤ latest_finish 15

@@ -8,39 +8,39 @@ use Rattle.std.proofs.lemmas.Bool.Decides.{nat_tests}
 use Rattle.std.proofs.lemmas.List.Elements.{All-from_get_or}
 use Rattle.std.proofs.lemmas.List.FromFn.{length-range_with_len, get_or-range_with_len, take-map-range_with_len}
 use Rattle.std.proofs.lemmas.List.Sorted.{All-permutation, length_permutation}
-use Rattle.doors.specs.Orders.{In, Door, PartOrder, is_in, is_door}
+use Rattle.doors.specs.Orders.{StandsIn, IsDoor, IsPartOrder, is_in, is_door}
 use Rattle.doors.proofs.Orders.{is-in, in_is, is-door, door-is}
 use Rattle.doors.proofs.Sets.{part_length, part-door}
 use Rattle.lister.proofs.Permutations.{times, times-cons, permuted}
 
 -- ---- how often a door stands in a list
 
-times-none : (k : ℕ) (w : List ℕ) → ¬ In k w → times k w ≡ 0
+times-none : (k : ℕ) (w : List ℕ) → ¬ StandsIn k w → times k w ≡ 0
 times-none k [] n = refl
 times-none k (x ∷ w) n = grind (arith, nat_tests, times-cons k x w, times-none k w)
 
-times-once : (n k : ℕ) (w : List ℕ) → PartOrder n w → In k w → times k w ≡ 1
+times-once : (n k : ℕ) (w : List ℕ) → IsPartOrder n w → StandsIn k w → times k w ≡ 1
 times-once n k [] p h = absurd h
 times-once n k (x ∷ w) p h = grind (arith, nat_tests, times-cons k x w, times-once n k w, times-none x w)
 
 -- a list of n doors, none twice, has each door
-all_there : (n k : ℕ) (w : List ℕ) → PartOrder n w → length w ≡ n → Door n k → In k w
+all_there : (n k : ℕ) (w : List ℕ) → IsPartOrder n w → length w ≡ n → IsDoor n k → StandsIn k w
 all_there n k w p e d = grind (arith, cases_Bool (is_in k w), is-in k w, in_is k w, part_length n (k ∷ w))
 
-times-door : (n k : ℕ) (w : List ℕ) → PartOrder n w → length w ≡ n → times k w ≡ (if is_door n k then 1 else 0)
+times-door : (n k : ℕ) (w : List ℕ) → IsPartOrder n w → length w ≡ n → times k w ≡ (if is_door n k then 1 else 0)
 times-door n k w p e = grind (arith, nat_tests, is-door n k, door-is n k, all_there n k w, times-once n k w, times-none k w, part-door n w k)
 
 -- ---- the doors by number
 
-in-range : (k a m : ℕ) → In k (range_with_len a m) → a ≤ k
+in-range : (k a m : ℕ) → StandsIn k (range_with_len a m) → a ≤ k
 in-range k a zero h = absurd h
 in-range k a (suc m) h = grind (arith, in-range k (a + 1) m)
 
-part-range : (n a m : ℕ) → 1 ≤ a → a + m ≤ n + 1 → PartOrder n (range_with_len a m)
+part-range : (n a m : ℕ) → 1 ≤ a → a + m ≤ n + 1 → IsPartOrder n (range_with_len a m)
 part-range n a zero l h = tt
 part-range n a (suc m) l h = grind (arith, in-range a (a + 1) m, part-range n (a + 1) m)
 
-pub reordered : (n : ℕ) (w : List ℕ) → PartOrder n w → length w ≡ n → IsPermutation (range_with_len 1 n) w
+pub reordered : (n : ℕ) (w : List ℕ) → IsPartOrder n w → length w ≡ n → IsPermutation (range_with_len 1 n) w
 reordered n w p e =
     let first = range_with_len 1 n in
     permuted first w (λ k. times-door n k first (part-range n 1 n (omega arith) (omega arith)) (length-range_with_len 1 n) ∙ sym (times-door n k w p e))

@@ -7,7 +7,7 @@ use Rattle.std.proofs.lemmas.List.FromFn.{get_or-range_with_len, length-range_wi
 use Rattle.std.proofs.lemmas.List.Sorted.{IsPermutation-sym, IsPermutation-trans}
 use Rattle.std.proofs.lemmas.List.Quantifiers.{all_pairs_push}
 use Rattle.round.specs.declared.table.Round.{Round}
-use Rattle.orders.specs.Allowed.{Allowed}
+use Rattle.orders.specs.Allowed.{IsAllowed}
 use Rattle.lister.specs.Listed.{LooksAt}
 use Rattle.lister.specs.Orders.{ComesBefore, IsNext, IsLast}
 use Rattle.lister.proofs.Dictionary.{trichotomy, before-trans, none_before}
@@ -15,13 +15,13 @@ use Rattle.lister.proofs.Doors.{reordered}
 
 -- os are the allowed orders that come before v
 pub record SoFar (r : Round) (Keeps : List ℕ → Type 0) (v : List ℕ) (os : List (List ℕ)) : Type 0 where
-  pub whole : (w : List ℕ) → Allowed r Keeps w → ComesBefore w v → Contains os w
+  pub whole : (w : List ℕ) → IsAllowed r Keeps w → ComesBefore w v → Contains os w
   pub ascending : AllPairs ComesBefore os
   pub before : All (λ w. ComesBefore w v) os
 
 -- the same, with v itself
 pub record UpTo (r : Round) (Keeps : List ℕ → Type 0) (v : List ℕ) (os : List (List ℕ)) : Type 0 where
-  pub whole : (w : List ℕ) → Allowed r Keeps w → ComesBefore w v ⊎ (w ≡ v) → Contains os w
+  pub whole : (w : List ℕ) → IsAllowed r Keeps w → ComesBefore w v ⊎ (w ≡ v) → Contains os w
   pub ascending : AllPairs ComesBefore os
   pub upto : All (λ w. ComesBefore w v ⊎ (w ≡ v)) os
 
@@ -39,7 +39,7 @@ module _ (r : Round) (Keeps : List ℕ → Type 0) where
   })
 
   -- each allowed order has the numbers of the order that is looked at
-  same : (v w : List ℕ) → IsPermutation (range_with_len 1 r.n) v → Allowed r Keeps w → IsPermutation v w
+  same : (v w : List ℕ) → IsPermutation (range_with_len 1 r.n) v → IsAllowed r Keeps w → IsPermutation v w
   same v w p a = IsPermutation-trans v (range_with_len 1 r.n) w (IsPermutation-sym (range_with_len 1 r.n) v p) (reordered r.n w a.part a.whole)
 
   pub started : SoFar r Keeps (range_with_len 1 r.n) []
@@ -59,5 +59,5 @@ module _ (r : Round) (Keeps : List ℕ → Type 0) where
     before = All-weaker (λ u. ComesBefore u v ⊎ (u ≡ v)) (λ u. ComesBefore u w) (λ u. ⊎_elim (λ b. before-trans u v w b n.after) (λ e. rw e n.after)) os s.upto;
   }
 
-  pub ended : (v : List ℕ) (os : List (List ℕ)) → UpTo r Keeps v os → IsLast v → IsPermutation (range_with_len 1 r.n) v → (u : List ℕ) → Allowed r Keeps u → Contains os u
+  pub ended : (v : List ℕ) (os : List (List ℕ)) → UpTo r Keeps v os → IsLast v → IsPermutation (range_with_len 1 r.n) v → (u : List ℕ) → IsAllowed r Keeps u → Contains os u
   ended v os s l p u x = ⊎_elim (λ a. s.whole u x (inl a)) (⊎_elim (λ e. s.whole u x (inr e)) (λ a. absurd (l.none_after u (same v u p x) a))) (trichotomy u v)

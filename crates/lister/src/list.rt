@@ -1,9 +1,9 @@
 //! The allowed orders of a round, with their costs.
 ghost use Rattle.std.specs.Prelude.{◌≡◌, ℕ, List, take, drop, All, AllPairs, Contains, IfOk, OnOk, IfSome, MatchOption};
 ghost use Rattle.std.specs.List.{range_with_len};
-ghost use Rattle.orders.specs.Allowed.{Allowed};
+ghost use Rattle.orders.specs.Allowed.{IsAllowed};
 ghost use Rattle.orders.specs.Costs.{cost};
-ghost use Rattle.lister.specs.Listed.{Good, LooksAt, listed_orders};
+ghost use Rattle.lister.specs.Listed.{IsGood, LooksAt, listed_orders};
 ghost use Rattle.lister.specs.Orders.{ComesBefore};
 
 use crate::next::next_order;
@@ -34,8 +34,8 @@ pub fn cost_if_allowed<'a, R: Rule, T: Tally>(
 ) -> Option<T::Value>
     ensures cost { IfSome result (λ c. c ≡ cost round.now (T.Tally.sense tally.now) doors.now) }
     ensures allowed { R.Rule.serves rule.now round.now.n →
-        MatchOption result (¬ Allowed round.now (R.Rule.keeps rule.now) doors.now)
-        (λ _. Allowed round.now (R.Rule.keeps rule.now) doors.now) }
+        MatchOption result (¬ IsAllowed round.now (R.Rule.keeps rule.now) doors.now)
+        (λ _. IsAllowed round.now (R.Rule.keeps rule.now) doors.now) }
 {
     let order = Order::of(round, doors)?;
     match order.verdict(rule) {
@@ -54,8 +54,8 @@ fn look<R: Rule, T: Tally>(
 ) -> Result<(), AllocError>
     requires { drop round.now.n doors ≡ drop round.now.n (range_with_len 1 16) }
     ensures good { R.Rule.serves rule.now round.now.n →
-        All (Good round.now (R.Rule.keeps rule.now) (T.Tally.sense tally.now)) allowed.old.items →
-        All (Good round.now (R.Rule.keeps rule.now) (T.Tally.sense tally.now)) allowed.new.items }
+        All (IsGood round.now (R.Rule.keeps rule.now) (T.Tally.sense tally.now)) allowed.old.items →
+        All (IsGood round.now (R.Rule.keeps rule.now) (T.Tally.sense tally.now)) allowed.new.items }
     ensures orders { R.Rule.serves rule.now round.now.n →
         OnOk result (LooksAt round.now (R.Rule.keeps rule.now) (take round.now.n doors)
         (listed_orders round.now.n allowed.old.items)
@@ -78,9 +78,9 @@ pub fn list<R: Rule, T: Tally>(
 ) -> Result<Vec<Listed<T::Value>>, AllocError>
     ensures sound { R.Rule.serves rule.now round.now.n →
         IfOk result (λ l.
-        All (Good round.now (R.Rule.keeps rule.now) (T.Tally.sense tally.now)) l.items) }
+        All (IsGood round.now (R.Rule.keeps rule.now) (T.Tally.sense tally.now)) l.items) }
     ensures whole { R.Rule.serves rule.now round.now.n →
-        IfOk result (λ l. (w : List ℕ) → Allowed round.now (R.Rule.keeps rule.now) w →
+        IfOk result (λ l. (w : List ℕ) → IsAllowed round.now (R.Rule.keeps rule.now) w →
         Contains (listed_orders round.now.n l.items) w) }
     ensures ascending { R.Rule.serves rule.now round.now.n →
         IfOk result (λ l. AllPairs ComesBefore (listed_orders round.now.n l.items)) }

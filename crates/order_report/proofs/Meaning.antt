@@ -5,16 +5,16 @@ use Rattle.doors.specs.Orders.{is_part_order}
 use Rattle.doors.proofs.Orders.{is-part, part-is, each-front}
 use Rattle.round.specs.declared.table.Round.{Round}
 use Rattle.rules.specs.Boths.{both_sense}
-use Rattle.rules.specs.Loads.{Within, load_sense}
-use Rattle.rules.specs.Pairs.{Ordered, pairs_sense}
+use Rattle.rules.specs.Loads.{IsWithinCap, load_sense}
+use Rattle.rules.specs.Pairs.{IsOrdered, pairs_sense}
 use Rattle.orders.specs.declared.verdict.Verdict as verdicts
 use Rattle.orders.specs.declared.verdict.Verdict.TheVariants as is
-use Rattle.orders.specs.Verdicts.{Judged, verdict}
-use Rattle.allowed.specs.Orders.{FullOrder, AllowedOrder, KeepsRules}
+use Rattle.orders.specs.Verdicts.{VerdictMeans, verdict}
+use Rattle.allowed.specs.Orders.{IsFullOrder, IsAllowedOrder, KeepsRules}
 use Rattle.allowed.specs.Senses.{side_of}
 
 -- what is no part order is no order of all doors
-pub no_full_order : (r : Round) (w : List ℕ) → is_part_order r.n w ≡ false → ¬ FullOrder r w
+pub no_full_order : (r : Round) (w : List ℕ) → is_part_order r.n w ≡ false → ¬ IsFullOrder r w
 no_full_order r w e f = both_ways _ e (part-is r.n w f.part)
 
 -- A verdict on an order o of the round r and the doors w, by rules a and b that read the round's own tables.
@@ -23,19 +23,19 @@ module _ (r a b o : Bor Round) (w u : Bor (List ℕ)) (v : verdicts.Verdict) (p 
       → v ≡ verdict r.now (side_of r.now) w.now
   own_verdict h = rw (p, q, s, t) at h
 
-  pub own_meaning : ((a.now.n ≡ o.now.n) × (b.now.n ≡ o.now.n) → Judged o.now (λ x. Ordered a.now.ahead x × Within b.now.load b.now.cap b.now.doors x) u.now v)
-      → Judged r.now (KeepsRules r.now) w.now v
+  pub own_meaning : ((a.now.n ≡ o.now.n) × (b.now.n ≡ o.now.n) → VerdictMeans o.now (λ x. IsOrdered a.now.ahead x × IsWithinCap b.now.load b.now.cap b.now.doors x) u.now v)
+      → VerdictMeans r.now (KeepsRules r.now) w.now v
   own_meaning h = (rw (p, q, s, t) at h) (refl, refl)
 
   -- a part order that is not said to be incomplete is an order of all doors
-  pub full_order : is_part_order o.now.n u.now ≡ true → v ≡ verdict r.now (side_of r.now) w.now → ¬ (v ≡ is.Incomplete) → FullOrder r.now w.now
+  pub full_order : is_part_order o.now.n u.now ≡ true → v ≡ verdict r.now (side_of r.now) w.now → ¬ (v ≡ is.Incomplete) → IsFullOrder r.now w.now
   full_order e same h = record {
     part = is-part r.now.n w.now (rw (s, t) at e);
     whole = ⊎_elim (eqb-true _ _) (λ f. absurd (h (same ∙ cond-false _ _ is.Incomplete f))) (cases_Bool (length w.now == r.now.n));
   }
 
 -- a verdict is yes exactly for an allowed order
-pub allowed_exactly : (r : Round) (w : List ℕ) (v : verdicts.Verdict) → Judged r (KeepsRules r) w v → (v ≡ is.Allowed) ↔ AllowedOrder r w
+pub allowed_exactly : (r : Round) (w : List ℕ) (v : verdicts.Verdict) → VerdictMeans r (KeepsRules r) w v → (v ≡ is.Allowed) ↔ IsAllowedOrder r w
 allowed_exactly r w is.Allowed h = (λ e. record { full = record { part = h.part; whole = h.whole }; ordered = h.keeps.0; within = h.keeps.1; timely = h.timely }, λ a. refl)
 allowed_exactly r w is.Incomplete h = ((λ e. cc), λ a. absurd (h a.full.whole))
 allowed_exactly r w (is.Closes j) h = ((λ e. cc), λ a. absurd (omega (arith, h.wrong, a.timely h.ahead j h.rest h.split)))

@@ -1,6 +1,6 @@
 //! The report of one order of all the doors of a round.
 ghost use Rattle.std.specs.Prelude.{IfOk, MatchOption};
-ghost use Rattle.allowed.specs.Orders.{FullOrder};
+ghost use Rattle.allowed.specs.Orders.{IsFullOrder};
 ghost use Rattle.order_report.specs.Reports.{Reports};
 
 use orders::order::Order;
@@ -38,7 +38,7 @@ impl<'a> Report<'a> {
         alloc: Global,
     ) -> Result<Option<Report<'a>>, AllocError>
         ensures { IfOk result (λ report. MatchOption report
-            (¬ FullOrder round.now doors.now)
+            (¬ IsFullOrder round.now doors.now)
             (Reports round.now doors.now)) }
     {
         let Some(order) = Order::of(round, doors) else {

@@ -11,21 +11,21 @@ abbrev pub yard : Van
 yard = record { last = 0; finish = 0 }
 
 -- the van after the work at door j
-abbrev pub goes : Round → Van → ℕ → Van
-goes r a j = record { last = j; finish = finish r a.finish (drive r a.last j) j }
+abbrev pub next_van : Round → Van → ℕ → Van
+next_van r a j = record { last = j; finish = finish r a.finish (drive r a.last j) j }
 
 -- the van after the doors of w
 abbrev pub van_after : Round → List ℕ → Van
-van_after r w = fold (goes r) yard w
+van_after r w = fold (next_van r) yard w
 
 -- the minute at which the last door of w finishes
 abbrev pub finish_of : Round → List ℕ → ℕ
 finish_of r w = (van_after r w).finish
 
 -- the minutes at which the doors of w finish
-abbrev pub finishes : Round → List ℕ → List ℕ
-finishes r w = map (λ k. finish_of r (take (k + 1) w)) (range_with_len 0 (length w))
+abbrev pub finish_minutes : Round → List ℕ → List ℕ
+finish_minutes r w = map (λ k. finish_of r (take (k + 1) w)) (range_with_len 0 (length w))
 
 -- no door of w finishes after it closes
-abbrev pub Timely : Round → List ℕ → Type 0
-Timely r w = AtEach (λ u j. finish_of r (u ++ j ∷ []) ≤ (door r j).closes) w
+abbrev pub KeepsHours : Round → List ℕ → Type 0
+KeepsHours r w = AtEach (λ u j. finish_of r (u ++ j ∷ []) ≤ (door r j).closes) w

@@ -1,7 +1,7 @@
 //! The van on its way.
 ghost use Rattle.std.specs.Prelude.{◌≡◌, ℕ, suc, ◌<◌, ◌≤◌};
-ghost use Rattle.round.specs.Clock.{latest};
-ghost use Rattle.orders.specs.Times.{yard, goes};
+ghost use Rattle.round.specs.Clock.{latest_finish};
+ghost use Rattle.orders.specs.Times.{yard, next_van};
 
 use round::table::Round;
 
@@ -22,8 +22,8 @@ impl Van {
 
     /// After the work at door j.
     pub(crate) fn goes(self, round: &Round, j: usize) -> Van
-        requires { self.finish ≤ latest 15 }
-        ensures { result ≡ goes round.now self j }
+        requires { self.finish ≤ latest_finish 15 }
+        ensures { result ≡ next_van round.now self j }
     {
         let leg = round.drive(self.last, j);
         let finish = round.finish(self.finish, leg, j);

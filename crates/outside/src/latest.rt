@@ -1,6 +1,6 @@
 //! A tally: the latest finish so far.
 ghost use Rattle.std.specs.Prelude.{◌≤◌};
-ghost use Rattle.round.specs.Clock.{latest};
+ghost use Rattle.round.specs.Clock.{latest_finish};
 ghost use Rattle.outside.specs.Latest.{latest_sense};
 ghost use Rattle.std.proofs.Common.{rules};
 
@@ -17,7 +17,7 @@ impl Tally for LatestFinish {
 
     ghost sense = { λ t. latest_sense };
 
-    ghost allows = { λ t k v. v ≤ latest 16 };
+    ghost allows = { λ t k v. v ≤ latest_finish 16 };
 
     ghost lawful = { Prim.search rules };
 

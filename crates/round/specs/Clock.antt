@@ -2,7 +2,7 @@
 use Rattle.std.specs.Prelude.{ℕ, suc, ◌+◌, ◌*◌, ◌≤◌, max}
 use Rattle.round.specs.declared.door.Door.{Door}
 use Rattle.round.specs.declared.table.Round.{Round}
-use Rattle.round.specs.Tables.{at, leg}
+use Rattle.round.specs.Tables.{at, minutes_between}
 
 -- the record of door j, blank where there is none
 abbrev pub door : Round → ℕ → Door
@@ -10,7 +10,7 @@ door r j = at r.doors j
 
 -- the drive minutes from i to door j, 0 where there are none
 abbrev pub drive : Round → ℕ → ℕ → ℕ
-drive r i j = leg r.drives i j
+drive r i j = minutes_between r.drives i j
 
 -- the minute at which the work at door j ends, for a van that left its last place at minute f and drove g minutes:
 -- work starts at the later of the door's opening and the arrival
@@ -18,8 +18,8 @@ unfoldable pub finish : Round → ℕ → ℕ → ℕ → ℕ
 finish r f g j = max (door r j).opens (f + g) + (door r j).work
 
 -- no finish passes this after k steps
-abbrev pub latest : ℕ → ℕ
-latest k = 9999 + k * 1998
+abbrev pub latest_finish : ℕ → ℕ
+latest_finish k = 9999 + k * 1998
 
 -- What the clock promises.
 pub record ClockLaws (r : Round) : Type 0 where
@@ -28,4 +28,4 @@ pub record ClockLaws (r : Round) : Type 0 where
   -- a finish is not before departure plus drive plus work
   pub after : (f g j : ℕ) → f + g + (door r j).work ≤ finish r f g j
   -- one step more, to any door, new or not, with a drive of the table's length
-  pub bound : (k f g j : ℕ) → f ≤ latest k → g ≤ 999 → finish r f g j ≤ latest (suc k)
+  pub bound : (k f g j : ℕ) → f ≤ latest_finish k → g ≤ 999 → finish r f g j ≤ latest_finish (suc k)

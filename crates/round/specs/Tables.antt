@@ -15,5 +15,5 @@ abbrev pub at : List Door → ℕ → Door
 at doors j = slice_index_or doors j blank
 
 -- the drive minutes from i to door j, 0 past the end
-abbrev pub leg : List (List ℕ) → ℕ → ℕ → ℕ
-leg drives i j = slice_index (slice_index_or drives i []) j
+abbrev pub minutes_between : List (List ℕ) → ℕ → ℕ → ℕ
+minutes_between drives i j = slice_index (slice_index_or drives i []) j

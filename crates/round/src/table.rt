@@ -1,6 +1,6 @@
 //! A round, lawful by its type.
 ghost use Rattle.std.specs.Prelude.{◌≡◌, ℕ, ◌≤◌, pos, negsuc, ◌≤ℤ◌};
-ghost use Rattle.round.specs.Tables.{at, leg};
+ghost use Rattle.round.specs.Tables.{at, minutes_between};
 
 use crate::door::Door;
 use doors::DoorSet;
@@ -27,6 +27,6 @@ pub struct Round {
     ghost work: { (j : ℕ) → (at doors j).work ≤ 999 },
     ghost low: { (j : ℕ) → negsuc 98 ≤ℤ (at doors j).change },
     ghost high: { (j : ℕ) → (at doors j).change ≤ℤ pos 99 },
-    ghost legs: { (i j : ℕ) → leg drives i j ≤ 999 },
-    ghost own: { (j : ℕ) → leg drives j j ≡ 0 },
+    ghost legs: { (i j : ℕ) → minutes_between drives i j ≤ 999 },
+    ghost own: { (j : ℕ) → minutes_between drives j j ≡ 0 },
 }

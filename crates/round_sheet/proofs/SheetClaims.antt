@@ -2,29 +2,29 @@
 use Rattle.std.proofs.Common.{◌≡◌, ℕ, true, false, List, [], ◌∷◌, Option, Some, None, refl, ⊎_elim, arith}
 use Rattle.std.proofs.lemmas.Bool.{cases_Bool}
 use Rattle.round.specs.declared.table.Round.{Round}
-use Rattle.tallies.specs.Late.{lex}
-use Rattle.orders.specs.Allowed.{Allowed}
+use Rattle.tallies.specs.Late.{is_not_above}
+use Rattle.orders.specs.Allowed.{IsAllowed}
 use Rattle.layers.specs.declared.call.Call.TheVariants.{Refine}
 use Rattle.layers.specs.Calls.{bound, must, is_settled}
 use Rattle.layers.specs.Claim.{ClaimHolds, Wanted}
-use Rattle.allowed.specs.Orders.{AllowedOrder, KeepsRules, NotAbove, late_cost}
+use Rattle.allowed.specs.Orders.{IsAllowedOrder, KeepsRules, IsNotAbove, late_cost}
 use Rattle.allowed.specs.Senses.{side_of, late_of}
 use Rattle.round_sheet.specs.Claims.{NoneUndercuts, MustsHold, BoundIsReached, NoMustMissing}
 use Rattle.round_sheet.specs.Sheets.{Records, setting_for, musts_of}
 use Rattle.round_sheet.proofs.SheetSets.{must_parts, must_from, must-yes, yes-must}
 
 -- the order on costs, as a test and in words
-pub lex-not_above : (a b : ℕ × ℕ) → lex a b ≡ true → NotAbove a b
+pub lex-not_above : (a b : ℕ × ℕ) → is_not_above a b ≡ true → IsNotAbove a b
 lex-not_above a b e = grind arith
 
 -- what is claimed of the records xs once the diagram is refined
 abbrev pub Claimed : Round → Records → Type 0
 Claimed r xs = ClaimHolds (setting_for r) (KeepsRules r) (Refine ∷ []) xs
 
-allowed-order : (r : Round) (w : List ℕ) → Allowed r (KeepsRules r) w → AllowedOrder r w
+allowed-order : (r : Round) (w : List ℕ) → IsAllowed r (KeepsRules r) w → IsAllowedOrder r w
 allowed-order r w a = record { full = record { part = a.part; whole = a.whole }; ordered = a.keeps.0; within = a.keeps.1; timely = a.timely }
 
-order-wanted : (r : Round) (w : List ℕ) → AllowedOrder r w → Wanted (setting_for r) (KeepsRules r) (Refine ∷ []) w
+order-wanted : (r : Round) (w : List ℕ) → IsAllowedOrder r w → Wanted (setting_for r) (KeepsRules r) (Refine ∷ []) w
 order-wanted r w a = (record { part = a.full.part; whole = a.full.whole; keeps = (a.ordered, a.within); timely = a.timely }, tt)
 
 module _ (r : Round) (xs : Records) (sure : Claimed r xs) where

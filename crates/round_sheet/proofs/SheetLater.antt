@@ -1,10 +1,10 @@
 -- What the list has past the diagram is never altered.
 use Rattle.std.proofs.Common.{◌≡◌, ℕ, zero, suc, List, [], ◌∷◌, length, drop, refl, ap, subst, ◌∙◌, arith}
 use Rattle.round.specs.declared.table.Round.{Round}
-use Rattle.doors.specs.Orders.{In}
+use Rattle.doors.specs.Orders.{StandsIn}
 use Rattle.doors.specs.Sets.{Has}
 use Rattle.rules.specs.declared.load.Interval.{Interval}
-use Rattle.rules.specs.Loads.{Between}
+use Rattle.rules.specs.Loads.{LiesBetween}
 use Rattle.rules.specs.BothLaws.{both_lawful}
 use Rattle.rules.specs.LoadLaws.{load_lawful}
 use Rattle.rules.specs.PairsLaws.{pairs_lawful}
@@ -28,7 +28,7 @@ deep n W (suc (suc k)) xs = ap suc (deep n W (suc k) (drop W xs))
 
 -- which orders a state of pairs and load stands for
 abbrev Stands : Round → ℕ × Interval → List ℕ → Type 0
-Stands r s w = ((i : ℕ) → In i w → Has s.0 i) × Between r.load r.doors s.1 w
+Stands r s w = ((i : ℕ) → StandsIn i w → Has s.0 i) × LiesBetween r.load r.doors s.1 w
 
 -- the labels that stand in a diagram of the round are those worked out from its arcs
 worked : (r : Round) → LabelsStand (λ n. r.n ≡ n) (side_of r) (late_of r)

@@ -3,8 +3,8 @@ use Rattle.std.proofs.Common.{◌≡◌, ℕ, true, List, [], ◌∷◌, Bor, re
 use Rattle.round.specs.declared.table.Round.{Round}
 use Rattle.rules.specs.declared.load.Interval.{Interval}
 use Rattle.rules.specs.Boths.{both_sense}
-use Rattle.rules.specs.Loads.{load_sense, Within}
-use Rattle.rules.specs.Pairs.{pairs_sense, Ordered}
+use Rattle.rules.specs.Loads.{load_sense, IsWithinCap}
+use Rattle.rules.specs.Pairs.{pairs_sense, IsOrdered}
 use Rattle.rules.specs.Rules.{RuleSense}
 use Rattle.tallies.specs.Late.{late_sense}
 use Rattle.tallies.specs.Tallies.{TallySense}
@@ -28,7 +28,7 @@ late t = late_sense t.now.n t.now.doors
 
 -- which orders keep them
 abbrev pub kept : Bor Round → Bor Round → List ℕ → Type 0
-kept a b w = Ordered a.now.ahead w × Within b.now.load b.now.cap b.now.doors w
+kept a b w = IsOrdered a.now.ahead w × IsWithinCap b.now.load b.now.cap b.now.doors w
 
 module _ (m : Room) (a b t : Bor Round) (pairs : a ≡ m.round) (load : b ≡ m.round) (due : t ≡ m.round) (wide : m.width ≡ 16) where
   abbrev r : Round

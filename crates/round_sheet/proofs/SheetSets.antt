@@ -4,7 +4,7 @@ use Rattle.std.specs.Result.{result_unwrap_or}
 use Rattle.std.proofs.lemmas.Bool.{cases_Bool, cases_lt, cond-true, cond-false, eqb-false, ne_eqb, false≢true, true≢false}
 use Rattle.std.proofs.lemmas.List.FromFn.{get_or-map-range_with_len, length-map-range_with_len}
 use Rattle.std.proofs.lemmas.List.{get_or_past}
-use Rattle.doors.specs.Orders.{Door}
+use Rattle.doors.specs.Orders.{IsDoor}
 use Rattle.doors.specs.Sets.{Has}
 use Rattle.doors.proofs.Sets.{has-none, has_left, has_more, has-added}
 use Rattle.round.specs.declared.table.Round.{Round}
@@ -67,10 +67,10 @@ yes_from true same ahead a b e = absurd (true≢false a)
 yes_from false true ahead a b e = absurd (true≢false b)
 yes_from false false ahead a b e = e
 
-good_doors : (n i j : ℕ) → bad_door n i j ≡ false → Door n i × Door n j
+good_doors : (n i j : ℕ) → bad_door n i j ≡ false → IsDoor n i × IsDoor n j
 good_doors n i j e = (record { low = grind arith; high = grind arith }, record { low = grind arith; high = grind arith })
 
-doors_good : (n i j : ℕ) → Door n i → Door n j → bad_door n i j ≡ false
+doors_good : (n i j : ℕ) → IsDoor n i → IsDoor n j → bad_door n i j ≡ false
 doors_good n i j a b = let la = a.low in let ha = a.high in let lb = b.low in let hb = b.high in grind arith
 
 module _ (r : Round) (xs : Records) where
@@ -79,13 +79,13 @@ module _ (r : Round) (xs : Records) where
   at_place i l = get_or-map-range_with_len (behind r xs) 0 17 i i 0 l (omega arith)
 
   -- a must of the diagram: two different doors of the round, and yes
-  pub must_parts : (i j : ℕ) → must_of r xs i j ≡ true → Door r.n i × Door r.n j × (i ≢ j) × (must r.n 16 i j xs ≡ true)
+  pub must_parts : (i j : ℕ) → must_of r xs i j ≡ true → IsDoor r.n i × IsDoor r.n j × (i ≢ j) × (must r.n 16 i j xs ≡ true)
   must_parts i j e =
       let p = yes_parts (bad_door r.n i j) (i == j) (must r.n 16 i j xs) e in
       let d = good_doors r.n i j p.0 in
       (d.0, d.1, eqb-false i j p.1, p.2)
 
-  pub must_from : (i j : ℕ) → Door r.n i → Door r.n j → i ≢ j → must r.n 16 i j xs ≡ true → must_of r xs i j ≡ true
+  pub must_from : (i j : ℕ) → IsDoor r.n i → IsDoor r.n j → i ≢ j → must r.n 16 i j xs ≡ true → must_of r xs i j ≡ true
   must_from i j a b d e = yes_from (bad_door r.n i j) (i == j) (must r.n 16 i j xs) (doors_good r.n i j a b) (ne_eqb i j d) e
 
   -- a must on the sheet is one that the diagram answers yes

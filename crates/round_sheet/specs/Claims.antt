@@ -1,10 +1,10 @@
 -- What a sheet claims, in words of the round's allowed orders.
 use Rattle.std.specs.Prelude.{◌≡◌, ◌≢◌, ℕ, List, Option, None, Some, slice_index}
-use Rattle.doors.specs.Orders.{Door}
+use Rattle.doors.specs.Orders.{IsDoor}
 use Rattle.doors.specs.Sets.{Has}
 use Rattle.round.specs.declared.table.Round.{Round}
 use Rattle.layers.specs.Claim.{StandsAhead}
-use Rattle.allowed.specs.Orders.{AllowedOrder, late_cost, NotAbove}
+use Rattle.allowed.specs.Orders.{IsAllowedOrder, late_cost, IsNotAbove}
 
 -- the sets say that door i has to come ahead of door j
 abbrev pub Must : List ℕ → ℕ → ℕ → Type 0
@@ -12,20 +12,20 @@ Must musts i j = Has (slice_index musts i) j
 
 -- no allowed order undercuts the bound, and there is no bound only if no order is allowed
 abbrev pub NoneUndercuts : Round → Option (ℕ × ℕ) → Type 0
-NoneUndercuts r None = (w : List ℕ) → ¬ AllowedOrder r w
-NoneUndercuts r (Some bound) = (w : List ℕ) → AllowedOrder r w → NotAbove bound (late_cost r w)
+NoneUndercuts r None = (w : List ℕ) → ¬ IsAllowedOrder r w
+NoneUndercuts r (Some bound) = (w : List ℕ) → IsAllowedOrder r w → IsNotAbove bound (late_cost r w)
 
 -- each must holds in every allowed order
 abbrev pub MustsHold : Round → List ℕ → Type 0
-MustsHold r musts = (i j : ℕ) → Must musts i j → (w : List ℕ) → AllowedOrder r w → StandsAhead i j w
+MustsHold r musts = (i j : ℕ) → Must musts i j → (w : List ℕ) → IsAllowedOrder r w → StandsAhead i j w
 
 -- the bound is what some allowed order costs, and there is no bound if no order is allowed
 abbrev pub BoundIsReached : Round → Option (ℕ × ℕ) → Type 0
-BoundIsReached r None = (w : List ℕ) → ¬ AllowedOrder r w
-BoundIsReached r (Some bound) = (w : List ℕ) × AllowedOrder r w × (late_cost r w ≡ bound)
+BoundIsReached r None = (w : List ℕ) → ¬ IsAllowedOrder r w
+BoundIsReached r (Some bound) = (w : List ℕ) × IsAllowedOrder r w × (late_cost r w ≡ bound)
 
 -- no must is missing: of two different doors with none, some allowed order has the second ahead of the first
 abbrev pub NoMustMissing : Round → List ℕ → Type 0
 NoMustMissing r musts =
-    (i j : ℕ) → Door r.n i → Door r.n j → i ≢ j → ¬ Must musts i j
-    → (w : List ℕ) × AllowedOrder r w × StandsAhead j i w
+    (i j : ℕ) → IsDoor r.n i → IsDoor r.n j → i ≢ j → ¬ Must musts i j
+    → (w : List ℕ) × IsAllowedOrder r w × StandsAhead j i w

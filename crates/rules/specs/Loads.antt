@@ -12,8 +12,8 @@ abbrev pub load_of : ℕ → List Door → List ℕ → ℤ
 load_of load doors w = fold (λ l j. l +ℤ (at doors j).change) (pos load) w
 
 -- the load is 0 to cap after every door of w
-abbrev pub Within : ℕ → ℕ → List Door → List ℕ → Type 0
-Within load cap doors w =
+abbrev pub IsWithinCap : ℕ → ℕ → List Door → List ℕ → Type 0
+IsWithinCap load cap doors w =
     AtEach (λ u j. (pos 0 ≤ℤ load_of load doors (u ++ j ∷ [])) × (load_of load doors (u ++ j ∷ []) ≤ℤ pos cap)) w
 
 -- the loads from a to b
@@ -21,25 +21,25 @@ abbrev pub interval : ℤ → ℤ → Interval
 interval a b = record { low = a; high = b }
 
 -- the load after w lies in the interval
-abbrev pub Between : ℕ → List Door → Interval → List ℕ → Type 0
-Between load doors s w = (s.low ≤ℤ load_of load doors w) × (load_of load doors w ≤ℤ s.high)
+abbrev pub LiesBetween : ℕ → List Door → Interval → List ℕ → Type 0
+LiesBetween load doors s w = (s.low ≤ℤ load_of load doors w) × (load_of load doors w ≤ℤ s.high)
 
 -- z, held within ±9,999
-abbrev pub held : ℤ → ℤ
-held z = int_max (negsuc 9998) (int_min z (pos 9999))
+abbrev pub clamped_load : ℤ → ℤ
+clamped_load z = int_max (negsuc 9998) (int_min z (pos 9999))
 
 -- both ends moved by the change of door j; a number that is no door of the round moves none
-abbrev pub moves : ℕ → List Door → Interval → ℕ → Interval
-moves n doors s j =
-    if is_door n j then interval (held (s.low +ℤ (at doors j).change)) (held (s.high +ℤ (at doors j).change)) else s
+abbrev pub moved_interval : ℕ → List Door → Interval → ℕ → Interval
+moved_interval n doors s j =
+    if is_door n j then interval (clamped_load (s.low +ℤ (at doors j).change)) (clamped_load (s.high +ℤ (at doors j).change)) else s
 
 -- the least interval that has both
-abbrev pub spans : Interval → Interval → Interval
-spans s t = interval (int_min s.low t.low) (int_max s.high t.high)
+abbrev pub spanning_interval : Interval → Interval → Interval
+spanning_interval s t = interval (int_min s.low t.low) (int_max s.high t.high)
 
 -- at door j the lowest load would pass the cap, or the highest fall below 0
-abbrev pub overflows : ℕ → ℕ → List Door → Interval → ℕ → Bool
-overflows n cap doors s j =
+abbrev pub may_overflow : ℕ → ℕ → List Door → Interval → ℕ → Bool
+may_overflow n cap doors s j =
     if is_door n j
     then int_lt (pos cap) (s.low +ℤ (at doors j).change) || int_lt (s.high +ℤ (at doors j).change) (pos 0)
     else false
@@ -52,8 +52,8 @@ same_int a b = int_le a b && int_le b a
 abbrev pub load_sense : ℕ → ℕ → ℕ → List Door → RuleSense Interval
 load_sense n load cap doors = record {
   start = interval (pos load) (pos load);
-  step = moves n doors;
-  cover = spans;
-  bars = overflows n cap doors;
+  step = moved_interval n doors;
+  cover = spanning_interval;
+  bars = may_overflow n cap doors;
   same = λ s t. same_int s.low t.low && same_int s.high t.high;
 }

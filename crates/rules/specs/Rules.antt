@@ -1,6 +1,6 @@
 -- What a side rule is: five functions, a meaning, and laws that tie them.
 use Rattle.std.specs.Prelude.{◌≡◌, ℕ, Bool, true, false, List, [], ◌∷◌, ◌++◌, fold}
-use Rattle.doors.specs.Orders.{Door, PartOrder, Next}
+use Rattle.doors.specs.Orders.{IsDoor, IsPartOrder, CanFollow}
 
 -- what the functions of a rule answer
 pub record RuleSense (S : Type 0) : Type 0 where
@@ -18,27 +18,27 @@ state_of R w = fold R.step R.start w
 pub record RuleLaws {S : Type 0} (n : ℕ) (R : RuleSense S) (Keeps : List ℕ → Type 0) (Stands : S → List ℕ → Type 0) : Type 0 where
   -- the empty part order keeps the rule, and so does every beginning of one that does
   pub keeps_none : Keeps []
-  pub keeps_front : (w v : List ℕ) → PartOrder n (w ++ v) → Keeps (w ++ v) → Keeps w
+  pub keeps_front : (w v : List ℕ) → IsPartOrder n (w ++ v) → Keeps (w ++ v) → Keeps w
   -- start stands for the empty part order
   pub start_stands : Stands R.start []
   -- if s stands for w, then step(s, j) for w followed by j
-  pub step_stands : (s : S) (w : List ℕ) (j : ℕ) → Next n w j → Stands s w → Stands (R.step s j) (w ++ j ∷ [])
+  pub step_stands : (s : S) (w : List ℕ) (j : ℕ) → CanFollow n w j → Stands s w → Stands (R.step s j) (w ++ j ∷ [])
   -- cover(s, t) stands for all that s or t stands for, and cover(s, s) is s
-  pub cover_left : (s t : S) (w : List ℕ) → PartOrder n w → Stands s w → Stands (R.cover s t) w
-  pub cover_right : (s t : S) (w : List ℕ) → PartOrder n w → Stands t w → Stands (R.cover s t) w
+  pub cover_left : (s t : S) (w : List ℕ) → IsPartOrder n w → Stands s w → Stands (R.cover s t) w
+  pub cover_right : (s t : S) (w : List ℕ) → IsPartOrder n w → Stands t w → Stands (R.cover s t) w
   pub cover_same : (s : S) → R.cover s s ≡ s
   -- if a state that stands for w bars j, then w followed by j breaks the rule
-  pub bars_breaks : (s : S) (w : List ℕ) (j : ℕ) → Next n w j → Stands s w → R.bars s j ≡ true → ¬ Keeps (w ++ j ∷ [])
+  pub bars_breaks : (s : S) (w : List ℕ) (j : ℕ) → CanFollow n w j → Stands s w → R.bars s j ≡ true → ¬ Keeps (w ++ j ∷ [])
   -- what the state of w itself does not bar keeps the rule
-  pub clear_keeps : (w : List ℕ) (j : ℕ) → Next n w j → Keeps w → R.bars (state_of R w) j ≡ false → Keeps (w ++ j ∷ [])
+  pub clear_keeps : (w : List ℕ) (j : ℕ) → CanFollow n w j → Keeps w → R.bars (state_of R w) j ≡ false → Keeps (w ++ j ∷ [])
   -- same is yes exactly for equal states
   pub same_is : (s t : S) → R.same s t ≡ true → s ≡ t
   pub same_self : (s : S) → R.same s s ≡ true
   -- a number that is no door of the round changes no state and is not barred
-  pub outside_step : (s : S) (j : ℕ) → ¬ Door n j → R.step s j ≡ s
-  pub outside_bars : (s : S) (j : ℕ) → ¬ Door n j → R.bars s j ≡ false
+  pub outside_step : (s : S) (j : ℕ) → ¬ IsDoor n j → R.step s j ≡ s
+  pub outside_bars : (s : S) (j : ℕ) → ¬ IsDoor n j → R.bars s j ≡ false
 
 -- The answer b, to whether j is barred after w, is yes exactly when w followed by j breaks the rule.
-pub record Exact (Keeps : List ℕ → Type 0) (w : List ℕ) (j : ℕ) (b : Bool) : Type 0 where
+pub record IsExact (Keeps : List ℕ → Type 0) (w : List ℕ) (j : ℕ) (b : Bool) : Type 0 where
   pub yes_breaks : b ≡ true → ¬ Keeps (w ++ j ∷ [])
   pub breaks_yes : ¬ Keeps (w ++ j ∷ []) → b ≡ true

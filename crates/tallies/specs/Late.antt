@@ -10,18 +10,18 @@ abbrev pub late_by : ℕ → List Door → ℕ → ℕ → ℕ
 late_by n doors j finish = if is_door n j then finish - (at doors j).due else 0
 
 -- one more door, late by m minutes, or on time where m is 0; a number that would pass 1,000,000 stays there
-abbrev pub counts : ℕ × ℕ → ℕ → ℕ × ℕ
-counts v m = if nat_lt 0 m then (min (v.0 + 1) 1000000, min (v.1 + m) 1000000) else v
+abbrev pub late_count : ℕ × ℕ → ℕ → ℕ × ℕ
+late_count v m = if nat_lt 0 m then (min (v.0 + 1) 1000000, min (v.1 + m) 1000000) else v
 
 -- a is not above b: by the first number, then by the second
-abbrev pub lex : ℕ × ℕ → ℕ × ℕ → Bool
-lex a b = nat_lt a.0 b.0 || (a.0 == b.0 && nat_le a.1 b.1)
+abbrev pub is_not_above : ℕ × ℕ → ℕ × ℕ → Bool
+is_not_above a b = nat_lt a.0 b.0 || (a.0 == b.0 && nat_le a.1 b.1)
 
 -- what the tally answers: a value is late doors, and late minutes
 abbrev pub late_sense : ℕ → List Door → TallySense (ℕ × ℕ)
 late_sense n doors = record {
   start = (0, 0);
-  step = λ v j leg finish. counts v (late_by n doors j finish);
-  not_above = lex;
-  lesser = λ a b. if lex a b then a else b;
+  step = λ v j leg finish. late_count v (late_by n doors j finish);
+  not_above = is_not_above;
+  lesser = λ a b. if is_not_above a b then a else b;
 }

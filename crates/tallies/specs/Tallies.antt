@@ -1,7 +1,7 @@
 -- What a tally is: four functions, and laws that tie them.
 use Rattle.std.specs.Prelude.{◌≡◌, Bool, true, false, if◌then◌else◌, ℕ, suc, ◌<◌, ◌≤◌}
-use Rattle.doors.specs.Orders.{Door}
-use Rattle.round.specs.Clock.{latest}
+use Rattle.doors.specs.Orders.{IsDoor}
+use Rattle.round.specs.Clock.{latest_finish}
 
 -- what the functions of a tally answer; step takes the value, the door, the leg's minutes and the finish
 pub record TallySense (V : Type 0) : Type 0 where
@@ -21,9 +21,9 @@ pub record TallyLaws {V : Type 0} (n : ℕ) (T : TallySense V) (Allows : ℕ →
   pub lesser_is : (a b : V) → T.lesser a b ≡ (if T.not_above a b then a else b)
   -- start is allowed after 0 doors, and a step leads from k doors to k + 1
   pub start_allowed : Allows 0 T.start
-  pub step_allowed : (k : ℕ) (v : V) (j leg finish : ℕ) → k < 16 → Door n j → leg ≤ 999 → finish ≤ latest 16 → Allows k v → Allows (suc k) (T.step v j leg finish)
+  pub step_allowed : (k : ℕ) (v : V) (j leg finish : ℕ) → k < 16 → IsDoor n j → leg ≤ 999 → finish ≤ latest_finish 16 → Allows k v → Allows (suc k) (T.step v j leg finish)
   -- on those values a step never falls when value, leg or finish rises
-  pub step_rises : (k : ℕ) (v v' : V) (j leg leg' finish finish' : ℕ) → k < 16 → Door n j → leg ≤ leg' → leg' ≤ 999 → finish ≤ finish' → finish' ≤ latest 16
+  pub step_rises : (k : ℕ) (v v' : V) (j leg leg' finish finish' : ℕ) → k < 16 → IsDoor n j → leg ≤ leg' → leg' ≤ 999 → finish ≤ finish' → finish' ≤ latest_finish 16
       → Allows k v → Allows k v' → T.not_above v v' ≡ true → T.not_above (T.step v j leg finish) (T.step v' j leg' finish') ≡ true
   -- on those values v is not above its step
-  pub step_above : (k : ℕ) (v : V) (j leg finish : ℕ) → k < 16 → Door n j → leg ≤ 999 → finish ≤ latest 16 → Allows k v → T.not_above v (T.step v j leg finish) ≡ true
+  pub step_above : (k : ℕ) (v : V) (j leg finish : ℕ) → k < 16 → IsDoor n j → leg ≤ 999 → finish ≤ latest_finish 16 → Allows k v → T.not_above v (T.step v j leg finish) ≡ true

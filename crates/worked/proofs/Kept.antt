@@ -1,12 +1,12 @@
 -- The orders of three doors that the worked cases name: which are allowed, and which keep the load.
 use Rattle.std.proofs.Common.{◌≡◌, ℕ, zero, suc, ◌≤◌, ◌⊎◌, List, [], ◌∷◌, length, ℤ, pos, negsuc, ◌≤ℤ◌, refl, subst, subst₂, inl, inr, ⊎_elim, arith}
 use Rattle.std.proofs.lemmas.Int.{ints}
-use Rattle.doors.specs.Orders.{Door, PartOrder, AtEach}
+use Rattle.doors.specs.Orders.{IsDoor, IsPartOrder, AtEach}
 use Rattle.doors.proofs.Orders.{is-part, each_none, each_more}
 use Rattle.doors.proofs.Sets.{has-none}
 use Rattle.round.specs.Clock.{finish}
 use Rattle.rules.specs.Loads.{load_of}
-use Rattle.orders.specs.Allowed.{Allowed}
+use Rattle.orders.specs.Allowed.{IsAllowed}
 use Rattle.worked.specs.Rounds.{trio, boxes}
 use Rattle.worked.specs.Cases.{Loaded, Keeps, TwoKeep}
 
@@ -16,7 +16,7 @@ at-three P a b c x y z = each_more P (a ∷ b ∷ []) c (each_more P (a ∷ []) 
 
 module _ (c : ℕ) (h : c ≤ 9999) where
   -- 1, 3, 2 finishes at 2, 6, 8; there are no pairs and no changes of load
-  pub allowed : 8 ≤ c → Allowed (trio c h) (Keeps (trio c h)) (1 ∷ 3 ∷ 2 ∷ [])
+  pub allowed : 8 ≤ c → IsAllowed (trio c h) (Keeps (trio c h)) (1 ∷ 3 ∷ 2 ∷ [])
   unfolding finish
   allowed l = record {
     part = is-part 3 (1 ∷ 3 ∷ 2 ∷ []) refl;
@@ -26,7 +26,7 @@ module _ (c : ℕ) (h : c ≤ 9999) where
   }
 
   -- 1, 2, 3 ends at 9, and door 3 closes at 8
-  pub not_allowed : Allowed (trio c h) (Keeps (trio c h)) (1 ∷ 2 ∷ 3 ∷ []) → ⊥
+  pub not_allowed : IsAllowed (trio c h) (Keeps (trio c h)) (1 ∷ 2 ∷ 3 ∷ []) → ⊥
   unfolding finish
   not_allowed a = let t : 9 ≤ 8 = a.timely (1 ∷ 2 ∷ []) 3 [] refl in omega arith
 
@@ -36,7 +36,7 @@ module _ (c : ℕ) (h : c ≤ 9999) where
 abbrev boxed : List ℕ → ℤ
 boxed w = load_of 0 boxes.doors w
 
-one-or-two : (j : ℕ) → Door 3 j → (j ≡ 3 → ⊥) → (j ≡ 1) ⊎ (j ≡ 2)
+one-or-two : (j : ℕ) → IsDoor 3 j → (j ≡ 3 → ⊥) → (j ≡ 1) ⊎ (j ≡ 2)
 one-or-two zero d h = absurd (omega arith)
 one-or-two (suc zero) d h = inl refl
 one-or-two (suc (suc zero)) d h = inr refl
@@ -52,7 +52,7 @@ not-second a b x h e =
     ⊎_elim (λ y. let l : pos 0 ≤ℤ negsuc 0 = go 1 y in l.le) (λ y. let l : pos 0 ≤ℤ negsuc 0 = go 2 y in l.le) x
 
 -- so the first two are 1 and 2, in either order, and door 3 is the last
-only : (w : List ℕ) → PartOrder 3 w → length w ≡ 3 → Loaded boxes w → (w ≡ 1 ∷ 2 ∷ 3 ∷ []) ⊎ (w ≡ 2 ∷ 1 ∷ 3 ∷ [])
+only : (w : List ℕ) → IsPartOrder 3 w → length w ≡ 3 → Loaded boxes w → (w ≡ 1 ∷ 2 ∷ 3 ∷ []) ⊎ (w ≡ 2 ∷ 1 ∷ 3 ∷ [])
 only [] p l k = absurd (omega arith)
 only (a ∷ []) p l k = absurd (omega arith)
 only (a ∷ b ∷ []) p l k = absurd (omega arith)

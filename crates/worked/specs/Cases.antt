@@ -1,18 +1,18 @@
 -- The worked cases, in one statement on the definitions: the rule is pairs and load together, the tally late doors.
 use Rattle.std.specs.Prelude.{◌≡◌, ℕ, zero, suc, Bool, true, false, ◌⊎◌, List, [], ◌∷◌, length, map, Some, None, Ok, slice_index_or}
 use Rattle.std.proofs.Common.{arith}
-use Rattle.doors.specs.Orders.{PartOrder}
+use Rattle.doors.specs.Orders.{IsPartOrder}
 use Rattle.round.specs.declared.table.Round.{Round}
 use Rattle.rules.specs.declared.load.Interval.{Interval}
 use Rattle.rules.specs.Rules.{RuleSense}
-use Rattle.rules.specs.Pairs.{Ordered, pairs_sense}
-use Rattle.rules.specs.Loads.{Within, load_sense}
+use Rattle.rules.specs.Pairs.{IsOrdered, pairs_sense}
+use Rattle.rules.specs.Loads.{IsWithinCap, load_sense}
 use Rattle.rules.specs.Boths.{both_sense}
 use Rattle.tallies.specs.Tallies.{TallySense}
 use Rattle.tallies.specs.Late.{late_sense}
 use Rattle.tallies.specs.Driving.{driving_sense}
-use Rattle.orders.specs.Allowed.{Allowed}
-use Rattle.orders.specs.Times.{finishes, finish_of}
+use Rattle.orders.specs.Allowed.{IsAllowed}
+use Rattle.orders.specs.Times.{finish_minutes, finish_of}
 use Rattle.orders.specs.Costs.{cost}
 use Rattle.orders.specs.Verdicts.{verdict}
 use Rattle.orders.specs.declared.verdict.Verdict.TheVariants as is
@@ -28,11 +28,11 @@ rule r = both_sense (pairs_sense r.n r.ahead) (load_sense r.n r.load r.cap r.doo
 
 -- w keeps the load: it is 0 to the cap after every door
 abbrev pub Loaded : Round → List ℕ → Type 0
-Loaded r w = Within r.load r.cap r.doors w
+Loaded r w = IsWithinCap r.load r.cap r.doors w
 
 -- w keeps the rule: the pairs, and the load
 abbrev pub Keeps : Round → List ℕ → Type 0
-Keeps r w = Ordered r.ahead w × Loaded r w
+Keeps r w = IsOrdered r.ahead w × Loaded r w
 
 abbrev pub late : Round → TallySense (ℕ × ℕ)
 late r = late_sense r.n r.doors
@@ -70,10 +70,10 @@ pub record Sheet (r : Round) (lent : List Place) : Type 0 where
 -- the round of the sheet, door 2 closing at 9 or at 8
 pub record AsPrinted (r : Round) (lent : List Place) : Type 0 where
   -- order 1, 3, 2 finishes at 2, 6, 8 and is allowed; 1, 2, 3 ends at 9 and is not
-  pub minutes : finishes r (1 ∷ 3 ∷ 2 ∷ []) ≡ 2 ∷ 6 ∷ 8 ∷ []
-  pub is_allowed : Allowed r (Keeps r) (1 ∷ 3 ∷ 2 ∷ [])
+  pub minutes : finish_minutes r (1 ∷ 3 ∷ 2 ∷ []) ≡ 2 ∷ 6 ∷ 8 ∷ []
+  pub is_allowed : IsAllowed r (Keeps r) (1 ∷ 3 ∷ 2 ∷ [])
   pub ends_late : finish_of r (1 ∷ 2 ∷ 3 ∷ []) ≡ 9
-  pub not_allowed : Allowed r (Keeps r) (1 ∷ 2 ∷ 3 ∷ []) → ⊥
+  pub not_allowed : IsAllowed r (Keeps r) (1 ∷ 2 ∷ 3 ∷ []) → ⊥
   -- the verdicts say so: 1, 3, 2 is allowed, and 1, 2, 3 finishes door 3 after it closes
   pub says_allowed : verdict r (rule r) (1 ∷ 3 ∷ 2 ∷ []) ≡ is.Allowed
   pub says_closes : verdict r (rule r) (1 ∷ 2 ∷ 3 ∷ []) ≡ is.Closes 3
@@ -114,7 +114,7 @@ pub record TwoKeep (r : Round) : Type 0 where
   -- these two keep it
   pub these : Loaded r (1 ∷ 2 ∷ 3 ∷ []) × Loaded r (2 ∷ 1 ∷ 3 ∷ [])
   -- and whatever order of the doors 1 to 3 keeps it is one of these two
-  pub only : (w : List ℕ) → PartOrder 3 w → length w ≡ 3 → Loaded r w → (w ≡ 1 ∷ 2 ∷ 3 ∷ []) ⊎ (w ≡ 2 ∷ 1 ∷ 3 ∷ [])
+  pub only : (w : List ℕ) → IsPartOrder 3 w → length w ≡ 3 → Loaded r w → (w ≡ 1 ∷ 2 ∷ 3 ∷ []) ⊎ (w ≡ 2 ∷ 1 ∷ 3 ∷ [])
 
 -- the six orders of three doors
 abbrev pub six : List (List ℕ)

@@ -1,6 +1,6 @@
 use Rattle.round.specs.declared.table.Round.{Round}
-use Rattle.orders.specs.Allowed.{Allowed}
-use Rattle.allowed.specs.Orders.{AllowedOrder, KeepsRules}
+use Rattle.orders.specs.Allowed.{IsAllowed}
+use Rattle.allowed.specs.Orders.{IsAllowedOrder, KeepsRules}
 use Rattle.allowed.proofs.allowed_means.Goals as goal
 
 pub returns : goal.returns

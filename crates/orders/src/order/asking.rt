@@ -1,9 +1,9 @@
 //! When each door of an order finishes, what the order costs, and what is wrong with it.
 ghost use Rattle.std.specs.Prelude.{◌≡◌, ℕ, ◌≤◌, IfOk, slice_index};
-ghost use Rattle.round.specs.Clock.{latest};
+ghost use Rattle.round.specs.Clock.{latest_finish};
 ghost use Rattle.orders.specs.Costs.{cost};
-ghost use Rattle.orders.specs.Times.{yard, finishes};
-ghost use Rattle.orders.specs.Verdicts.{verdict, verdict_from, Judged};
+ghost use Rattle.orders.specs.Times.{yard, finish_minutes};
+ghost use Rattle.orders.specs.Verdicts.{verdict, verdict_from, VerdictMeans};
 
 use super::Order;
 use crate::van::Van;
@@ -17,8 +17,8 @@ impl<'a> Order<'a> {
     /// The minutes at which the doors finish, in their order.
     #[tactic(auto, using(crate::proofs::Times::soon))]
     pub fn finishes(&self, alloc: Global) -> Result<Vec<u32>, AllocError>
-        ensures value { IfOk result (λ v. v.items ≡ finishes self.now.round.now self.now.doors.now) }
-        ensures bound { IfOk result (λ v. (k : ℕ) → slice_index v.items k ≤ latest 16) }
+        ensures value { IfOk result (λ v. v.items ≡ finish_minutes self.now.round.now self.now.doors.now) }
+        ensures bound { IfOk result (λ v. (k : ℕ) → slice_index v.items k ≤ latest_finish 16) }
     {
         let mut minutes = Vec::new(alloc);
         let mut van = Van::at_yard();
@@ -49,7 +49,7 @@ impl<'a> Order<'a> {
         ensures value { result ≡ verdict self.now.round.now (R.Rule.sense rule.now)
             self.now.doors.now }
         ensures means { R.Rule.serves rule.now self.now.round.now.n
-            → Judged self.now.round.now (R.Rule.keeps rule.now) self.now.doors.now result }
+            → VerdictMeans self.now.round.now (R.Rule.keeps rule.now) self.now.doors.now result }
     {
         if self.doors.len() == self.round.n {
             self.first_fault(rule)

@@ -2,7 +2,7 @@
 ghost use Rattle.std.specs.Prelude.{◌≡◌, ℕ, pos, ◌+ℤ◌, ◌≤ℤ◌, int_lt};
 ghost use Rattle.std.proofs.Common.{subst};
 ghost use Rattle.round.specs.Tables.{at};
-ghost use Rattle.rules.specs.Loads.{held, Within, Between, load_sense};
+ghost use Rattle.rules.specs.Loads.{clamped_load, IsWithinCap, LiesBetween, load_sense};
 ghost use Rattle.rules.specs.Rules.{RuleLaws};
 ghost use Rattle.rules.specs.LoadLaws.{load_lawful};
 
@@ -12,7 +12,7 @@ use round::table::Round;
 
 /// a + by, held within ±9,999.
 fn held_sum(a: i32, by: i32) -> i32
-    ensures { result ≡ held (a +ℤ by) }
+    ensures { result ≡ clamped_load (a +ℤ by) }
 {
     a.saturating_add(by).clamp(-9999, 9999)
 }
@@ -48,12 +48,12 @@ impl<'a> Rule for Load<'a> {
 
     ghost sense = { λ r. load_sense r.round.now.n r.round.now.load r.round.now.cap r.round.now.doors };
 
-    ghost keeps = { λ r w. Within r.round.now.load r.round.now.cap r.round.now.doors w };
+    ghost keeps = { λ r w. IsWithinCap r.round.now.load r.round.now.cap r.round.now.doors w };
 
-    ghost stands = { λ r s w. Between r.round.now.load r.round.now.doors s w };
+    ghost stands = { λ r s w. LiesBetween r.round.now.load r.round.now.doors s w };
 
     ghost lawful = { λ r n e.
-        subst (λ (m : ℕ). RuleLaws m (load_sense r.round.now.n r.round.now.load r.round.now.cap r.round.now.doors) (Within r.round.now.load r.round.now.cap r.round.now.doors) (Between r.round.now.load r.round.now.doors)) e
+        subst (λ (m : ℕ). RuleLaws m (load_sense r.round.now.n r.round.now.load r.round.now.cap r.round.now.doors) (IsWithinCap r.round.now.load r.round.now.cap r.round.now.doors) (LiesBetween r.round.now.load r.round.now.doors)) e
         (load_lawful r.round.now) };
 
     ghost reflexive = { λ r s. (load_lawful r.round.now).same_self s };

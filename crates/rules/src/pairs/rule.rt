@@ -1,9 +1,9 @@
 //! `Pairs` is a side rule: a state is a set of doors, and stands for the part orders within it.
 ghost use Rattle.std.specs.Prelude.{◌≡◌, ℕ};
 ghost use Rattle.std.proofs.Common.{subst};
-ghost use Rattle.doors.specs.Orders.{In};
+ghost use Rattle.doors.specs.Orders.{StandsIn};
 ghost use Rattle.doors.specs.Sets.{Has};
-ghost use Rattle.rules.specs.Pairs.{Ordered, pairs_sense};
+ghost use Rattle.rules.specs.Pairs.{IsOrdered, pairs_sense};
 ghost use Rattle.rules.specs.Rules.{RuleLaws};
 ghost use Rattle.rules.specs.PairsLaws.{pairs_lawful};
 
@@ -28,12 +28,12 @@ impl<'a> Rule for Pairs<'a> {
 
     ghost sense = { λ r. pairs_sense r.round.now.n r.round.now.ahead };
 
-    ghost keeps = { λ r w. Ordered r.round.now.ahead w };
+    ghost keeps = { λ r w. IsOrdered r.round.now.ahead w };
 
-    ghost stands = { λ r s w. ((j : ℕ) → In j w → Has s j) };
+    ghost stands = { λ r s w. ((j : ℕ) → StandsIn j w → Has s j) };
 
     ghost lawful = { λ r n e.
-        subst (λ (m : ℕ). RuleLaws m (pairs_sense r.round.now.n r.round.now.ahead) (Ordered r.round.now.ahead) (λ s w. (i : ℕ) → In i w → Has s i)) e
+        subst (λ (m : ℕ). RuleLaws m (pairs_sense r.round.now.n r.round.now.ahead) (IsOrdered r.round.now.ahead) (λ s w. (i : ℕ) → StandsIn i w → Has s i)) e
         (pairs_lawful r.round.now.n r.round.now.ahead) };
 
     ghost reflexive = { λ r s. (pairs_lawful r.round.now.n r.round.now.ahead).same_self s };

@@ -1,6 +1,6 @@
 //! `LateDoors` is a tally: late doors, then late minutes summed, compared in that order.
 ghost use Rattle.std.specs.Prelude.{◌≡◌, ◌*◌, ◌≤◌};
-ghost use Rattle.round.specs.Clock.{latest};
+ghost use Rattle.round.specs.Clock.{latest_finish};
 ghost use Rattle.tallies.specs.Late.{late_by, late_sense};
 ghost use Rattle.std.proofs.Common.{rules, arith};
 
@@ -36,7 +36,7 @@ impl<'a> Tally for LateDoors<'a> {
 
     ghost sense = { λ t. late_sense t.round.now.n t.round.now.doors };
 
-    ghost allows = { λ t k v. (v.0 ≤ k) × (v.1 ≤ latest 16 * k) };
+    ghost allows = { λ t k v. (v.0 ≤ k) × (v.1 ≤ latest_finish 16 * k) };
 
     ghost lawful = { first_of (Prim.search rules, Prim.grind (arith, Self.row.coded.inj)) };
 

@@ -1,7 +1,7 @@
 use Rattle.std.proofs.Common.{◌≡◌, ◌+◌, ◌-◌, ◌*◌, sym, ap, ◌∙◌, subst, mul-le-mul_right, add-mul, one-mul, add-one, arith}
 use Rattle.layers.specs.Settings.{lent_setting}
 use Rattle.std.specs.List.{AllByRecursion as All}
-use Rattle.round.specs.Clock.{latest}
+use Rattle.round.specs.Clock.{latest_finish}
 use Rattle.labels.specs.Passes.{part, Early, layer_done, layers_done, pass_down}
 use Rattle.labels.proofs.Earlies.{next-ends, layers-ready}
 use Rattle.labels.proofs.down.label_down.Goals as goal
@@ -19,7 +19,7 @@ relabel_layer-requires g c =
     let i = c.loop-i.i in record {
       width_bound = omega (arith, add-mul i 1 by.width, one-mul by.width);
       count_in_bounds = omega (arith, next-ends by xs c.requires.width_in_bounds i (omega arith));
-      all_early = subst (λ ys. All (Early (latest 15)) (part (i * by.width) by.width ys)) (sym (c.loop-i.invariant ∙ ap (layers_done by i) c.begin.ensures))
+      all_early = subst (λ ys. All (Early (latest_finish 15)) (part (i * by.width) by.width ys)) (sym (c.loop-i.invariant ∙ ap (layers_done by i) c.begin.ensures))
           (layers-ready by xs c.requires.width_in_bounds i (omega arith));
     }
 
@@ -32,7 +32,7 @@ relabel_layer-requires-2 g c =
     let last : n - 1 + 1 ≡ n = omega (arith, by.round.one) in record {
       width_bound = omega (arith, add-mul (n - 1) 1 by.width, one-mul by.width, ap (λ k. k * by.width) last);
       count_in_bounds = omega arith;
-      all_early = subst (λ ys. All (Early (latest 15)) (part ((n - 1) * by.width) by.width ys)) (sym (c.loop-i.invariant ∙ ap (λ k. layers_done by k c.begin.new.nodes) all ∙ ap (layers_done by (n - 1)) c.begin.ensures))
+      all_early = subst (λ ys. All (Early (latest_finish 15)) (part ((n - 1) * by.width) by.width ys)) (sym (c.loop-i.invariant ∙ ap (λ k. layers_done by k c.begin.new.nodes) all ∙ ap (layers_done by (n - 1)) c.begin.ensures))
           (layers-ready by xs c.requires.width_in_bounds (n - 1) (omega (arith, by.round.one)));
     }
 

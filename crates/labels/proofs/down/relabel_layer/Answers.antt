@@ -3,7 +3,7 @@ use Rattle.layers.specs.Settings.{lent_setting}
 use Rattle.std.proofs.lemmas.List.Sums.{fold_more}
 use Rattle.std.proofs.ByRecursion.{All-get_or}
 use Rattle.std.proofs.lemmas.List.{length-map, length-take-le, take_all, drop-drop}
-use Rattle.round.specs.Clock.{latest}
+use Rattle.round.specs.Clock.{latest_finish}
 use Rattle.labels.specs.Passes.{part, Early, next_layer, layer_done, cleared, spread}
 use Rattle.labels.proofs.Overs.{part-front, get_d_part, length_part}
 use Rattle.labels.proofs.Scattered.{spreads-long, spreads-layer}
@@ -28,7 +28,7 @@ spread_node-requires g c =
     let front : before ≡ take c.args.at xs = cc in
     let sources : part from w before ≡ part from w xs = ap (part from w) front ∙ part-front from w c.args.at xs (omega arith) in
     let here : get_or before (from + a) d ≡ get_or (part from w xs) a d = sym (get_d_part from w before a d (omega arith)) ∙ ap (λ ys. get_or ys a d) sources in
-    subst (Early (latest 15)) (sym here) (All-get_or (Early (latest 15)) (part from w xs) a d (omega (arith, length_part from w xs (omega arith))) c.requires.all_early)
+    subst (Early (latest_finish 15)) (sym here) (All-get_or (Early (latest_finish 15)) (part from w xs) a d (omega (arith, length_part from w xs (omega arith))) c.requires.all_early)
 
 pub loop-a-preserved : goal.loop-a-preserved
 loop-a-preserved g c =

@@ -6,7 +6,7 @@ use Rattle.std.proofs.lemmas.List.{take-append-le}
 use Rattle.std.proofs.lemmas.Slice.{drop-append-drop}
 use Rattle.std.proofs.lemmas.List.Elements.{All-nil}
 use Rattle.std.proofs.lemmas.List.Sorted.{IsPermutation-refl, IsPermutation-trans}
-use Rattle.lister.specs.Listed.{Good, listed_orders}
+use Rattle.lister.specs.Listed.{IsGood, listed_orders}
 use Rattle.lister.specs.Orders.{IsNext}
 use Rattle.lister.proofs.Rank.{rank, rank-lt, rank-before}
 use Rattle.lister.proofs.Doors.{long, small, by_number}
@@ -33,7 +33,7 @@ loop-allowed-init g c =
     record {
       reordered = rw first (IsPermutation-refl (range_with_len 1 n));
       later = refl {a = drop n (range_with_len 1 16)};
-      good = λ s. rw none (All-nil (Good c.args.round.now K (g.T.Tally.sense c.args.tally.now)));
+      good = λ s. rw none (All-nil (IsGood c.args.round.now K (g.T.Tally.sense c.args.tally.now)));
       so_far = λ s. rw (first, none) (started c.args.round.now K);
     }
 
