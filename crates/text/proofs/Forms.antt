@@ -94,44 +94,33 @@ word5 f a b c d e t =
     cc
 
 -- a kind is named by its word alone
-code : Kind → ℕ
-code Round = 1
-code Door = 2
-code Drive = 3
-code First = 4
-code Other = 5
-
 picked1 : (a b c d : Bool) → cond a Round (cond b Door (cond c Drive (cond d First Other))) ≡ Round → a ≡ true
-unfolding code
 picked1 true b c d e = refl
-picked1 false true c d e = absurd (omega (arith, ap code e))
-picked1 false false true d e = absurd (omega (arith, ap code e))
-picked1 false false false true e = absurd (omega (arith, ap code e))
-picked1 false false false false e = absurd (omega (arith, ap code e))
+picked1 false true c d e = cc
+picked1 false false true d e = cc
+picked1 false false false true e = cc
+picked1 false false false false e = cc
 
 picked2 : (a b c d : Bool) → cond a Round (cond b Door (cond c Drive (cond d First Other))) ≡ Door → b ≡ true
-unfolding code
-picked2 true b c d e = absurd (omega (arith, ap code e))
+picked2 true b c d e = cc
 picked2 false true c d e = refl
-picked2 false false true d e = absurd (omega (arith, ap code e))
-picked2 false false false true e = absurd (omega (arith, ap code e))
-picked2 false false false false e = absurd (omega (arith, ap code e))
+picked2 false false true d e = cc
+picked2 false false false true e = cc
+picked2 false false false false e = cc
 
 picked3 : (a b c d : Bool) → cond a Round (cond b Door (cond c Drive (cond d First Other))) ≡ Drive → c ≡ true
-unfolding code
-picked3 true b c d e = absurd (omega (arith, ap code e))
-picked3 false true c d e = absurd (omega (arith, ap code e))
+picked3 true b c d e = cc
+picked3 false true c d e = cc
 picked3 false false true d e = refl
-picked3 false false false true e = absurd (omega (arith, ap code e))
-picked3 false false false false e = absurd (omega (arith, ap code e))
+picked3 false false false true e = cc
+picked3 false false false false e = cc
 
 picked4 : (a b c d : Bool) → cond a Round (cond b Door (cond c Drive (cond d First Other))) ≡ First → d ≡ true
-unfolding code
-picked4 true b c d e = absurd (omega (arith, ap code e))
-picked4 false true c d e = absurd (omega (arith, ap code e))
-picked4 false false true d e = absurd (omega (arith, ap code e))
+picked4 true b c d e = cc
+picked4 false true c d e = cc
+picked4 false false true d e = cc
 picked4 false false false true e = refl
-picked4 false false false false e = absurd (omega (arith, ap code e))
+picked4 false false false false e = cc
 
 pub named-round : (f : List ℕ) → named f ≡ Round → f ≡ codes "round"
 named-round f e = word5 f 114 111 117 110 100 (picked1 (is_round f) (is_door f) (is_drive f) (is_first f) e)
@@ -185,7 +174,7 @@ pair_line n fs p k y =
 pub pairs-form : (fss : List (List (List ℕ))) (d e : Draft) → d.n ≤ 16 → Run fss Pairs d e → (qs : List pair.Pair) × (map pair_fields qs ≡ fss) × (add_pairs d qs ≡ e) × Each (PairFits d.n) qs
 pairs-form [] d e l r = ([], refl, r.1, tt)
 pairs-form (fs ∷ fss) d e l r =
-    let q = first-kind-ok (named (get_or fs 0 [])) (pair_step d r.0 fs) (NotDue r.0) (r.1, r.2) r.3 in
+    let q = first-kind-ok (named (get_or fs 0 [])) d r.0 fs (r.1, r.2) r.3 in
     let a = then_ok (pair_of d.n r.0 fs) _ (r.1, r.2) q.1 in
     let y = pair_line d.n fs a.0 q.0 (pair_ok d.n r.0 fs a.0 l a.1) in
     let z = subst (λ (z : Stage × Draft). Run fss z.0 z.1 e) (sym (ok_same (Pairs, with_pair d a.0) (r.1, r.2) a.2)) r.4 in
@@ -221,23 +210,14 @@ row-form (suc m) i j line fs row out l e =
     (a.0 ∷ h.0, (omega (arith, h.1)), (λ t. first t ∷ h.2 t) ∙ sym (drop_more fs (j + 1) [] (omega arith)), h.3, (f.1, f.2, h.4))
 
 -- the stages differ
-rank : Stage → ℕ
-rank Head = 0
-rank (Doors k) = 1
-rank (Drives k) = 2
-rank Pairs = 3
-
 stages : (k : ℕ) → Drives k ≡ Pairs → ⊥
-unfolding rank
-stages k e = omega (arith, ap rank e)
+stages k e = cc
 
 stages-doors : (k : ℕ) → Doors k ≡ Pairs → ⊥
-unfolding rank
-stages-doors k e = omega (arith, ap rank e)
+stages-doors k e = cc
 
 stages-head : Head ≡ Pairs → ⊥
-unfolding rank
-stages-head e = omega (arith, ap rank e)
+stages-head e = cc
 
 two-more : (fs : List (List ℕ)) → 2 ≤ length fs → get_or fs 0 [] ∷ get_or fs 1 [] ∷ drop 2 fs ≡ fs
 two-more [] l = absurd (omega arith)
@@ -260,7 +240,7 @@ same_row k d row out rs qs e p q = ap (λ r. add_pairs (add_rows (k + 1) (with_r
 pub drives-form : (fss : List (List (List ℕ))) (k : ℕ) (d e : Draft) → d.n ≤ 16 → k ≤ d.n → Run fss (Drives k) d e → (rs : List (List ℕ)) × (qs : List pair.Pair) × (rows_fields k rs ++ map pair_fields qs ≡ fss) × (add_pairs (add_rows k d rs) qs ≡ e) × (length rs + k ≡ d.n + 1) × RowsFit d.n k rs × Each (PairFits d.n) qs
 drives-form [] k d e l m r = absurd (stages k r.0)
 drives-form (fs ∷ fss) k d e l m r =
-    let q = drive-kind-ok (named (get_or fs 0 [])) (drive_step k d r.0 fs) (NotDue r.0) (r.1, r.2) r.3 in
+    let q = drive-kind-ok (named (get_or fs 0 [])) k d r.0 fs (r.1, r.2) r.3 in
     let a = then_ok (row_due d.n k r.0 fs) _ (r.1, r.2) q.1 in
     let y = row_line d.n k r.0 fs a.0 q.0 (row_ok d.n k r.0 fs a.0 l a.1) in
     let z = subst (λ (z : Stage × Draft). Run fss z.0 z.1 e) (sym (ok_same (cond (ltb k d.n) (Drives (k + 1)) Pairs, with_row d k a.0) (r.1, r.2) a.2)) r.4 in
@@ -289,7 +269,7 @@ door-line n k fs x e y =
 pub doors-form : (fss : List (List (List ℕ))) (k : ℕ) (d e : Draft) → d.n ≤ 16 → k ≤ d.n → Run fss (Doors k) d e → (xs : List door.Door) × (rs : List (List ℕ)) × (qs : List pair.Pair) × (doors_fields k xs ++ (rows_fields 0 rs ++ map pair_fields qs) ≡ fss) × (add_pairs (add_rows 0 (add_doors k d xs) rs) qs ≡ e) × (length xs + k ≡ d.n + 1) × Each DoorFits xs × (length rs ≡ d.n + 1) × RowsFit d.n 0 rs × Each (PairFits d.n) qs
 doors-form [] k d e l m r = absurd (stages-doors k r.0)
 doors-form (fs ∷ fss) k d e l m r =
-    let q = door-kind-ok (named (get_or fs 0 [])) (door_step k d r.0 fs) (NotDue r.0) (r.1, r.2) r.3 in
+    let q = door-kind-ok (named (get_or fs 0 [])) k d r.0 fs (r.1, r.2) r.3 in
     let a = then_ok (door_due d.n k r.0 fs) _ (r.1, r.2) q.1 in
     let y = door-line d.n k fs a.0 q.0 (due-ok d.n k r.0 fs a.0 l a.1) in
     let z = subst (λ (z : Stage × Draft). Run fss z.0 z.1 e) (sym (ok_same (cond (ltb k d.n) (Doors (k + 1)) (Drives 0), with_door d k a.0) (r.1, r.2) a.2)) r.4 in
@@ -317,7 +297,7 @@ same-written fs gs fss gss p q = ap written (λ x. p x ∷ q x)
 run-form : (fss : List (List (List ℕ))) (e : Draft) → Run fss Head unread e → HasForm (written fss) e
 run-form [] e r = absurd (stages-head r.0)
 run-form (fs ∷ fss) e r =
-    let q = round-ok (named (get_or fs 0 [])) (head_step unread r.0 fs) (NotDue r.0) (r.1, r.2) r.3 in
+    let q = round-ok (named (get_or fs 0 [])) unread r.0 fs (r.1, r.2) r.3 in
     let a = then_ok (head_of r.0 fs) _ (r.1, r.2) q.1 in
     let y = head_ok r.0 fs a.0 a.1 in
     let same = head-line fs a.0 q.0 y in

@@ -6,4 +6,3 @@ pub mod Texts
 pub mod Sound
 pub mod Forms
 pub mod Backs
-pub mod Starts

@@ -20,7 +20,7 @@ use Rattle.round.specs.declared.door.Door as door
 use Rattle.text.specs.Number.{plain, positive, minus, dash}
 use Rattle.text.specs.Fields.{number_in, change_in}
 use Rattle.text.specs.Lines.{and_then, head_of, door_of, door_due, leg_in, row_from, row_due, pair_of}
-use Rattle.text.specs.Steps.{line_step, head_step, door_step, drive_step, pair_step, if_round, if_door, if_drive, if_first}
+use Rattle.text.specs.Steps.{line_step, head_step, door_step, drive_step, pair_step, kind_step}
 use Rattle.text.specs.Kinds.{named}
 use Rattle.text.specs.declared.line.Head as head
 use Rattle.text.specs.declared.line.Pair as pair
@@ -31,7 +31,7 @@ use Rattle.round.specs.Tables.{blank, at}
 
 -- a refusal is no value
 pub never : {A : Type 0} (x : Refusal) (b : A) → Err x ≡ Ok b → ⊥
-never x b e = let z : ◌≡◌ {A = ℕ} 0 1 = cc in omega arith
+never x b e = cc
 
 pub ok_same : {A : Type 0} (a b : A) → ◌≡◌ {A = Result A Refusal} (Ok a) (Ok b) → a ≡ b
 ok_same a b e = cc
@@ -246,33 +246,22 @@ Sound (Doors k) d = During k d
 Sound (Drives k) d = Whole d × (k ≤ d.n)
 Sound Pairs d = Whole d
 
-pub round-ok : {A : Type 0} (k : Kind) (r : Result A Refusal) (x : Refusal) (b : A) → if_round k r (Err x) ≡ Ok b → (k ≡ Round) × (r ≡ Ok b)
-round-ok Round r x b e = (refl, e)
-round-ok Door r x b e = absurd (never x b e)
-round-ok Drive r x b e = absurd (never x b e)
-round-ok First r x b e = absurd (never x b e)
-round-ok Other r x b e = absurd (never x b e)
+-- where a line is taken, its kind is the one that is due
+pub round-ok : (k : Kind) (d : Draft) (line : ℕ) (fs : List (List ℕ)) (b : Stage × Draft) → kind_step Head k d line fs ≡ Ok b → (k ≡ Round) × (head_step d line fs ≡ Ok b)
+round-ok Round d line fs b e = (refl, e)
+round-ok k d line fs b e = cc
 
-pub door-kind-ok : {A : Type 0} (k : Kind) (r : Result A Refusal) (x : Refusal) (b : A) → if_door k r (Err x) ≡ Ok b → (k ≡ Door) × (r ≡ Ok b)
-door-kind-ok Round r x b e = absurd (never x b e)
-door-kind-ok Door r x b e = (refl, e)
-door-kind-ok Drive r x b e = absurd (never x b e)
-door-kind-ok First r x b e = absurd (never x b e)
-door-kind-ok Other r x b e = absurd (never x b e)
+pub door-kind-ok : (k : Kind) (i : ℕ) (d : Draft) (line : ℕ) (fs : List (List ℕ)) (b : Stage × Draft) → kind_step (Doors i) k d line fs ≡ Ok b → (k ≡ Door) × (door_step i d line fs ≡ Ok b)
+door-kind-ok Door i d line fs b e = (refl, e)
+door-kind-ok k i d line fs b e = cc
 
-pub drive-kind-ok : {A : Type 0} (k : Kind) (r : Result A Refusal) (x : Refusal) (b : A) → if_drive k r (Err x) ≡ Ok b → (k ≡ Drive) × (r ≡ Ok b)
-drive-kind-ok Round r x b e = absurd (never x b e)
-drive-kind-ok Door r x b e = absurd (never x b e)
-drive-kind-ok Drive r x b e = (refl, e)
-drive-kind-ok First r x b e = absurd (never x b e)
-drive-kind-ok Other r x b e = absurd (never x b e)
+pub drive-kind-ok : (k : Kind) (i : ℕ) (d : Draft) (line : ℕ) (fs : List (List ℕ)) (b : Stage × Draft) → kind_step (Drives i) k d line fs ≡ Ok b → (k ≡ Drive) × (drive_step i d line fs ≡ Ok b)
+drive-kind-ok Drive i d line fs b e = (refl, e)
+drive-kind-ok k i d line fs b e = cc
 
-pub first-kind-ok : {A : Type 0} (k : Kind) (r : Result A Refusal) (x : Refusal) (b : A) → if_first k r (Err x) ≡ Ok b → (k ≡ First) × (r ≡ Ok b)
-first-kind-ok Round r x b e = absurd (never x b e)
-first-kind-ok Door r x b e = absurd (never x b e)
-first-kind-ok Drive r x b e = absurd (never x b e)
-first-kind-ok First r x b e = (refl, e)
-first-kind-ok Other r x b e = absurd (never x b e)
+pub first-kind-ok : (k : Kind) (d : Draft) (line : ℕ) (fs : List (List ℕ)) (b : Stage × Draft) → kind_step Pairs k d line fs ≡ Ok b → (k ≡ First) × (pair_step d line fs ≡ Ok b)
+first-kind-ok First d line fs b e = (refl, e)
+first-kind-ok k d line fs b e = cc
 
 pub record HeadSays (fs : List (List ℕ)) (h : head.Head) : Type 0 where
   pub fields : length fs ≡ 4
@@ -376,7 +365,7 @@ next-drive k d w l =
 
 pub sound-step : (s : Stage) (d : Draft) (line : ℕ) (fs : List (List ℕ)) (t : Stage) (e : Draft) → line_step s d line fs ≡ Ok (t, e) → Sound s d → Sound t e
 sound-step Head d line fs t e h s =
-    let q = round-ok (named (get_or fs 0 [])) (head_step d line fs) (NotDue line) (t, e) h in
+    let q = round-ok (named (get_or fs 0 [])) d line fs (t, e) h in
     let a = then_ok (head_of line fs) _ (t, e) q.1 in
     let y = head_ok line fs a.0 a.1 in
     let r = subst Ranged (sym s) ranged-unread in
@@ -389,7 +378,7 @@ sound-step Head d line fs t e h s =
       room = ap (λ z. length z.doors) s;
     })
 sound-step (Doors k) d line fs t e h s =
-    let q = door-kind-ok (named (get_or fs 0 [])) (door_step k d line fs) (NotDue line) (t, e) h in
+    let q = door-kind-ok (named (get_or fs 0 [])) k d line fs (t, e) h in
     let a = then_ok (door_due d.n k line fs) _ (t, e) q.1 in
     let y = due-ok d.n k line fs a.0 s.head.most a.1 in
     let hd = s.head in
@@ -403,7 +392,7 @@ sound-step (Doors k) d line fs t e h s =
     (record { doors = set_all Fair blank d.doors k a.0 (door-fair fs a.0 y.rest) s.ranged.doors; rows = s.ranged.rows })
     worked s.within (length-set d.doors k a.0 ∙ s.room))
 sound-step (Drives k) d line fs t e h s =
-    let q = drive-kind-ok (named (get_or fs 0 [])) (drive_step k d line fs) (NotDue line) (t, e) h in
+    let q = drive-kind-ok (named (get_or fs 0 [])) k d line fs (t, e) h in
     let a = then_ok (row_due d.n k line fs) _ (t, e) q.1 in
     let hd = s.0.head in
     let y = row_ok d.n k line fs a.0 hd.most a.1 in
@@ -416,7 +405,7 @@ sound-step (Drives k) d line fs t e h s =
     s.0.worked)
     s.1)
 sound-step Pairs d line fs t e h s =
-    let q = first-kind-ok (named (get_or fs 0 [])) (pair_step d line fs) (NotDue line) (t, e) h in
+    let q = first-kind-ok (named (get_or fs 0 [])) d line fs (t, e) h in
     let a = then_ok (pair_of d.n line fs) _ (t, e) q.1 in
     let hd = s.head in
     subst Both (ok_same _ _ a.2)

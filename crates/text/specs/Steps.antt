@@ -43,41 +43,13 @@ drive_step k d line fs = and_then (row_due d.n k line fs) (λ row. Ok (cond (nat
 abbrev pub pair_step : Draft → ℕ → List (List ℕ) → Next
 pair_step d line fs = and_then (pair_of d.n line fs) (λ p. Ok (Pairs, with_pair d p))
 
--- a if the kind is `round`, else b; and so for each other kind
-abbrev pub if_round : {A : Type 0} → Kind → A → A → A
-if_round Round a b = a
-if_round Door a b = b
-if_round Drive a b = b
-if_round First a b = b
-if_round Other a b = b
-
-abbrev pub if_door : {A : Type 0} → Kind → A → A → A
-if_door Round a b = b
-if_door Door a b = a
-if_door Drive a b = b
-if_door First a b = b
-if_door Other a b = b
-
-abbrev pub if_drive : {A : Type 0} → Kind → A → A → A
-if_drive Round a b = b
-if_drive Door a b = b
-if_drive Drive a b = a
-if_drive First a b = b
-if_drive Other a b = b
-
-abbrev pub if_first : {A : Type 0} → Kind → A → A → A
-if_first Round a b = b
-if_first Door a b = b
-if_first Drive a b = b
-if_first First a b = a
-if_first Other a b = b
-
--- a line of that kind, which has to be the one that is due
+-- a line of the kind that is due; any other kind is refused
 abbrev pub kind_step : Stage → Kind → Draft → ℕ → List (List ℕ) → Next
-kind_step Head k d line fs = if_round k (head_step d line fs) (Err (NotDue line))
-kind_step (Doors i) k d line fs = if_door k (door_step i d line fs) (Err (NotDue line))
-kind_step (Drives i) k d line fs = if_drive k (drive_step i d line fs) (Err (NotDue line))
-kind_step Pairs k d line fs = if_first k (pair_step d line fs) (Err (NotDue line))
+kind_step Head Round d line fs = head_step d line fs
+kind_step (Doors k) Door d line fs = door_step k d line fs
+kind_step (Drives k) Drive d line fs = drive_step k d line fs
+kind_step Pairs First d line fs = pair_step d line fs
+kind_step s k d line fs = Err (NotDue line)
 
 -- a line with those fields
 abbrev pub line_step : Stage → Draft → ℕ → List (List ℕ) → Next
