@@ -1,7 +1,9 @@
 -- An accepted text has the form of a round's text.
-use Rattle.std.proofs.Common.{◌≡◌, ℕ, zero, suc, ◌+◌, ◌-◌, ◌<◌, ◌≤◌, Bool, true, false, cond, ◌&&◌, eqb, ltb, List, [], ◌∷◌, ◌++◌, map, length, get_or, drop, set, replicate, Ok, codes, decimal, sym, refl, ap, ◌∙◌, subst, ⊎_elim, arith, ltb-false, ltb-true, eqb-true}
+use Rattle.std.proofs.Common.{◌≡◌, ℕ, zero, suc, ◌+◌, ◌-◌, ◌<◌, ◌≤◌, Bool, true, false, cond, ◌&&◌, eqb, ltb, List, [], ◌∷◌, ◌++◌, map, length, get_or, drop, set, replicate, Ok, codes, decimal, sym, refl, ap, ◌∙◌, subst, ◌⊎◌, ◌≢◌, ⊎_elim, arith, ltb-false, ltb-true, eqb-true}
 use borrow.Author.Tests.{eqb-false, both_ways}
 use Rattle.std.proofs.lemmas.Bool.{cases_Bool, and_parts}
+use Rattle.std.proofs.lemmas.Slice.Eq.{bytes_eq-Decides}
+use Rattle.std.specs.Str.{bytes_eq}
 use Rattle.std.proofs.lemmas.List.{drop_more, drop_all}
 use Rattle.text.specs.declared.refusal.Refusal.TheVariants.{NotNumber, NotDue, Unended}
 use Rattle.text.specs.declared.kind.Kind.{Kind}
@@ -14,7 +16,7 @@ use Rattle.text.specs.declared.line.Head as head
 use Rattle.text.specs.declared.line.Pair as pair
 use Rattle.text.specs.Number.{dash}
 use Rattle.text.specs.Pieces.{pieces, onto}
-use Rattle.text.specs.Kinds.{named, is_round, is_door, is_drive, is_first}
+use Rattle.text.specs.Kinds.{named}
 use Rattle.text.specs.Lines.{head_of, door_due, leg_in, row_from, row_due, pair_of}
 use Rattle.text.specs.Steps.{line_step, head_step, door_step, drive_step, pair_step}
 use Rattle.text.specs.Reading.{read_lines, read_text, at_end}
@@ -65,74 +67,21 @@ of7 : {A : Type 0} (d : A) (f : List A) → length f ≡ 7 → f ≡ get_or f 0 
 of7 d [] e = absurd (omega arith)
 of7 d (a ∷ f) e = ap (λ t. a ∷ t) (of6 d f (omega arith))
 
-word4 : (f : List ℕ) (a b c d : ℕ) → (eqb (length f) 4 && (eqb (get_or f 0 0) a && (eqb (get_or f 1 0) b && (eqb (get_or f 2 0) c && eqb (get_or f 3 0) d)))) ≡ true → f ≡ a ∷ b ∷ c ∷ d ∷ []
-word4 f a b c d t =
-    let p = and_parts (eqb (length f) 4) _ t in
-    let q = and_parts (eqb (get_or f 0 0) a) _ p.1 in
-    let r = and_parts (eqb (get_or f 1 0) b) _ q.1 in
-    let s = and_parts (eqb (get_or f 2 0) c) _ r.1 in
-    let l = of4 0 f (eqb-true _ 4 p.0) in
-    let w = eqb-true _ a q.0 in
-    let x = eqb-true _ b r.0 in
-    let y = eqb-true _ c s.0 in
-    let z = eqb-true _ d s.1 in
-    cc
-
-word5 : (f : List ℕ) (a b c d e : ℕ) → (eqb (length f) 5 && (eqb (get_or f 0 0) a && (eqb (get_or f 1 0) b && (eqb (get_or f 2 0) c && (eqb (get_or f 3 0) d && eqb (get_or f 4 0) e))))) ≡ true → f ≡ a ∷ b ∷ c ∷ d ∷ e ∷ []
-word5 f a b c d e t =
-    let p = and_parts (eqb (length f) 5) _ t in
-    let q = and_parts (eqb (get_or f 0 0) a) _ p.1 in
-    let r = and_parts (eqb (get_or f 1 0) b) _ q.1 in
-    let s = and_parts (eqb (get_or f 2 0) c) _ r.1 in
-    let u = and_parts (eqb (get_or f 3 0) d) _ s.1 in
-    let l = of5 0 f (eqb-true _ 5 p.0) in
-    let w = eqb-true _ a q.0 in
-    let x = eqb-true _ b r.0 in
-    let y = eqb-true _ c s.0 in
-    let z = eqb-true _ d u.0 in
-    let o = eqb-true _ e u.1 in
-    cc
-
 -- a kind is named by its word alone
-picked1 : (a b c d : Bool) → cond a Round (cond b Door (cond c Drive (cond d First Other))) ≡ Round → a ≡ true
-picked1 true b c d e = refl
-picked1 false true c d e = cc
-picked1 false false true d e = cc
-picked1 false false false true e = cc
-picked1 false false false false e = cc
-
-picked2 : (a b c d : Bool) → cond a Round (cond b Door (cond c Drive (cond d First Other))) ≡ Door → b ≡ true
-picked2 true b c d e = cc
-picked2 false true c d e = refl
-picked2 false false true d e = cc
-picked2 false false false true e = cc
-picked2 false false false false e = cc
-
-picked3 : (a b c d : Bool) → cond a Round (cond b Door (cond c Drive (cond d First Other))) ≡ Drive → c ≡ true
-picked3 true b c d e = cc
-picked3 false true c d e = cc
-picked3 false false true d e = refl
-picked3 false false false true e = cc
-picked3 false false false false e = cc
-
-picked4 : (a b c d : Bool) → cond a Round (cond b Door (cond c Drive (cond d First Other))) ≡ First → d ≡ true
-picked4 true b c d e = cc
-picked4 false true c d e = cc
-picked4 false false true d e = cc
-picked4 false false false true e = refl
-picked4 false false false false e = cc
+word_tells : (f w : List ℕ) → ((bytes_eq f w ≡ true) × (f ≡ w)) ⊎ ((bytes_eq f w ≡ false) × (f ≢ w))
+word_tells f w = grind (arith, bytes_eq-Decides f w)
 
 pub named-round : (f : List ℕ) → named f ≡ Round → f ≡ codes "round"
-named-round f e = word5 f 114 111 117 110 100 (picked1 (is_round f) (is_door f) (is_drive f) (is_first f) e)
+named-round f e = grind (arith, word_tells f (codes "round"), word_tells f (codes "door"), word_tells f (codes "drive"), word_tells f (codes "first"))
 
 pub named-door : (f : List ℕ) → named f ≡ Door → f ≡ codes "door"
-named-door f e = word4 f 100 111 111 114 (picked2 (is_round f) (is_door f) (is_drive f) (is_first f) e)
+named-door f e = grind (arith, word_tells f (codes "round"), word_tells f (codes "door"), word_tells f (codes "drive"), word_tells f (codes "first"))
 
 pub named-drive : (f : List ℕ) → named f ≡ Drive → f ≡ codes "drive"
-named-drive f e = word5 f 100 114 105 118 101 (picked3 (is_round f) (is_door f) (is_drive f) (is_first f) e)
+named-drive f e = grind (arith, word_tells f (codes "round"), word_tells f (codes "door"), word_tells f (codes "drive"), word_tells f (codes "first"))
 
 pub named-first : (f : List ℕ) → named f ≡ First → f ≡ codes "first"
-named-first f e = word5 f 102 105 114 115 116 (picked4 (is_round f) (is_door f) (is_drive f) (is_first f) e)
+named-first f e = grind (arith, word_tells f (codes "round"), word_tells f (codes "door"), word_tells f (codes "drive"), word_tells f (codes "first"))
 
 -- the lines by their fields, one step for each
 abbrev pub Run : List (List (List ℕ)) → Stage → Draft → Draft → Type 0
