@@ -1,9 +1,9 @@
 -- Which line may come next, and what it does.
-use Rattle.std.specs.Prelude.{ℕ, ◌+◌, ◌≤◌, cond, List, [], Ok, Err, Result, nat_lt, slice_index_or}
+use Rattle.std.specs.Prelude.{⊤, ℕ, ◌+◌, ◌≤◌, List, [], Ok, Err, Result, nat_lt, slice_index_or, if◌then◌else◌}
 use Rattle.text.specs.declared.refusal.Refusal.{Refusal}
 use Rattle.text.specs.declared.refusal.Refusal.TheVariants.{NotDue}
 use Rattle.text.specs.declared.kind.Kind.{Kind}
-use Rattle.text.specs.declared.kind.Kind.TheVariants.{Round, Door, Drive, First, Other}
+use Rattle.text.specs.declared.kind.Kind.TheVariants.{Round, Door, Drive, First}
 use Rattle.text.specs.declared.stage.Stage.{Stage}
 use Rattle.text.specs.declared.stage.Stage.TheVariants.{Head, Doors, Drives, Pairs}
 use Rattle.text.specs.declared.draft.Draft.{Draft}
@@ -13,7 +13,7 @@ use Rattle.text.specs.Drafts.{with_head, with_door, with_row, with_pair}
 
 -- what a stage asks of the draft
 abbrev pub Ready : Stage → Draft → Type 0
-Ready Head d = Unit {0}
+Ready Head d = ⊤
 Ready (Doors k) d = (k ≤ d.n) × (d.n ≤ 16)
 Ready (Drives k) d = (k ≤ d.n) × (d.n ≤ 16)
 Ready Pairs d = d.n ≤ 16
@@ -33,11 +33,11 @@ head_step d line fs = and_then (head_of line fs) (λ h. Ok (Doors 1, with_head d
 
 -- the line of door k; after the last door the drives from the yard are next
 abbrev pub door_step : ℕ → Draft → ℕ → List (List ℕ) → Next
-door_step k d line fs = and_then (door_due d.n k line fs) (λ door. Ok (cond (nat_lt k d.n) (Doors (k + 1)) (Drives 0), with_door d k door))
+door_step k d line fs = and_then (door_due d.n k line fs) (λ door. Ok (if nat_lt k d.n then Doors (k + 1) else Drives 0, with_door d k door))
 
 -- the drives from place k; after the last place pairs may come
 abbrev pub drive_step : ℕ → Draft → ℕ → List (List ℕ) → Next
-drive_step k d line fs = and_then (row_due d.n k line fs) (λ row. Ok (cond (nat_lt k d.n) (Drives (k + 1)) Pairs, with_row d k row))
+drive_step k d line fs = and_then (row_due d.n k line fs) (λ row. Ok (if nat_lt k d.n then Drives (k + 1) else Pairs, with_row d k row))
 
 -- one pair; another may follow
 abbrev pub pair_step : Draft → ℕ → List (List ℕ) → Next

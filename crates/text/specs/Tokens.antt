@@ -1,14 +1,8 @@
--- The token that a field gives.
-use Rattle.std.specs.Prelude.{◌≡◌, ℕ, true, false, cond, List}
-use Rattle.std.specs.Borrow.{Bor}
+-- What a token holds.
+use Rattle.std.specs.Prelude.{◌≡◌, ℕ, true, false, List}
 use Rattle.text.specs.declared.token.Token.{Token}
 use Rattle.text.specs.declared.token.Token.TheVariants.{Number, Negative, Dash, Word}
 use Rattle.text.specs.Number.{plain, minus, dash}
-
--- by the form of the field's bytes, at line l and field f
-abbrev pub token_of : Bor (List ℕ) → ℕ → ℕ → Token
-token_of b l f =
-    cond (dash b.now) (Dash b l f) (cond (minus b.now) (Negative b l f) (cond (plain b.now) (Number b l f) (Word b l f)))
 
 -- the bytes of a token, its line and its field
 abbrev pub bytes_of : Token → List ℕ

@@ -1,9 +1,6 @@
 //! The kinds of lines.
-ghost use Rattle.std.specs.Prelude.{◌≡◌, [], slice_index_or};
-ghost use Rattle.text.specs.Pieces.{pieces};
+ghost use Rattle.std.specs.Prelude.{◌≡◌};
 ghost use Rattle.text.specs.Kinds.{named};
-
-use crate::cut::piece;
 
 #[derive(Clone, Copy)]
 pub(crate) enum Kind {
@@ -14,11 +11,11 @@ pub(crate) enum Kind {
     Other,
 }
 
-/// The kind that the line's first field names.
-pub(crate) fn kind_of(line: &[u8]) -> Kind
-    ensures { result ≡ named (slice_index_or (pieces 9 line.now) 0 []) }
+/// The kind that a line's first field names.
+pub(crate) fn kind_of(field: &[u8]) -> Kind
+    ensures { result ≡ named field.now }
 {
-    match piece(line, b'\t', 0) {
+    match field {
         [b'r', b'o', b'u', b'n', b'd'] => Kind::Round,
         [b'd', b'o', b'o', b'r'] => Kind::Door,
         [b'd', b'r', b'i', b'v', b'e'] => Kind::Drive,

@@ -10,5 +10,5 @@ returns-in_err-row c =
 pub loop-to-preserved : goal.loop-to-preserved
 loop-to-preserved c = (
   length-set _ _ _ ∙ c.loop-to.invariant.0,
-  row_more c.args.n c.args.from c.loop-to.to c.args.line.number _ c.loop-to.row c.in_ok-row.field-0 (omega arith) c.in_ok-row.ensures ∙ c.loop-to.invariant.1,
+  row_more c.args.n c.args.from c.loop-to.to c.args.line.now.number _ c.loop-to.row c.in_ok-row.field-0 (omega arith) c.in_ok-row.ensures ∙ c.loop-to.invariant.1,
 )
