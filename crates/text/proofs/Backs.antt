@@ -12,13 +12,15 @@ use Rattle.std.proofs.lemmas.List.Elements.{All-append, All-cons, All-head, All-
 use Rattle.std.proofs.lemmas.List.Splits.{slice_split_none}
 use Rattle.std.proofs.lemmas.List.Sums.{AllPass-from_list_all}
 use Rattle.text.specs.declared.refusal.Refusal.{Refusal}
+use Rattle.text.specs.declared.refusal.Refusal.TheVariants.{NotNumber}
 use Rattle.text.specs.declared.stage.Stage.{Stage}
 use Rattle.text.specs.declared.stage.Stage.TheVariants.{Head, Doors, Drives, Pairs}
 use Rattle.text.specs.declared.draft.Draft.{Draft}
 use Rattle.round.specs.declared.door.Door as door
 use Rattle.text.specs.declared.line.Head as head
 use Rattle.text.specs.declared.line.Pair as pair
-use Rattle.text.specs.Fields.{number_in, dash_in}
+use Rattle.text.specs.Fields.{number_in}
+use Rattle.text.specs.Number.{dash}
 use Rattle.text.specs.Pieces.{pieces}
 use Rattle.text.specs.Lines.{and_then, leg_in, row_from}
 use Rattle.text.specs.Steps.{line_step}
@@ -107,7 +109,7 @@ pair-back d p line l f =
       ne_eqb p.first p.then f.apart,
     )
 
-leg-by : (b : Bool) (line k v : ℕ) → (b ≡ true → v ≡ 0) → number_in 0 999 (decimal v) line k ≡ Ok v → cond b (dash_in (cond b (codes "-") (decimal v)) line k) (number_in 0 999 (cond b (codes "-") (decimal v)) line k) ≡ Ok v
+leg-by : (b : Bool) (line k v : ℕ) → (b ≡ true → v ≡ 0) → number_in 0 999 (decimal v) line k ≡ Ok v → cond b (cond (dash (cond b (codes "-") (decimal v))) (Ok 0) (Err (NotNumber line k))) (number_in 0 999 (cond b (codes "-") (decimal v)) line k) ≡ Ok v
 leg-by true line k v z n = ap Ok (sym (z refl))
 leg-by false line k v z n = n
 

@@ -1,9 +1,9 @@
--- What a field says, where a number or a "-" is due, by its bytes and its place.
+-- The number that a field says, by its bytes and its place.
 use Rattle.std.specs.Prelude.{ℕ, ◌&&◌, List, drop, ℤ, pos, neg_ℤ, Ok, Err, Result, nat_le, if◌then◌else◌}
 use Rattle.std.specs.Str.Parse.{digits_value}
 use Rattle.text.specs.declared.refusal.Refusal.{Refusal}
 use Rattle.text.specs.declared.refusal.Refusal.TheVariants.{NotNumber, OutOfRange}
-use Rattle.text.specs.Number.{plain, minus, dash}
+use Rattle.text.specs.Number.{plain, minus}
 
 -- a number from low to high
 abbrev pub number_in : ℕ → ℕ → List ℕ → ℕ → ℕ → Result ℕ Refusal
@@ -23,7 +23,3 @@ change_in bs line field =
     else if minus bs
     then if nat_le w 99 then Ok (neg_ℤ (pos w)) else Err (OutOfRange line field)
     else Err (NotNumber line field)
-
--- a "-", which stands for 0 minutes
-abbrev pub dash_in : List ℕ → ℕ → ℕ → Result ℕ Refusal
-dash_in bs line field = if dash bs then Ok 0 else Err (NotNumber line field)

@@ -1,7 +1,6 @@
 //! What a line says, by its fields.
 ghost use Rattle.std.specs.Prelude.{◌≡◌, ◌-◌, ◌<◌, ◌≤◌, [], length, replicate, IfOk, ◌==◌, slice_index_or};
-ghost use Rattle.text.specs.Fields.{number_in, change_in, dash_in};
-ghost use Rattle.text.specs.Lines.{fields_of, counted, in_turn, door_of, door_due, head_of, pair_of, leg_in, row_from, row_due};
+ghost use Rattle.text.specs.Lines.{fields_of, number_at, change_at, dash_at, counted, in_turn, door_of, door_due, head_of, pair_of, leg_in, row_from, row_due};
 
 use crate::fields::Line;
 use crate::number::{change, within};
@@ -25,18 +24,17 @@ fn number_at(line: &Line<'_>, field: usize, low: u16, high: u16) -> Result<u16, 
     requires some { 1 ≤ field }
     requires most { field ≤ 18 }
     requires small { high < 10000 }
-    ensures value { result ≡ number_in low high
-        (slice_index_or (fields_of line.now) (field - 1) []) line.now.number field }
+    ensures value { result ≡ number_at line.now.number (fields_of line.now) field low high }
     ensures bound { IfOk result (λ v. (low ≤ v) × (v ≤ high)) }
 {
     within(line.token(field), low, high)
 }
 
+/// The change in that field, from -99 to 99.
 fn change_at(line: &Line<'_>, field: usize) -> Result<i8, Refusal>
     requires some { 1 ≤ field }
     requires most { field ≤ 18 }
-    ensures { result ≡ change_in (slice_index_or (fields_of line.now) (field - 1) [])
-        line.now.number field }
+    ensures { result ≡ change_at line.now.number (fields_of line.now) field }
 {
     change(line.token(field))
 }
@@ -92,6 +90,7 @@ pub(crate) struct Head {
     pub(crate) cap: u16,
 }
 
+/// The round line.
 pub(crate) fn head_of(line: &Line<'_>) -> Result<Head, Refusal>
     ensures value { result ≡ head_of line.now.number (fields_of line.now) }
     ensures bound { IfOk result (λ h. (1 ≤ h.n) × (h.n ≤ 16)) }
@@ -110,6 +109,7 @@ pub(crate) struct Pair {
     pub(crate) then: u16,
 }
 
+/// The line of a pair of the n doors.
 pub(crate) fn pair_of(line: &Line<'_>, n: u16) -> Result<Pair, Refusal>
     requires { n ≤ 16 }
     ensures value { result ≡ pair_of n line.now.number (fields_of line.now) }
@@ -131,8 +131,7 @@ pub(crate) fn pair_of(line: &Line<'_>, n: u16) -> Result<Pair, Refusal>
 fn dash_at(line: &Line<'_>, field: usize) -> Result<u16, Refusal>
     requires some { 1 ≤ field }
     requires most { field ≤ 18 }
-    ensures { result ≡ dash_in (slice_index_or (fields_of line.now) (field - 1) [])
-        line.now.number field }
+    ensures { result ≡ dash_at line.now.number (fields_of line.now) field }
 {
     match line.token(field) {
         Token::Dash { .. } => Ok(0),
@@ -159,8 +158,7 @@ fn leg_at(line: &Line<'_>, from: u16, to: u16) -> Result<u16, Refusal>
 /// The drives from a place to each of n doors.
 fn row_of(line: &Line<'_>, n: u16, from: u16) -> Result<[u16; 17], Refusal>
     requires { n ≤ 16 }
-    ensures { result ≡ row_from n from 1 line.now.number (fields_of line.now)
-        (replicate 17 0) }
+    ensures { result ≡ row_from n from 1 line.now.number (fields_of line.now) (replicate 17 0) }
 {
     let mut row = [0; 17];
     for to in 1..=n {
