@@ -12,7 +12,7 @@ use Rattle.std.proofs.lemmas.Slice.Eq.{bytes_eq-Decides}
 use Rattle.text.specs.declared.refusal.Refusal.{Refusal}
 use Rattle.text.specs.declared.refusal.Refusal.TheVariants.{FieldCount, OutOfTurn, Unended}
 use Rattle.text.specs.declared.kind.Kind.{Kind}
-use Rattle.text.specs.declared.kind.Kind.TheVariants.{Round, Door, Drive, First}
+use Rattle.text.specs.declared.kind.Kind.TheVariants.{Round, Door, Drive, First, Other}
 use Rattle.text.specs.declared.stage.Stage.{Stage}
 use Rattle.text.specs.declared.stage.Stage.TheVariants.{Head, Doors, Drives, Pairs}
 use Rattle.text.specs.declared.draft.Draft.{Draft}
@@ -22,8 +22,8 @@ use Rattle.text.specs.declared.line.Pair as pair
 use Rattle.text.specs.Fields.{number_in, change_in}
 use Rattle.text.specs.Pieces.{pieces}
 use Rattle.text.specs.Kinds.{named}
-use Rattle.text.specs.Lines.{and_then, head_of, door_due, in_turn, leg_in, row_from, row_due, pair_of}
-use Rattle.text.specs.Steps.{line_step, kind_step, head_step, door_step, drive_step, pair_step}
+use Rattle.text.specs.Lines.{and_then, counted, head_of, door_due, in_turn, leg_in, row_from, row_due, pair_of}
+use Rattle.text.specs.Steps.{line_step, kind_step}
 use Rattle.text.specs.Reading.{read_lines, read_text, at_end}
 use Rattle.text.specs.Drafts.{unread, with_head, with_door, with_row, with_pair}
 use Rattle.text.specs.Form.{map_from, head_fields, door_fields, leg_field, row_fields, pair_fields, written, AllFrom, DoorFits, LegFits, RowFits, PairFits, fill, row_of, HasForm}
@@ -48,68 +48,71 @@ then-number low high f line k K b l e =
 
 -- ---- kinds
 
+abbrev due : Stage → Kind
+due Head = Round
+due (Doors k) = Door
+due (Drives k) = Drive
+due Pairs = First
+
 -- where a line is taken, its kind is the one that is due
-round-due : (k : Kind) (d : Draft) (line : ℕ) (fs : List (List ℕ)) (t : Stage × Draft) → kind_step Head k d line fs ≡ Ok t → (k ≡ Round) × (head_step d line fs ≡ Ok t)
-round-due Round d line fs t e = (refl, e)
-round-due k d line fs t e = absurd cc
-
-door-is-due : (k : Kind) (i : ℕ) (d : Draft) (line : ℕ) (fs : List (List ℕ)) (t : Stage × Draft) → kind_step (Doors i) k d line fs ≡ Ok t → (k ≡ Door) × (door_step i d line fs ≡ Ok t)
-door-is-due Door i d line fs t e = (refl, e)
-door-is-due k i d line fs t e = absurd cc
-
-drive-is-due : (k : Kind) (i : ℕ) (d : Draft) (line : ℕ) (fs : List (List ℕ)) (t : Stage × Draft) → kind_step (Drives i) k d line fs ≡ Ok t → (k ≡ Drive) × (drive_step i d line fs ≡ Ok t)
-drive-is-due Drive i d line fs t e = (refl, e)
-drive-is-due k i d line fs t e = absurd cc
-
-first-due : (k : Kind) (d : Draft) (line : ℕ) (fs : List (List ℕ)) (t : Stage × Draft) → kind_step Pairs k d line fs ≡ Ok t → (k ≡ First) × (pair_step d line fs ≡ Ok t)
-first-due First d line fs t e = (refl, e)
-first-due k d line fs t e = absurd cc
+kind-due : (s : Stage) (k : Kind) (d : Draft) (line : ℕ) (fs : List (List ℕ)) (t : Stage × Draft) → kind_step s k d line fs ≡ Ok t → k ≡ due s
+kind-due Head Round d line fs t e = refl
+kind-due (Doors i) Door d line fs t e = refl
+kind-due (Drives i) Drive d line fs t e = refl
+kind-due Pairs First d line fs t e = refl
+kind-due s k d line fs t e = absurd cc
 
 -- a kind is named by its word alone
+abbrev Named : Kind → List ℕ → Type 0
+Named Round f = codes "round" ≡ f
+Named Door f = codes "door" ≡ f
+Named Drive f = codes "drive" ≡ f
+Named First f = codes "first" ≡ f
+Named Other f = Unit {0}
+
 word_tells : (f w : List ℕ) → ((bytes_eq f w ≡ true) × (f ≡ w)) ⊎ ((bytes_eq f w ≡ false) × (f ≢ w))
 word_tells f w = grind (arith, bytes_eq-Decides f w)
 
-named-round : (f : List ℕ) → named f ≡ Round → codes "round" ≡ f
-named-round f e = grind (arith, word_tells f (codes "round"), word_tells f (codes "door"), word_tells f (codes "drive"), word_tells f (codes "first"))
+named-is : (f : List ℕ) (k : Kind) → named f ≡ k → Named k f
+named-is f Round e = grind (arith, word_tells f)
+named-is f Door e = grind (arith, word_tells f)
+named-is f Drive e = grind (arith, word_tells f)
+named-is f First e = grind (arith, word_tells f)
+named-is f Other e = tt
 
-named-door : (f : List ℕ) → named f ≡ Door → codes "door" ≡ f
-named-door f e = grind (arith, word_tells f (codes "round"), word_tells f (codes "door"), word_tells f (codes "drive"), word_tells f (codes "first"))
+line-due : (s : Stage) (d : Draft) (line : ℕ) (fs : List (List ℕ)) (t : Stage × Draft) → line_step s d line fs ≡ Ok t → Named (due s) (get_or fs 0 []) × (kind_step s (due s) d line fs ≡ Ok t)
+line-due s d line fs t e =
+    let k = kind-due s (named (get_or fs 0 [])) d line fs t e in
+    (named-is (get_or fs 0 []) (due s) k, rw k at e)
 
-named-drive : (f : List ℕ) → named f ≡ Drive → codes "drive" ≡ f
-named-drive f e = grind (arith, word_tells f (codes "round"), word_tells f (codes "door"), word_tells f (codes "drive"), word_tells f (codes "first"))
-
-named-first : (f : List ℕ) → named f ≡ First → codes "first" ≡ f
-named-first f e = grind (arith, word_tells f (codes "round"), word_tells f (codes "door"), word_tells f (codes "drive"), word_tells f (codes "first"))
+-- the fields of a line that has so many
+fields-are : {A : Type 0} (n line : ℕ) (fs : List (List ℕ)) (r : Result A Refusal) (b : A) → counted n line fs r ≡ Ok b → (length fs ≡ n) × (fs ≡ map (λ k. get_or fs k []) (range_with_len 0 n)) × (r ≡ Ok b)
+fields-are n line fs r b e =
+    let c = cond-ok (eqb (length fs) n) r (FieldCount line) b e in
+    let many = eqb-true (length fs) n c.0 in
+    (many, fill_by_all (λ k. get_or fs k []) fs n [] many (λ k m. refl), c.1)
 
 -- ---- a line of each kind
 
--- the n fields of a line
-listed : (fs : List (List ℕ)) (n : ℕ) → eqb (length fs) n ≡ true → fs ≡ map (λ k. get_or fs k []) (range_with_len 0 n)
-listed fs n e = fill_by_all (λ k. get_or fs k []) fs n [] (eqb-true _ n e) (λ k m. refl)
-
 pair-form : (d : Draft) (line : ℕ) (fs : List (List ℕ)) (t : Stage × Draft) → d.n ≤ 16 → line_step Pairs d line fs ≡ Ok t → (p : pair.Pair) × (pair_fields p ≡ fs) × PairFits d.n p × ((Pairs, with_pair d p) ≡ t)
 pair-form d line fs t l e =
-    let q = first-due (named (get_or fs 0 [])) d line fs t e in
+    let q = line-due Pairs d line fs t e in
     let o = then_ok (pair_of d.n line fs) _ t q.1 in
-    let c = cond-ok (eqb (length fs) 3) _ (FieldCount line) o.0 o.1 in
-    let a = then-number 1 d.n (get_or fs 1 []) line 2 _ o.0 (omega arith) c.1 in
+    let c = fields-are 3 line fs _ o.0 o.1 in
+    let a = then-number 1 d.n (get_or fs 1 []) line 2 _ o.0 (omega arith) c.2 in
     let b = then-number 1 d.n (get_or fs 2 []) line 3 _ o.0 (omega arith) a.2 in
     let p : pair.Pair = record { first = a.0; then = b.0 } in
     let r : (a.0 ≢ b.0) × (p ≡ o.0) = grind (arith, nat_tests, b.2) in
-    let w = named-first (get_or fs 0 []) q.0 in
-    let s = listed fs 3 c.0 in
     (p, cc, record { first = a.1.from; most = a.1.to; second = b.1.from; last = b.1.to; apart = r.0 }, cc)
 
 head-form : (line : ℕ) (fs : List (List ℕ)) (t : Stage × Draft) → line_step Head unread line fs ≡ Ok t → (h : head.Head) × (head_fields h ≡ fs) × Says 1 16 (get_or fs 1 []) h.n × Says h.load 999 (get_or fs 3 []) h.cap × ((Doors 1, with_head unread h) ≡ t)
 head-form line fs t e =
-    let q = round-due (named (get_or fs 0 [])) unread line fs t e in
+    let q = line-due Head unread line fs t e in
     let o = then_ok (head_of line fs) _ t q.1 in
-    let c = cond-ok (eqb (length fs) 4) _ (FieldCount line) o.0 o.1 in
-    let a = then-number 1 16 (get_or fs 1 []) line 2 _ o.0 (omega arith) c.1 in
+    let c = fields-are 4 line fs _ o.0 o.1 in
+    let a = then-number 1 16 (get_or fs 1 []) line 2 _ o.0 (omega arith) c.2 in
     let b = then-number 0 999 (get_or fs 2 []) line 3 _ o.0 (omega arith) a.2 in
     let f = then-number b.0 999 (get_or fs 3 []) line 4 _ o.0 (omega arith) b.2 in
-    let w = named-round (get_or fs 0 []) q.0 in
-    let s = listed fs 4 c.0 in
     (record { n = a.0; load = b.0; cap = f.0 }, cc, a.1, f.1, cc)
 
 turn-says : {A : Type 0} (low high due line : ℕ) (fs : List (List ℕ)) (r : Result A Refusal) (b : A) → high ≤ 9999 → and_then (in_turn low high due line fs) (λ _. r) ≡ Ok b → Says low high (get_or fs 1 []) due × (r ≡ Ok b)
@@ -121,11 +124,11 @@ turn-says low high due line fs r b l e =
 
 door-form : (d : Draft) (k line : ℕ) (fs : List (List ℕ)) (t : Stage × Draft) → d.n ≤ 16 → line_step (Doors k) d line fs ≡ Ok t → (x : door.Door) × (door_fields k x ≡ fs) × DoorFits x × ((cond (ltb k d.n) (Doors (k + 1)) (Drives 0), with_door d k x) ≡ t)
 door-form d k line fs t l e =
-    let q = door-is-due (named (get_or fs 0 [])) k d line fs t e in
+    let q = line-due (Doors k) d line fs t e in
     let o = then_ok (door_due d.n k line fs) _ t q.1 in
     let x = o.0 in
-    let c = cond-ok (eqb (length fs) 7) _ (FieldCount line) x o.1 in
-    let i = turn-says 1 d.n k line fs _ x (omega arith) c.1 in
+    let c = fields-are 7 line fs _ x o.1 in
+    let i = turn-says 1 d.n k line fs _ x (omega arith) c.2 in
     let a = then-number 0 9999 (get_or fs 2 []) line 3 _ x (omega arith) i.1 in
     let b = then-number 0 9999 (get_or fs 3 []) line 4 _ x (omega arith) a.2 in
     let f = then-number 0 9999 (get_or fs 4 []) line 5 _ x (omega arith) b.2 in
@@ -133,8 +136,6 @@ door-form d k line fs t l e =
     let g = then_ok (change_in (get_or fs 6 []) line 7) _ x w.2 in
     let z = change-says (get_or fs 6 []) line 7 g.0 g.1 in
     let r : door.Door = record { opens = a.0; closes = b.0; due = f.0; work = w.0; change = g.0 } in
-    let n = named-door (get_or fs 0 []) q.0 in
-    let s = listed fs 7 c.0 in
     let fits : DoorFits r = record { opens = a.1.to; closes = b.1.to; due = f.1.to; some = w.1.from; work = w.1.to; low = z.low; high = z.high } in
     (r, cc, fits, cc)
 
@@ -156,13 +157,11 @@ legs-form (suc m) i j line fs row out l e =
 
 row-form : (d : Draft) (k line : ℕ) (fs : List (List ℕ)) (t : Stage × Draft) → d.n ≤ 16 → line_step (Drives k) d line fs ≡ Ok t → (vs : List ℕ) × (row_fields k vs ≡ fs) × RowFits d.n k vs × ((cond (ltb k d.n) (Drives (k + 1)) Pairs, with_row d k (row_of vs)) ≡ t)
 row-form d k line fs t l e =
-    let q = drive-is-due (named (get_or fs 0 [])) k d line fs t e in
+    let q = line-due (Drives k) d line fs t e in
     let o = then_ok (row_due d.n k line fs) _ t q.1 in
-    let c = cond-ok (eqb (length fs) (d.n + 2)) _ (FieldCount line) o.0 o.1 in
-    let many = eqb-true (length fs) (d.n + 2) c.0 in
-    let i = turn-says 0 d.n k line fs _ o.0 (omega arith) c.1 in
+    let c = fields-are (d.n + 2) line fs _ o.0 o.1 in
+    let i = turn-says 0 d.n k line fs _ o.0 (omega arith) c.2 in
     let r = legs-form d.n k 1 line fs (replicate 17 0) o.0 (omega arith) i.1 in
-    let w = named-drive (get_or fs 0 []) q.0 in
     let s = drop_more fs 0 [] (omega arith) in
     let u = drop_more fs 1 [] (omega arith) in
     (r.0, cc, (r.1, r.4), cc)

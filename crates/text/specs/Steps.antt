@@ -27,28 +27,17 @@ abbrev pub went : Result Stage Refusal → Draft → Next
 went (Ok s) d = Ok (s, d)
 went (Err e) d = Err e
 
--- the round line: door 1 is the next
-abbrev pub head_step : Draft → ℕ → List (List ℕ) → Next
-head_step d line fs = and_then (head_of line fs) (λ h. Ok (Doors 1, with_head d h))
-
--- the line of door k; after the last door the drives from the yard are next
-abbrev pub door_step : ℕ → Draft → ℕ → List (List ℕ) → Next
-door_step k d line fs = and_then (door_due d.n k line fs) (λ door. Ok (if nat_lt k d.n then Doors (k + 1) else Drives 0, with_door d k door))
-
--- the drives from place k; after the last place pairs may come
-abbrev pub drive_step : ℕ → Draft → ℕ → List (List ℕ) → Next
-drive_step k d line fs = and_then (row_due d.n k line fs) (λ row. Ok (if nat_lt k d.n then Drives (k + 1) else Pairs, with_row d k row))
-
--- one pair; another may follow
-abbrev pub pair_step : Draft → ℕ → List (List ℕ) → Next
-pair_step d line fs = and_then (pair_of d.n line fs) (λ p. Ok (Pairs, with_pair d p))
-
--- a line of the kind that is due; any other kind is refused
+-- what a line of the kind that is due leads to; any other kind is refused. After the round line door 1 is the next,
+-- after the last door the drives from the yard are, and after the drives from the last place pairs may come
 abbrev pub kind_step : Stage → Kind → Draft → ℕ → List (List ℕ) → Next
-kind_step Head Round d line fs = head_step d line fs
-kind_step (Doors k) Door d line fs = door_step k d line fs
-kind_step (Drives k) Drive d line fs = drive_step k d line fs
-kind_step Pairs First d line fs = pair_step d line fs
+kind_step Head Round d line fs = and_then (head_of line fs) (λ h. Ok (Doors 1, with_head d h))
+kind_step (Doors k) Door d line fs =
+    and_then (door_due d.n k line fs) (λ x.
+    Ok (if nat_lt k d.n then Doors (k + 1) else Drives 0, with_door d k x))
+kind_step (Drives k) Drive d line fs =
+    and_then (row_due d.n k line fs) (λ row.
+    Ok (if nat_lt k d.n then Drives (k + 1) else Pairs, with_row d k row))
+kind_step Pairs First d line fs = and_then (pair_of d.n line fs) (λ p. Ok (Pairs, with_pair d p))
 kind_step s k d line fs = Err (NotDue line)
 
 -- a line with those fields

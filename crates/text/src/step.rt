@@ -1,7 +1,9 @@
 //! One line more of the text.
 ghost use Rattle.std.specs.Prelude.{◌≡◌, ◌≤◌, IfOk};
 ghost use Rattle.text.specs.Lines.{fields_of};
-ghost use Rattle.text.specs.Steps.{Ready, went, head_step, door_step, drive_step, pair_step, line_step};
+ghost use Rattle.text.specs.Steps.{Ready, went, kind_step, line_step};
+ghost use Rattle.text.specs.declared.kind.Kind.TheVariants.{Round, Door, Drive, First};
+ghost use Rattle.text.specs.declared.stage.Stage.TheVariants.{Head, Doors, Drives, Pairs};
 
 use crate::draft::Draft;
 use crate::fields::Line;
@@ -11,8 +13,8 @@ use crate::refusal::Refusal;
 use crate::stage::Stage;
 
 fn take_head(draft: &mut Draft, line: &Line<'_>) -> Result<Stage, Refusal>
-    ensures step { went result draft.new ≡ head_step draft.old line.now.number
-        (fields_of line.now) }
+    ensures step { went result draft.new
+        ≡ kind_step Head Round draft.old line.now.number (fields_of line.now) }
     ensures ready { IfOk result (λ s. Ready s draft.new) }
 {
     draft.set_head(head_of(line)?);
@@ -22,8 +24,8 @@ fn take_head(draft: &mut Draft, line: &Line<'_>) -> Result<Stage, Refusal>
 fn take_door(draft: &mut Draft, due: u16, line: &Line<'_>) -> Result<Stage, Refusal>
     requires due { due ≤ draft.old.n }
     requires most { draft.old.n ≤ 16 }
-    ensures step { went result draft.new ≡ door_step due draft.old line.now.number
-        (fields_of line.now) }
+    ensures step { went result draft.new
+        ≡ kind_step (Doors due) Door draft.old line.now.number (fields_of line.now) }
     ensures ready { IfOk result (λ s. Ready s draft.new) }
 {
     let door = door_due(line, draft.n, due)?;
@@ -38,8 +40,8 @@ fn take_door(draft: &mut Draft, due: u16, line: &Line<'_>) -> Result<Stage, Refu
 fn take_drive(draft: &mut Draft, from: u16, line: &Line<'_>) -> Result<Stage, Refusal>
     requires due { from ≤ draft.old.n }
     requires most { draft.old.n ≤ 16 }
-    ensures step { went result draft.new ≡ drive_step from draft.old line.now.number
-        (fields_of line.now) }
+    ensures step { went result draft.new
+        ≡ kind_step (Drives from) Drive draft.old line.now.number (fields_of line.now) }
     ensures ready { IfOk result (λ s. Ready s draft.new) }
 {
     let row = row_due(line, draft.n, from)?;
@@ -53,8 +55,8 @@ fn take_drive(draft: &mut Draft, from: u16, line: &Line<'_>) -> Result<Stage, Re
 
 fn take_pair(draft: &mut Draft, line: &Line<'_>) -> Result<Stage, Refusal>
     requires { draft.old.n ≤ 16 }
-    ensures step { went result draft.new ≡ pair_step draft.old line.now.number
-        (fields_of line.now) }
+    ensures step { went result draft.new
+        ≡ kind_step Pairs First draft.old line.now.number (fields_of line.now) }
     ensures ready { IfOk result (λ s. Ready s draft.new) }
 {
     let pair = pair_of(line, draft.n)?;
@@ -65,8 +67,8 @@ fn take_pair(draft: &mut Draft, line: &Line<'_>) -> Result<Stage, Refusal>
 /// One line, whose kind has to be due.
 pub(crate) fn take_line(draft: &mut Draft, stage: Stage, line: &Line<'_>) -> Result<Stage, Refusal>
     requires { Ready stage draft.old }
-    ensures step { went result draft.new ≡ line_step stage draft.old line.now.number
-        (fields_of line.now) }
+    ensures step { went result draft.new
+        ≡ line_step stage draft.old line.now.number (fields_of line.now) }
     ensures ready { IfOk result (λ s. Ready s draft.new) }
 {
     match (stage, kind_of(line.kind())) {
