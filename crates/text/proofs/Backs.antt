@@ -1,10 +1,10 @@
 -- A text of the form is accepted.
-use Rattle.std.proofs.Common.{◌≡◌, ℕ, suc, ◌+◌, ◌-◌, ◌<◌, ◌≤◌, Bool, true, false, cond, eqb, ltb, List, [], ◌∷◌, ◌++◌, map, fold, length, get_or, drop, set, replicate, ℤ, pos, negsuc, ◌≤ℤ◌, Ok, Err, codes, decimal, sym, refl, ap, ◌∙◌, ⊎_elim, arith, le-ltb, lt-ltb, eq-eqb, ne_eqb, eqb-true}
+use Rattle.std.proofs.Common.{◌≡◌, ℕ, suc, ◌+◌, ◌-◌, ◌<◌, ◌≤◌, Bool, true, false, cond, eqb, ltb, List, [], ◌∷◌, ◌++◌, map, fold, length, get_or, drop, set, replicate, ℤ, pos, negsuc, ◌≤ℤ◌, Ok, Err, decimal, sym, refl, ap, ◌∙◌, arith, le-ltb, lt-ltb, eq-eqb, ne_eqb}
 use borrow.Author.Differences.{ints}
 use Rattle.std.specs.Fmt.{signed_decimal}
 use Rattle.std.specs.List.{All, list_all, join_with_byte}
 use Rattle.std.specs.Str.{all_ascii_digits}
-use Rattle.std.proofs.lemmas.Bool.{cases_Bool, and_parts, and_from}
+use Rattle.std.proofs.lemmas.Bool.{and_parts}
 use Rattle.std.proofs.lemmas.Bool.Decides.{nat_tests}
 use Rattle.std.proofs.lemmas.Fmt.{digits_decimal}
 use Rattle.std.proofs.lemmas.List.{drop-drop, get_or-drop}
@@ -12,15 +12,12 @@ use Rattle.std.proofs.lemmas.List.Elements.{All-append, All-cons, All-head, All-
 use Rattle.std.proofs.lemmas.List.Splits.{slice_split_none}
 use Rattle.std.proofs.lemmas.List.Sums.{AllPass-from_list_all}
 use Rattle.text.specs.declared.refusal.Refusal.{Refusal}
-use Rattle.text.specs.declared.refusal.Refusal.TheVariants.{NotNumber}
 use Rattle.text.specs.declared.stage.Stage.{Stage}
 use Rattle.text.specs.declared.stage.Stage.TheVariants.{Head, Doors, Drives, Pairs}
 use Rattle.text.specs.declared.draft.Draft.{Draft}
 use Rattle.round.specs.declared.door.Door as door
 use Rattle.text.specs.declared.line.Head as head
 use Rattle.text.specs.declared.line.Pair as pair
-use Rattle.text.specs.Fields.{number_in}
-use Rattle.text.specs.Number.{dash}
 use Rattle.text.specs.Pieces.{pieces}
 use Rattle.text.specs.Lines.{and_then, leg_in, row_from}
 use Rattle.text.specs.Steps.{line_step}
@@ -109,15 +106,10 @@ pair-back d p line l f =
       ne_eqb p.first p.then f.apart,
     )
 
-leg-by : (b : Bool) (line k v : ℕ) → (b ≡ true → v ≡ 0) → number_in 0 999 (decimal v) line k ≡ Ok v → cond b (cond (dash (cond b (codes "-") (decimal v))) (Ok 0) (Err (NotNumber line k))) (number_in 0 999 (cond b (codes "-") (decimal v)) line k) ≡ Ok v
-leg-by true line k v z n = ap Ok (sym (z refl))
-leg-by false line k v z n = n
-
 leg-back : (i j line v : ℕ) (fs : List (List ℕ)) → get_or fs (j + 2 - 1) [] ≡ leg_field i j v → LegFits i j v → leg_in i j line fs ≡ Ok v
 leg-back i j line v fs e f =
     let n = number-back 0 999 v line (j + 2) (omega arith) f.0 (omega arith) in
-    let z : (eqb i j ≡ true → v ≡ 0) = λ t. f.1 (eqb-true i j t) in
-    rw e (leg-by (eqb i j) line (j + 2) v z n)
+    rw e (grind (arith, nat_tests))
 
 drop-one : {A : Type 0} (xs : List A) (n : ℕ) (y : A) (ys : List A) → drop n xs ≡ y ∷ ys → drop (n + 1) xs ≡ ys
 drop-one xs n y ys e = sym (drop-drop 1 n xs) ∙ ap (λ t. drop 1 t) e
@@ -145,8 +137,7 @@ row-back k d vs line a b f =
 
 clean-legs : (i j : ℕ) (vs : List ℕ) → AllFrom (LegFits i) j vs → list_all clear (map_from (leg_field i) j vs) ≡ true
 clean-legs i j [] f = refl
-clean-legs i j (v ∷ vs) f =
-    and_from (clear (leg_field i j v)) _ (⊎_elim (λ t. rw t) (λ t. rw t (clear-decimal v (omega (arith, f.0.0)))) (cases_Bool (eqb i j))) (clean-legs i (j + 1) vs f.1)
+clean-legs i j (v ∷ vs) f = grind (arith, nat_tests, clear-decimal v, clean-legs i (j + 1) vs f.1)
 
 clean-door : (k : ℕ) (x : door.Door) → k ≤ 16 → DoorFits x → Clean (door_fields k x)
 clean-door k x l f =

@@ -32,12 +32,12 @@ use Rattle.text.proofs.Numbers.{Says, number-says, change-says}
 
 -- ---- results
 
-pub then_ok : {A B : Type 0} (r : Result A Refusal) (k : A → Result B Refusal) (b : B) → and_then r k ≡ Ok b → (a : A) × (r ≡ Ok a) × (k a ≡ Ok b)
+then_ok : {A B : Type 0} (r : Result A Refusal) (k : A → Result B Refusal) (b : B) → and_then r k ≡ Ok b → (a : A) × (r ≡ Ok a) × (k a ≡ Ok b)
 then_ok (Ok a) k b e = (a, refl, e)
 then_ok (Err x) k b e = absurd cc
 
 -- a test that was passed
-pub cond-ok : {A : Type 0} (t : Bool) (r : Result A Refusal) (x : Refusal) (b : A) → cond t r (Err x) ≡ Ok b → (t ≡ true) × (r ≡ Ok b)
+cond-ok : {A : Type 0} (t : Bool) (r : Result A Refusal) (x : Refusal) (b : A) → cond t r (Err x) ≡ Ok b → (t ≡ true) × (r ≡ Ok b)
 cond-ok true r x b e = (refl, e)
 cond-ok false r x b e = absurd cc
 

@@ -1,6 +1,5 @@
 pub mod Pieces
 pub mod Numbers
-pub mod Rows
 pub mod Texts
 pub mod Forms
 pub mod Backs
