@@ -22,7 +22,7 @@ use Rattle.text.specs.Pieces.{pieces}
 use Rattle.text.specs.Lines.{and_then, leg_in, row_from}
 use Rattle.text.specs.Steps.{line_step}
 use Rattle.text.specs.Reading.{read_lines, read_text}
-use Rattle.text.specs.Drafts.{unread, with_head, with_door, with_row, with_pair}
+use Rattle.text.specs.Drafts.{unread, with_head, with_door, with_row, with_ahead, with_pair}
 use Rattle.text.specs.Form.{Content, Fits, map_from, head_fields, door_fields, leg_field, row_fields, pair_fields, records, written, AllFrom, DoorFits, LegFits, RowFits, PairFits, fill, row_of, round_of, HasForm}
 use Rattle.text.proofs.Numbers.{own, number-back, change-back}
 use Rattle.text.proofs.Pieces.{Lacks, some-piece, pieces_more}
@@ -143,7 +143,7 @@ clean-door : (k : ℕ) (x : door.Door) → k ≤ 16 → DoorFits x → Clean (do
 clean-door k x l f =
     (omega arith, rw (clear-decimal k (omega arith), clear-decimal x.opens f.opens, clear-decimal x.closes f.closes, clear-decimal x.due f.due, clear-decimal x.work (omega (arith, f.work)), clear-signed x.change f.low f.high))
 
-gives-pairs : (qs : List pair.Pair) (line : ℕ) (d : Draft) → d.n ≤ 16 → All (PairFits d.n) qs → Gives (map pair_fields qs) line Pairs d (fold with_pair d qs)
+gives-pairs : (qs : List pair.Pair) (line : ℕ) (d : Draft) → d.n ≤ 16 → All (PairFits d.n) qs → Gives (map pair_fields qs) line Pairs d (record d { ahead = fold with_ahead d.ahead qs })
 gives-pairs [] line d l f = refl
 gives-pairs (p ∷ qs) line d l f =
     let fits = All-head (PairFits d.n) p qs f in

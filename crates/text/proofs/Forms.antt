@@ -25,7 +25,7 @@ use Rattle.text.specs.Kinds.{named}
 use Rattle.text.specs.Lines.{and_then, counted, head_of, door_due, in_turn, leg_in, row_from, row_due, pair_of}
 use Rattle.text.specs.Steps.{line_step, kind_step}
 use Rattle.text.specs.Reading.{read_lines, read_text, at_end}
-use Rattle.text.specs.Drafts.{unread, with_head, with_door, with_row, with_pair}
+use Rattle.text.specs.Drafts.{unread, with_head, with_door, with_row, with_ahead, with_pair}
 use Rattle.text.specs.Form.{map_from, head_fields, door_fields, leg_field, row_fields, pair_fields, written, AllFrom, DoorFits, LegFits, RowFits, PairFits, fill, row_of, HasForm}
 use Rattle.text.proofs.Pieces.{some-piece}
 use Rattle.text.proofs.Numbers.{Says, number-says, change-says}
@@ -188,7 +188,7 @@ run-lines (p ∷ q ∷ ps) line s d e l h =
     let same = join_with_byte-slice_split 9 p in
     (pieces 9 p ∷ r.0, cc, (line, a.0, a.1, r.2))
 
-pairs-form : (fss : List (List (List ℕ))) (d e : Draft) → d.n ≤ 16 → Run fss Pairs d e → (qs : List pair.Pair) × (map pair_fields qs ≡ fss) × (fold with_pair d qs ≡ e) × All (PairFits d.n) qs
+pairs-form : (fss : List (List (List ℕ))) (d e : Draft) → d.n ≤ 16 → Run fss Pairs d e → (qs : List pair.Pair) × (map pair_fields qs ≡ fss) × (record d { ahead = fold with_ahead d.ahead qs } ≡ e) × All (PairFits d.n) qs
 pairs-form [] d e l r = ([], refl, r.1, All-nil (PairFits d.n))
 pairs-form (fs ∷ fss) d e l r =
     let q = pair-form d r.0 fs r.1 l r.2 in

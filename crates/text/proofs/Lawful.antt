@@ -1,15 +1,14 @@
 -- The round of contents in range is lawful.
-use Rattle.std.proofs.Common.{◌≡◌, ℕ, zero, suc, ◌+◌, ◌-◌, ◌<◌, ◌≤◌, List, [], ◌∷◌, map, fold, length, get_or, set, replicate, pos, negsuc, ◌≤ℤ◌, refl, subst, ◌∙◌, arith, length-set}
+use Rattle.std.proofs.Common.{◌≡◌, ℕ, zero, suc, ◌+◌, ◌-◌, ◌<◌, ◌≤◌, List, [], ◌∷◌, map, length, get_or, set, replicate, pos, negsuc, ◌≤ℤ◌, refl, subst, arith}
 use borrow.Author.Differences.{ints}
 use Rattle.std.specs.List.{All}
-use Rattle.std.proofs.lemmas.List.{get_or-set_same, get_or-set_other, length-replicate}
+use Rattle.std.proofs.lemmas.Grind.{common_steps}
+use Rattle.std.proofs.lemmas.List.{length-replicate}
 use Rattle.std.proofs.lemmas.List.Elements.{All-head, All-tail, All-get_or}
 use Rattle.round.specs.Tables.{blank, at}
 use Rattle.round.specs.declared.door.Door as door
-use Rattle.text.specs.declared.line.Pair as pair
 use Rattle.text.specs.declared.draft.Draft.{Draft}
-use Rattle.text.specs.Drafts.{with_pair}
-use Rattle.text.specs.Form.{AllFrom, DoorFits, LegFits, RowFits, Fits, Content, fill, row_of, round_ahead, HasForm}
+use Rattle.text.specs.Form.{AllFrom, DoorFits, LegFits, RowFits, Fits, Content, fill, row_of, round_of, HasForm}
 
 -- what holds of each element at its place, the default too, holds after a write
 set-each : {A : Type 0} (P : ℕ → A → Type 0) (d : A) (xs : List A) (i : ℕ) (x : A) → P i x → ((k : ℕ) → P k (get_or xs k d)) → (k : ℕ) → P k (get_or (set xs i x) k d)
@@ -27,17 +26,13 @@ fill-each P d (x ∷ xs) i t f h k = fill-each P d xs (i + 1) (set t i x) f.1 (s
 -- below the places that are filled nothing changes
 fill_below : {A : Type 0} (d : A) (xs : List A) (i k : ℕ) (t : List A) → k < i → get_or (fill i xs t) k d ≡ get_or t k d
 fill_below d [] i k t l = refl
-fill_below d (x ∷ xs) i k t l = fill_below d xs (i + 1) k (set t i x) (omega arith) ∙ get_or-set_other t i k x d (λ e. omega arith)
+fill_below d (x ∷ xs) i k t l = grind (arith, common_steps, fill_below d xs (i + 1) k (set t i x))
 
 -- a place that is filled has its element
-fill_at : {A : Type 0} (d : A) (xs : List A) (i k : ℕ) (t : List A) → i + length xs ≤ length t → k < length xs → get_or (fill i xs t) (i + k) d ≡ get_or xs k d
-fill_at d [] i k t l m = absurd (omega arith)
-fill_at d (x ∷ xs) i zero t l m =
-    let place : i + 0 ≡ i = omega arith in
-    rw place (fill_below d xs (i + 1) i (set t i x) (omega arith) ∙ get_or-set_same t i x d (omega arith))
-fill_at d (x ∷ xs) i (suc k) t l m =
-    let place : i + suc k ≡ i + 1 + k = omega arith in
-    rw place (fill_at d xs (i + 1) k (set t i x) (omega (arith, length-set t i x)) (omega arith))
+fill_at : {A : Type 0} (d : A) (xs : List A) (i j k : ℕ) (t : List A) → j ≡ i + k → i + length xs ≤ length t → k < length xs → get_or (fill i xs t) j d ≡ get_or xs k d
+fill_at d [] i j k t e l m = absurd (omega arith)
+fill_at d (x ∷ xs) i j zero t e l m = grind (arith, common_steps, fill_below d xs (i + 1) j (set t i x))
+fill_at d (x ∷ xs) i j (suc k) t e l m = grind (arith, common_steps, fill_at d xs (i + 1) j k (set t i x))
 
 replicated : {A : Type 0} (P : A → Type 0) (m : ℕ) (x d : A) → P x → P d → (k : ℕ) → P (get_or (replicate m x) k d)
 replicated P zero x d p q k = q
@@ -83,26 +78,20 @@ pub record Whole (d : Draft) : Type 0 where
   pub worked : (k : ℕ) → 1 ≤ k → k ≤ d.n → 1 ≤ (at d.doors k).work
   pub rows : (i : ℕ) → FairRow i (get_or d.drives i [])
 
-whole-ahead : (c : Content) → Fits c → Whole (round_ahead c)
-whole-ahead c f = record {
+round-whole : (c : Content) → Fits c → Whole (round_of c)
+round-whole c f = record {
   one = f.one;
   most = f.most;
   within = f.load;
   small = f.cap;
   doors = fill-each (λ _ x. Fair x) blank c.doors 1 (replicate 17 blank) (fair-doors c.doors 1 f.doors) (replicated Fair 17 blank blank fair-blank fair-blank);
   worked = λ k l m.
-      let place : 1 + (k - 1) ≡ k = omega arith in
-      let e = fill_at blank c.doors 1 (k - 1) (replicate 17 blank) (omega (arith, f.many, f.most, length-replicate 17 blank)) (omega (arith, f.many)) in
+      let e = fill_at blank c.doors 1 k (k - 1) (replicate 17 blank) (omega arith) (omega (arith, f.many, f.most, length-replicate 17 blank)) (omega (arith, f.many)) in
       let w = All-get_or DoorFits c.doors (k - 1) blank (omega (arith, f.many)) f.doors in
-      subst (λ j. 1 ≤ (at (fill 1 c.doors (replicate 17 blank)) j).work) place (rw e w.some);
+      rw e w.some;
   rows = fill-each FairRow [] (map row_of c.rows) 0 (replicate 17 (replicate 17 0)) (fair-rows c.head.n 0 c.rows f.rows) (λ i. replicated (FairRow i) 17 (replicate 17 0) [] (blank-row i) (λ k. (omega arith, λ _. refl)) i);
 }
 
-whole-pairs : (ps : List pair.Pair) (d : Draft) → Whole d → Whole (fold with_pair d ps)
-whole-pairs [] d w = w
-whole-pairs (p ∷ ps) d w =
-    whole-pairs ps (with_pair d p) (record { one = w.one; most = w.most; within = w.within; small = w.small; doors = w.doors; worked = w.worked; rows = w.rows })
-
 -- a text of the form gives a lawful round
 pub form-whole : (text : List ℕ) (d : Draft) → HasForm text d → Whole d
-form-whole text d h = subst Whole h.round (whole-pairs h.content.pairs (round_ahead h.content) (whole-ahead h.content h.fits))
+form-whole text d h = subst Whole h.round (round-whole h.content h.fits)

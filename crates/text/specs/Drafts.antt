@@ -22,6 +22,10 @@ with_door d k x = record d { doors = slice_set d.doors k x }
 abbrev pub with_row : Draft → ℕ → List ℕ → Draft
 with_row d i row = record d { drives = slice_set d.drives i row }
 
--- a pair: the set of the doors ahead of its second door gets its first
+-- the sets of the doors ahead of each door, with one pair more: the set of its second door gets its first
+abbrev pub with_ahead : List ℕ → Pair → List ℕ
+with_ahead sets p = slice_set sets p.then (bit_or (slice_index sets p.then) (2 ^ p.first))
+
+-- the line of a pair
 abbrev pub with_pair : Draft → Pair → Draft
-with_pair d p = record d { ahead = slice_set d.ahead p.then (bit_or (slice_index d.ahead p.then) (2 ^ p.first)) }
+with_pair d p = record d { ahead = with_ahead d.ahead p }

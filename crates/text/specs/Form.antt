@@ -7,7 +7,7 @@ use Rattle.round.specs.declared.door.Door.{Door}
 use Rattle.text.specs.declared.draft.Draft.{Draft}
 use Rattle.text.specs.declared.line.Head.{Head}
 use Rattle.text.specs.declared.line.Pair.{Pair}
-use Rattle.text.specs.Drafts.{with_pair}
+use Rattle.text.specs.Drafts.{with_ahead}
 
 -- what a text says: its doors from 1, the drives from each place from the yard, and its pairs, in order
 pub record Content : Type 0 where
@@ -108,20 +108,16 @@ fill i (x ∷ xs) table = fill (i + 1) xs (slice_set table i x)
 abbrev pub row_of : List ℕ → List ℕ
 row_of vs = fill 1 vs (replicate 17 0)
 
--- the round without its pairs; what no line fills is 0
-abbrev pub round_ahead : Content → Draft
-round_ahead c = record {
+-- the round that it makes; what no line fills is 0
+abbrev pub round_of : Content → Draft
+round_of c = record {
   n = c.head.n;
   load = c.head.load;
   cap = c.head.cap;
   doors = fill 1 c.doors (replicate 17 blank);
   drives = fill 0 (map row_of c.rows) (replicate 17 (replicate 17 0));
-  ahead = replicate 17 0;
+  ahead = fold with_ahead (replicate 17 0) c.pairs;
 }
-
--- the round that it makes, with each pair added
-abbrev pub round_of : Content → Draft
-round_of c = fold with_pair (round_ahead c) c.pairs
 
 -- the text is that of some content in range, and d is its round
 pub record HasForm (text : List ℕ) (d : Draft) : Type 0 where
