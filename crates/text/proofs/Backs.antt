@@ -18,7 +18,7 @@ use Rattle.text.specs.declared.draft.Draft.{Draft}
 use Rattle.round.specs.declared.door.Door as door
 use Rattle.text.specs.declared.line.Head as head
 use Rattle.text.specs.declared.line.Pair as pair
-use Rattle.text.specs.Pieces.{pieces}
+use Rattle.text.specs.Pieces.{fields_in, lines_in}
 use Rattle.text.specs.Lines.{and_then, leg_in, row_from}
 use Rattle.text.specs.Steps.{line_step}
 use Rattle.text.specs.Reading.{read_lines, read_text}
@@ -53,7 +53,7 @@ lacks-clear s f l h =
 abbrev Clean : List (List ℕ) → Type 0
 Clean fs = (0 < length fs) × (list_all clear fs ≡ true)
 
-pieces-joined : (fs : List (List ℕ)) → Clean fs → pieces 9 (join_with_byte 9 fs) ≡ fs
+pieces-joined : (fs : List (List ℕ)) → Clean fs → fields_in (join_with_byte 9 fs) ≡ fs
 pieces-joined [] c = absurd (omega arith)
 pieces-joined (f ∷ []) c =
     slice_split_none (λ b. eqb b 9) f (lacks-clear 9 f (omega arith) (and_parts (clear f) true c.1).0)
@@ -74,11 +74,11 @@ lacks-joined (f ∷ g ∷ fs) c =
 
 -- the lines are accepted, and give e
 abbrev Gives : List (List (List ℕ)) → ℕ → Stage → Draft → Draft → Type 0
-Gives fss line s d e = read_lines (pieces 10 (written fss)) line s d ≡ Ok e
+Gives fss line s d e = read_lines (lines_in (written fss)) line s d ≡ Ok e
 
 line-gives : (fs : List (List ℕ)) (fss : List (List (List ℕ))) (line : ℕ) (s t : Stage) (d u e : Draft) → Clean fs → line_step s d line fs ≡ Ok (t, u) → Gives fss (line + 1) t u e → Gives (fs ∷ fss) line s d e
 line-gives fs fss line s t d u e c h g =
-    let r = read_more (join_with_byte 9 fs) (pieces 10 (written fss)) line s d (some-piece 10 (written fss)) in
+    let r = read_more (join_with_byte 9 fs) (lines_in (written fss)) line s d (some-piece 10 (written fss)) in
     let step = pieces_more 10 (join_with_byte 9 fs) (written fss) (lacks-joined fs c.1) in
     rw (step, ← r, pieces-joined fs c, h) g
 

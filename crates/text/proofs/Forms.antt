@@ -20,7 +20,7 @@ use Rattle.round.specs.declared.door.Door as door
 use Rattle.text.specs.declared.line.Head as head
 use Rattle.text.specs.declared.line.Pair as pair
 use Rattle.text.specs.Fields.{number_in, change_in}
-use Rattle.text.specs.Pieces.{pieces}
+use Rattle.text.specs.Pieces.{fields_in, lines_in}
 use Rattle.text.specs.Kinds.{named}
 use Rattle.text.specs.Lines.{and_then, counted, head_of, door_due, in_turn, leg_in, row_from, row_due, pair_of}
 use Rattle.text.specs.Steps.{line_step, kind_step}
@@ -183,10 +183,10 @@ run-lines (p ∷ []) line s d e l h =
     let a = cond-ok (eqb (length p) 0) (at_end s d line) (Unended line) e h in
     ([], sym (nil_from_length p (eqb-true (length p) 0 a.0)), end-run line s d e a.1)
 run-lines (p ∷ q ∷ ps) line s d e l h =
-    let a = then_ok (line_step s d line (pieces 9 p)) _ e h in
+    let a = then_ok (line_step s d line (fields_in p)) _ e h in
     let r = run-lines (q ∷ ps) (line + 1) a.0.0 a.0.1 e (omega arith) a.2 in
     let same = join_with_byte-slice_split 9 p in
-    (pieces 9 p ∷ r.0, cc, (line, a.0, a.1, r.2))
+    (fields_in p ∷ r.0, cc, (line, a.0, a.1, r.2))
 
 pairs-form : (fss : List (List (List ℕ))) (d e : Draft) → d.n ≤ 16 → Run fss Pairs d e → (qs : List pair.Pair) × (map pair_fields qs ≡ fss) × (record d { ahead = fold with_ahead d.ahead qs } ≡ e) × All (PairFits d.n) qs
 pairs-form [] d e l r = ([], refl, r.1, All-nil (PairFits d.n))
@@ -246,5 +246,5 @@ run-form (fs ∷ fss) e r =
 -- an accepted text has the form, and gives the round of that form
 pub accepted-form : (text : List ℕ) (d : Draft) → read_text text ≡ Ok d → HasForm text d
 accepted-form text d h =
-    let r = run-lines (pieces 10 text) 1 Head unread d (some-piece 10 text) h in
+    let r = run-lines (lines_in text) 1 Head unread d (some-piece 10 text) h in
     subst (λ t. HasForm t d) (r.1 ∙ join_with_byte-slice_split 10 text) (run-form r.0 d r.2)

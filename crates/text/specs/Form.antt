@@ -1,6 +1,7 @@
 -- The form of a round's text: how contents are written, which contents are in range, and the round that they make.
 use Rattle.std.specs.Prelude.{◌≡◌, ◌≢◌, ⊤, ℕ, ◌+◌, ◌≤◌, List, [], ◌∷◌, ◌++◌, map, fold, length, replicate, pos, negsuc, ◌≤ℤ◌, codes, decimal, ◌==◌, slice_set, All, if◌then◌else◌}
 use Rattle.std.specs.List.{join_with_byte}
+use Rattle.std.specs.Str.{byte}
 use Rattle.std.specs.Fmt.{signed_decimal}
 use Rattle.round.specs.Tables.{blank}
 use Rattle.round.specs.declared.door.Door.{Door}
@@ -50,7 +51,7 @@ records c =
 -- the lines, with tabs between the fields and a line feed at the end of each
 abbrev pub written : List (List (List ℕ)) → List ℕ
 written [] = []
-written (fs ∷ fss) = join_with_byte 9 fs ++ (10 ∷ written fss)
+written (fs ∷ fss) = join_with_byte (byte "\t") fs ++ (byte "\n" ∷ written fss)
 
 -- the text that says it
 abbrev pub text_of : Content → List ℕ

@@ -6,13 +6,13 @@ use Rattle.text.specs.declared.refusal.Refusal.{Refusal}
 use Rattle.text.specs.declared.refusal.Refusal.TheVariants.{FieldCount, NotNumber, OutOfTurn}
 use Rattle.text.specs.declared.line.Head.{Head}
 use Rattle.text.specs.declared.line.Pair.{Pair}
-use Rattle.text.specs.Pieces.{pieces}
+use Rattle.text.specs.Pieces.{fields_in}
 use Rattle.text.specs.Fields.{number_in, change_in}
 use Rattle.text.specs.Number.{dash}
 
 -- the fields of a line
 abbrev pub fields_of : Line → List (List ℕ)
-fields_of line = pieces 9 line.bytes.now
+fields_of line = fields_in line.bytes.now
 
 -- go on with the value, or keep the refusal
 abbrev pub and_then : {A B : Type 0} → Result A Refusal → (A → Result B Refusal) → Result B Refusal

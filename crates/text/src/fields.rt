@@ -1,7 +1,7 @@
 //! A line cut into its fields.
 ghost use Rattle.std.specs.Prelude.{◌≡◌, ℕ, ◌-◌, ◌<◌, ◌≤◌, List, [], length, slice_index_or};
 ghost use Rattle.std.specs.Borrow.{Bor};
-ghost use Rattle.text.specs.Pieces.{pieces};
+ghost use Rattle.text.specs.Pieces.{fields_in};
 ghost use Rattle.text.specs.Tokens.{Formed, bytes_of, line_of, field_of};
 
 use crate::token::{Token, token_of};
@@ -16,9 +16,9 @@ pub(crate) struct Line<'a> {
     bytes: &'a [u8],
     count: usize,
     fields: [&'a [u8]; MOST],
-    ghost counted: { count ≡ length (pieces 9 bytes.now) },
+    ghost counted: { count ≡ length (fields_in bytes.now) },
     ghost kept: { (k : ℕ) (d : Bor (List ℕ)) → k < 18 →
-        (slice_index_or fields k d).now ≡ slice_index_or (pieces 9 bytes.now) k [] },
+        (slice_index_or fields k d).now ≡ slice_index_or (fields_in bytes.now) k [] },
 }
 
 impl<'a> Line<'a> {
@@ -45,14 +45,14 @@ impl<'a> Line<'a> {
 
     /// How many fields the line has.
     pub(crate) fn count(&self) -> usize
-        ensures { result ≡ length (pieces 9 self.now.bytes.now) }
+        ensures { result ≡ length (fields_in self.now.bytes.now) }
     {
         self.count
     }
 
     /// The kind's field, the first.
     pub(crate) fn kind(&self) -> &'a [u8]
-        ensures { result.now ≡ slice_index_or (pieces 9 self.now.bytes.now) 0 [] }
+        ensures { result.now ≡ slice_index_or (fields_in self.now.bytes.now) 0 [] }
     {
         self.fields[0]
     }
@@ -63,7 +63,7 @@ impl<'a> Line<'a> {
         requires most { field ≤ 18 }
         ensures formed { Formed result }
         ensures bytes { bytes_of result
-            ≡ slice_index_or (pieces 9 self.now.bytes.now) (field - 1) [] }
+            ≡ slice_index_or (fields_in self.now.bytes.now) (field - 1) [] }
         ensures line { line_of result ≡ self.now.number }
         ensures field { field_of result ≡ field }
     {
