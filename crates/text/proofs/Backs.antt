@@ -34,17 +34,21 @@ use Rattle.text.proofs.Texts.{read_more}
 abbrev clear : List ℕ → Bool
 clear f = list_all (λ b. ltb 44 b) f
 
+-- digits are
 clear-digits : (f : List ℕ) → all_ascii_digits f ≡ true → clear f ≡ true
 clear-digits [] h = refl
 clear-digits (b ∷ f) h = grind (arith, nat_tests, clear-digits f)
 
+-- so is what a number writes
 clear-decimal : (v : ℕ) → v ≤ 9999 → clear (decimal v) ≡ true
 clear-decimal v l = clear-digits (decimal v) (digits_decimal own v (omega arith))
 
+-- and what a change writes
 clear-signed : (z : ℤ) → negsuc 98 ≤ℤ z → z ≤ℤ pos 99 → clear (signed_decimal z) ≡ true
 clear-signed (pos v) l h = clear-decimal v (omega (arith, ints))
 clear-signed (negsuc v) l h = clear-decimal (suc v) (omega (arith, ints))
 
+-- no separator stands in such a field
 lacks-clear : (s : ℕ) (f : List ℕ) → s ≤ 44 → clear f ≡ true → Lacks s f
 lacks-clear s f l h =
     All-weaker (λ b. ltb 44 b ≡ true) (λ b. eqb b s ≡ false) (λ b m. grind (arith, nat_tests)) f (AllPass-from_list_all (λ b. ltb 44 b) f h)
@@ -53,6 +57,7 @@ lacks-clear s f l h =
 abbrev Clean : List (List ℕ) → Type 0
 Clean fs = (0 < length fs) × (list_all clear fs ≡ true)
 
+-- such fields, joined by tabs, are cut into the same fields
 pieces-joined : (fs : List (List ℕ)) → Clean fs → fields_in (join_with_byte 9 fs) ≡ fs
 pieces-joined [] c = absurd (omega arith)
 pieces-joined (f ∷ []) c =
@@ -62,6 +67,7 @@ pieces-joined (f ∷ g ∷ fs) c =
     pieces_more 9 f (join_with_byte 9 (g ∷ fs)) (lacks-clear 9 f (omega arith) p.0)
     ∙ ap (λ t. f ∷ t) (pieces-joined (g ∷ fs) (omega arith, p.1))
 
+-- no line feed stands in a line of such fields
 lacks-joined : (fs : List (List ℕ)) → list_all clear fs ≡ true → Lacks 10 (join_with_byte 9 fs)
 lacks-joined [] c = All-nil (λ b. eqb b 10 ≡ false)
 lacks-joined (f ∷ []) c = lacks-clear 10 f (omega arith) (and_parts (clear f) true c).0
@@ -76,16 +82,19 @@ lacks-joined (f ∷ g ∷ fs) c =
 abbrev Gives : List (List (List ℕ)) → ℕ → Stage → Draft → Draft → Type 0
 Gives fss line s d e = read_lines (lines_in (written fss)) line s d ≡ Ok e
 
+-- a line that is taken, and the lines after it
 line-gives : (fs : List (List ℕ)) (fss : List (List (List ℕ))) (line : ℕ) (s t : Stage) (d u e : Draft) → Clean fs → line_step s d line fs ≡ Ok (t, u) → Gives fss (line + 1) t u e → Gives (fs ∷ fss) line s d e
 line-gives fs fss line s t d u e c h g =
     let r = read_more (join_with_byte 9 fs) (lines_in (written fss)) line s d (some-piece 10 (written fss)) in
     let step = pieces_more 10 (join_with_byte 9 fs) (written fss) (lacks-joined fs c.1) in
     rw (step, ← r, pieces-joined fs c, h) g
 
+-- the round line is taken as it is written
 head-back : (d : Draft) (h : head.Head) (line : ℕ) → 1 ≤ h.n → h.n ≤ 16 → h.load ≤ h.cap → h.cap ≤ 999 → line_step Head d line (head_fields h) ≡ Ok (Doors 1, with_head d h)
 head-back d h line a b c e =
     rw (number-back 1 16 h.n line 2 a b (omega arith), number-back 0 999 h.load line 3 (omega arith) (omega arith) (omega arith), number-back h.load 999 h.cap line 4 c e (omega arith))
 
+-- so is the line of door k
 door-back : (k : ℕ) (d : Draft) (x : door.Door) (line : ℕ) → 1 ≤ k → k ≤ d.n → d.n ≤ 16 → DoorFits x → line_step (Doors k) d line (door_fields k x) ≡ Ok (cond (ltb k d.n) (Doors (k + 1)) (Drives 0), with_door d k x)
 door-back k d x line a b c f =
     rw (
@@ -98,6 +107,7 @@ door-back k d x line a b c f =
       change-back x.change line 7 f.low f.high,
     )
 
+-- and the line of a pair
 pair-back : (d : Draft) (p : pair.Pair) (line : ℕ) → d.n ≤ 16 → PairFits d.n p → line_step Pairs d line (pair_fields p) ≡ Ok (Pairs, with_pair d p)
 pair-back d p line l f =
     rw (
@@ -106,27 +116,28 @@ pair-back d p line l f =
       ne_eqb p.first p.then f.apart,
     )
 
+-- and the field of a drive
 leg-back : (i j line v : ℕ) (fs : List (List ℕ)) → get_or fs (j + 2 - 1) [] ≡ leg_field i j v → LegFits i j v → leg_in i j line fs ≡ Ok v
 leg-back i j line v fs e f =
     let n = number-back 0 999 v line (j + 2) (omega arith) f.0 (omega arith) in
     rw e (grind (arith, nat_tests))
 
-drop-one : {A : Type 0} (xs : List A) (n : ℕ) (y : A) (ys : List A) → drop n xs ≡ y ∷ ys → drop (n + 1) xs ≡ ys
-drop-one xs n y ys e = sym (drop-drop 1 n xs) ∙ ap (λ t. drop 1 t) e
-
+-- and the fields of the drives to the doors from j on
 legs-back : (vs : List ℕ) (i j line : ℕ) (fs : List (List ℕ)) (row : List ℕ) → drop (j + 1) fs ≡ map_from (leg_field i) j vs → AllFrom (LegFits i) j vs → row_from (length vs) i j line fs row ≡ Ok (fill j vs row)
 legs-back [] i j line fs row e f = refl
 legs-back (v ∷ vs) i j line fs row e f =
     let place : j + 2 - 1 ≡ j + 1 + 0 = omega arith in
     let first = ap (λ k. get_or fs k []) place ∙ sym (get_or-drop (j + 1) fs 0 []) ∙ ap (λ t. get_or t 0 []) e in
-    let rest = drop-one fs (j + 1) _ _ e in
+    let rest = sym (drop-drop 1 (j + 1) fs) ∙ ap (λ t. drop 1 t) e in
     ap (λ r. and_then r (λ leg. row_from (length vs) i (j + 1) line fs (set row j leg))) (leg-back i j line v fs first f.0)
     ∙ legs-back vs i (j + 1) line fs (set row j v) rest f.1
 
+-- as many as there were
 length-map_from : {A B : Type 0} (f : ℕ → A → B) (i : ℕ) (xs : List A) → length (map_from f i xs) ≡ length xs
 length-map_from f i [] = refl
 length-map_from f i (x ∷ xs) = ap suc (length-map_from f (i + 1) xs)
 
+-- and the drive line of place k
 row-back : (k : ℕ) (d : Draft) (vs : List ℕ) (line : ℕ) → k ≤ d.n → d.n ≤ 16 → RowFits d.n k vs → line_step (Drives k) d line (row_fields k vs) ≡ Ok (cond (ltb k d.n) (Drives (k + 1)) Pairs, with_row d k (row_of vs))
 row-back k d vs line a b f =
     let many : length (row_fields k vs) ≡ d.n + 2 = omega (arith, length-map_from (leg_field k) 1 vs) in
@@ -135,14 +146,17 @@ row-back k d vs line a b f =
 
 -- ---- the lines of a text are taken
 
+-- the fields of drives hold no separator
 clean-legs : (i j : ℕ) (vs : List ℕ) → AllFrom (LegFits i) j vs → list_all clear (map_from (leg_field i) j vs) ≡ true
 clean-legs i j [] f = refl
 clean-legs i j (v ∷ vs) f = grind (arith, nat_tests, clear-decimal v, clean-legs i (j + 1) vs f.1)
 
+-- nor do those of a door line
 clean-door : (k : ℕ) (x : door.Door) → k ≤ 16 → DoorFits x → Clean (door_fields k x)
 clean-door k x l f =
     (omega arith, rw (clear-decimal k (omega arith), clear-decimal x.opens f.opens, clear-decimal x.closes f.closes, clear-decimal x.due f.due, clear-decimal x.work (omega (arith, f.work)), clear-signed x.change f.low f.high))
 
+-- the lines of pairs are accepted to the end
 gives-pairs : (qs : List pair.Pair) (line : ℕ) (d : Draft) → d.n ≤ 16 → All (PairFits d.n) qs → Gives (map pair_fields qs) line Pairs d (record d { ahead = fold with_ahead d.ahead qs })
 gives-pairs [] line d l f = refl
 gives-pairs (p ∷ qs) line d l f =
@@ -150,11 +164,13 @@ gives-pairs (p ∷ qs) line d l f =
     let clean : Clean (pair_fields p) = (omega arith, rw (clear-decimal p.first (omega (arith, fits.most)), clear-decimal p.then (omega (arith, fits.last)))) in
     line-gives (pair_fields p) (map pair_fields qs) line Pairs Pairs d (with_pair d p) _ clean (pair-back d p line l fits) (gives-pairs qs (line + 1) (with_pair d p) l (All-tail (PairFits d.n) p qs f))
 
+-- the drive line of place k, and the lines after it
 row-gives : (vs : List ℕ) (fss : List (List (List ℕ))) (k line : ℕ) (d e : Draft) → d.n ≤ 16 → k ≤ d.n → RowFits d.n k vs → Gives fss (line + 1) (cond (ltb k d.n) (Drives (k + 1)) Pairs) (with_row d k (row_of vs)) e → Gives (row_fields k vs ∷ fss) line (Drives k) d e
 row-gives vs fss k line d e l m f g =
     let clean : Clean (row_fields k vs) = (omega arith, rw (clear-decimal k (omega arith)) (clean-legs k 1 vs f.1)) in
     line-gives (row_fields k vs) fss line (Drives k) _ d (with_row d k (row_of vs)) e clean (row-back k d vs line m l f) g
 
+-- the drive lines from place k on, and the lines after them
 gives-rows : (rs : List (List ℕ)) (gss : List (List (List ℕ))) (k line : ℕ) (d e : Draft) → d.n ≤ 16 → k ≤ d.n → length rs + k ≡ d.n + 1 → AllFrom (RowFits d.n) k rs → ((m : ℕ) → Gives gss m Pairs (record d { drives = fill k (map row_of rs) d.drives }) e) → Gives (map_from row_fields k rs ++ gss) line (Drives k) d e
 gives-rows [] gss k line d e l m c f g = absurd (omega arith)
 gives-rows (r ∷ []) gss k line d e l m c f g =
@@ -163,10 +179,12 @@ gives-rows (r ∷ x ∷ rs) gss k line d e l m c f g =
     row-gives r (map_from row_fields (k + 1) (x ∷ rs) ++ gss) k line d e l m f.0
     (rw (lt-ltb k d.n (omega arith)) (gives-rows (x ∷ rs) gss (k + 1) (line + 1) (with_row d k (row_of r)) e l (omega arith) (omega arith) f.1 g))
 
+-- the line of door k, and the lines after it
 door-gives : (x : door.Door) (fss : List (List (List ℕ))) (k line : ℕ) (d e : Draft) → d.n ≤ 16 → 1 ≤ k → k ≤ d.n → DoorFits x → Gives fss (line + 1) (cond (ltb k d.n) (Doors (k + 1)) (Drives 0)) (with_door d k x) e → Gives (door_fields k x ∷ fss) line (Doors k) d e
 door-gives x fss k line d e l o m f g =
     line-gives (door_fields k x) fss line (Doors k) _ d (with_door d k x) e (clean-door k x (omega arith) f) (door-back k d x line o m l f) g
 
+-- the door lines from door k on, and the lines after them
 gives-doors : (xs : List door.Door) (gss : List (List (List ℕ))) (k line : ℕ) (d e : Draft) → d.n ≤ 16 → 1 ≤ k → k ≤ d.n → length xs + k ≡ d.n + 1 → All DoorFits xs → ((m : ℕ) → Gives gss m (Drives 0) (record d { doors = fill k xs d.doors }) e) → Gives (map_from door_fields k xs ++ gss) line (Doors k) d e
 gives-doors [] gss k line d e l o m c f g = absurd (omega arith)
 gives-doors (x ∷ []) gss k line d e l o m c f g =
@@ -175,6 +193,7 @@ gives-doors (x ∷ y ∷ xs) gss k line d e l o m c f g =
     door-gives x (map_from door_fields (k + 1) (y ∷ xs) ++ gss) k line d e l o m (All-head DoorFits x (y ∷ xs) f)
     (rw (lt-ltb k d.n (omega arith)) (gives-doors (y ∷ xs) gss (k + 1) (line + 1) (with_door d k x) e l (omega arith) (omega arith) (omega arith) (All-tail DoorFits x (y ∷ xs) f) g))
 
+-- all lines of a content in range are accepted, and give its round
 gives-all : (c : Content) → Fits c → Gives (records c) 1 Head unread (round_of c)
 gives-all c f =
     let h = c.head in

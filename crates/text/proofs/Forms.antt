@@ -32,6 +32,7 @@ use Rattle.text.proofs.Numbers.{Says, number-says, change-says}
 
 -- ---- results
 
+-- a value that went on
 then_ok : {A B : Type 0} (r : Result A Refusal) (k : A → Result B Refusal) (b : B) → and_then r k ≡ Ok b → (a : A) × (r ≡ Ok a) × (k a ≡ Ok b)
 then_ok (Ok a) k b e = (a, refl, e)
 then_ok (Err x) k b e = absurd cc
@@ -41,6 +42,7 @@ cond-ok : {A : Type 0} (t : Bool) (r : Result A Refusal) (x : Refusal) (b : A) �
 cond-ok true r x b e = (refl, e)
 cond-ok false r x b e = absurd cc
 
+-- a number that went on
 then-number : {B : Type 0} (low high : ℕ) (f : List ℕ) (line k : ℕ) (K : ℕ → Result B Refusal) (b : B) → high ≤ 9999 → and_then (number_in low high f line k) K ≡ Ok b → (v : ℕ) × Says low high f v × (K v ≡ Ok b)
 then-number low high f line k K b l e =
     let a = then_ok (number_in low high f line k) K b e in
@@ -48,6 +50,7 @@ then-number low high f line k K b l e =
 
 -- ---- kinds
 
+-- the kind that is due
 abbrev due : Stage → Kind
 due Head = Round
 due (Doors k) = Door
@@ -70,6 +73,7 @@ Named Drive f = codes "drive" ≡ f
 Named First f = codes "first" ≡ f
 Named Other f = Unit {0}
 
+-- a field is a word or is not
 word_tells : (f w : List ℕ) → ((bytes_eq f w ≡ true) × (f ≡ w)) ⊎ ((bytes_eq f w ≡ false) × (f ≢ w))
 word_tells f w = grind (arith, bytes_eq-Decides f w)
 
@@ -80,6 +84,7 @@ named-is f Drive e = grind (arith, word_tells f)
 named-is f First e = grind (arith, word_tells f)
 named-is f Other e = tt
 
+-- a line that is taken has the word of the kind that is due
 line-due : (s : Stage) (d : Draft) (line : ℕ) (fs : List (List ℕ)) (t : Stage × Draft) → line_step s d line fs ≡ Ok t → Named (due s) (get_or fs 0 []) × (kind_step s (due s) d line fs ≡ Ok t)
 line-due s d line fs t e =
     let k = kind-due s (named (get_or fs 0 [])) d line fs t e in
@@ -94,6 +99,7 @@ fields-are n line fs r b e =
 
 -- ---- a line of each kind
 
+-- a line of a pair that is taken is one that is written, in range
 pair-form : (d : Draft) (line : ℕ) (fs : List (List ℕ)) (t : Stage × Draft) → d.n ≤ 16 → line_step Pairs d line fs ≡ Ok t → (p : pair.Pair) × (pair_fields p ≡ fs) × PairFits d.n p × ((Pairs, with_pair d p) ≡ t)
 pair-form d line fs t l e =
     let q = line-due Pairs d line fs t e in
@@ -105,6 +111,7 @@ pair-form d line fs t l e =
     let r : (a.0 ≢ b.0) × (p ≡ o.0) = grind (arith, nat_tests, b.2) in
     (p, cc, record { first = a.1.from; most = a.1.to; second = b.1.from; last = b.1.to; apart = r.0 }, cc)
 
+-- so is a round line
 head-form : (line : ℕ) (fs : List (List ℕ)) (t : Stage × Draft) → line_step Head unread line fs ≡ Ok t → (h : head.Head) × (head_fields h ≡ fs) × Says 1 16 (get_or fs 1 []) h.n × Says h.load 999 (get_or fs 3 []) h.cap × ((Doors 1, with_head unread h) ≡ t)
 head-form line fs t e =
     let q = line-due Head unread line fs t e in
@@ -115,6 +122,7 @@ head-form line fs t e =
     let f = then-number b.0 999 (get_or fs 3 []) line 4 _ o.0 (omega arith) b.2 in
     (record { n = a.0; load = b.0; cap = f.0 }, cc, a.1, f.1, cc)
 
+-- where a line goes on after its number, that is the one that is due
 turn-says : {A : Type 0} (low high due line : ℕ) (fs : List (List ℕ)) (r : Result A Refusal) (b : A) → high ≤ 9999 → and_then (in_turn low high due line fs) (λ _. r) ≡ Ok b → Says low high (get_or fs 1 []) due × (r ≡ Ok b)
 turn-says low high due line fs r b l e =
     let o = then_ok (in_turn low high due line fs) _ b e in
@@ -122,6 +130,7 @@ turn-says low high due line fs r b l e =
     let c = cond-ok (eqb a.0 due) (Ok tt) (OutOfTurn line 2) o.0 a.2 in
     (subst (Says low high (get_or fs 1 [])) (eqb-true a.0 due c.0) a.1, o.2)
 
+-- so is a door line
 door-form : (d : Draft) (k line : ℕ) (fs : List (List ℕ)) (t : Stage × Draft) → d.n ≤ 16 → line_step (Doors k) d line fs ≡ Ok t → (x : door.Door) × (door_fields k x ≡ fs) × DoorFits x × ((cond (ltb k d.n) (Doors (k + 1)) (Drives 0), with_door d k x) ≡ t)
 door-form d k line fs t l e =
     let q = line-due (Doors k) d line fs t e in
@@ -139,11 +148,13 @@ door-form d k line fs t l e =
     let fits : DoorFits r = record { opens = a.1.to; closes = b.1.to; due = f.1.to; some = w.1.from; work = w.1.to; low = z.low; high = z.high } in
     (r, cc, fits, cc)
 
+-- and the field of a drive
 leg-form : (i j line : ℕ) (fs : List (List ℕ)) (v : ℕ) → leg_in i j line fs ≡ Ok v → (leg_field i j v ≡ get_or fs (j + 2 - 1) []) × LegFits i j v
 leg-form i j line fs v e =
     let f = get_or fs (j + 2 - 1) [] in
     grind (arith, nat_tests, word_tells f (codes "-"), number-says 0 999 f line (j + 2) v)
 
+-- and the fields of the drives to the doors from j on
 legs-form : (m i j line : ℕ) (fs : List (List ℕ)) (row out : List ℕ) → length fs ≡ j + 1 + m → row_from m i j line fs row ≡ Ok out → (vs : List ℕ) × (length vs ≡ m) × (map_from (leg_field i) j vs ≡ drop (j + 1) fs) × (fill j vs row ≡ out) × AllFrom (LegFits i) j vs
 legs-form zero i j line fs row out l e = ([], refl, sym (drop_all (j + 1) fs (omega arith)), cc, tt)
 legs-form (suc m) i j line fs row out l e =
@@ -155,6 +166,7 @@ legs-form (suc m) i j line fs row out l e =
     let first = f.0 ∙ ap (λ k. get_or fs k []) place in
     (a.0 ∷ h.0, omega (arith, h.1), cc, h.3, (f.1, h.4))
 
+-- and a drive line
 row-form : (d : Draft) (k line : ℕ) (fs : List (List ℕ)) (t : Stage × Draft) → d.n ≤ 16 → line_step (Drives k) d line fs ≡ Ok t → (vs : List ℕ) × (row_fields k vs ≡ fs) × RowFits d.n k vs × ((cond (ltb k d.n) (Drives (k + 1)) Pairs, with_row d k (row_of vs)) ≡ t)
 row-form d k line fs t l e =
     let q = line-due (Drives k) d line fs t e in
@@ -173,10 +185,12 @@ abbrev Run : List (List (List ℕ)) → Stage → Draft → Draft → Type 0
 Run [] s d e = (s ≡ Pairs) × (d ≡ e)
 Run (fs ∷ fss) s d e = (line : ℕ) × (t : Stage × Draft) × (line_step s d line fs ≡ Ok t) × Run fss t.0 t.1 e
 
+-- a text ends with pairs
 end-run : (line : ℕ) (s : Stage) (d e : Draft) → at_end s d line ≡ Ok e → (s ≡ Pairs) × (d ≡ e)
 end-run line Pairs d e h = (refl, cc)
 end-run line s d e h = absurd cc
 
+-- the lines of an accepted text are taken one after another
 run-lines : (ps : List (List ℕ)) (line : ℕ) (s : Stage) (d e : Draft) → 0 < length ps → read_lines ps line s d ≡ Ok e → (fss : List (List (List ℕ))) × (written fss ≡ join_with_byte 10 ps) × Run fss s d e
 run-lines [] line s d e l h = absurd (omega arith)
 run-lines (p ∷ []) line s d e l h =
@@ -188,6 +202,7 @@ run-lines (p ∷ q ∷ ps) line s d e l h =
     let same = join_with_byte-slice_split 9 p in
     (fields_in p ∷ r.0, cc, (line, a.0, a.1, r.2))
 
+-- the lines from the first pair on
 pairs-form : (fss : List (List (List ℕ))) (d e : Draft) → d.n ≤ 16 → Run fss Pairs d e → (qs : List pair.Pair) × (map pair_fields qs ≡ fss) × (record d { ahead = fold with_ahead d.ahead qs } ≡ e) × All (PairFits d.n) qs
 pairs-form [] d e l r = ([], refl, r.1, All-nil (PairFits d.n))
 pairs-form (fs ∷ fss) d e l r =
@@ -195,6 +210,7 @@ pairs-form (fs ∷ fss) d e l r =
     let i = pairs-form fss (with_pair d q.0) e l (subst (λ (z : Stage × Draft). Run fss z.0 z.1 e) (sym q.3) r.3) in
     (q.0 ∷ i.0, cc, i.2, All-cons (PairFits d.n) q.0 i.0 q.2 i.3)
 
+-- the lines from the drives of place k on: drive lines, and what pairs make of the rest
 rows-form : (fss : List (List (List ℕ))) (k : ℕ) (d e : Draft) → d.n ≤ 16 → k ≤ d.n → Run fss (Drives k) d e → (rs : List (List ℕ)) × (gss : List (List (List ℕ))) × (map_from row_fields k rs ++ gss ≡ fss) × (length rs + k ≡ d.n + 1) × AllFrom (RowFits d.n) k rs × Run gss Pairs (record d { drives = fill k (map row_of rs) d.drives }) e
 rows-form [] k d e l m r = absurd cc
 rows-form (fs ∷ fss) k d e l m r =
@@ -207,6 +223,7 @@ rows-form (fs ∷ fss) k d e l m r =
     (λ t. (q.0 ∷ [], fss, cc, omega (arith, ltb-false k d.n t), (q.2, tt), rw t at go))
     (cases_Bool (ltb k d.n))
 
+-- the lines from door k on: door lines, and what drives make of the rest
 doors-form : (fss : List (List (List ℕ))) (k : ℕ) (d e : Draft) → d.n ≤ 16 → k ≤ d.n → Run fss (Doors k) d e → (xs : List door.Door) × (gss : List (List (List ℕ))) × (map_from door_fields k xs ++ gss ≡ fss) × (length xs + k ≡ d.n + 1) × All DoorFits xs × Run gss (Drives 0) (record d { doors = fill k xs d.doors }) e
 doors-form [] k d e l m r = absurd cc
 doors-form (fs ∷ fss) k d e l m r =
@@ -219,6 +236,7 @@ doors-form (fs ∷ fss) k d e l m r =
     (λ t. (q.0 ∷ [], fss, cc, omega (arith, ltb-false k d.n t), All-cons DoorFits q.0 [] q.2 (All-nil DoorFits), rw t at go))
     (cases_Bool (ltb k d.n))
 
+-- all lines
 run-form : (fss : List (List (List ℕ))) (e : Draft) → Run fss Head unread e → HasForm (written fss) e
 run-form [] e r = absurd cc
 run-form (fs ∷ fss) e r =

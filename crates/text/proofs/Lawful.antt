@@ -34,6 +34,7 @@ fill_at d [] i j k t e l m = absurd (omega arith)
 fill_at d (x ∷ xs) i j zero t e l m = grind (arith, common_steps, fill_below d xs (i + 1) j (set t i x))
 fill_at d (x ∷ xs) i j (suc k) t e l m = grind (arith, common_steps, fill_at d xs (i + 1) j k (set t i x))
 
+-- what holds of x, and of the default, holds of each copy of x
 replicated : {A : Type 0} (P : A → Type 0) (m : ℕ) (x d : A) → P x → P d → (k : ℕ) → P (get_or (replicate m x) k d)
 replicated P zero x d p q k = q
 replicated P (suc m) x d p q zero = p
@@ -48,12 +49,14 @@ pub record Fair (x : door.Door) : Type 0 where
   pub low : negsuc 98 ≤ℤ x.change
   pub high : x.change ≤ℤ pos 99
 
+-- doors in range are
 fair-doors : (xs : List door.Door) (i : ℕ) → All DoorFits xs → AllFrom (λ _ x. Fair x) i xs
 fair-doors [] i f = tt
 fair-doors (x ∷ xs) i f =
     let h = All-head DoorFits x xs f in
     (record { opens = h.opens; closes = h.closes; due = h.due; work = h.work; low = h.low; high = h.high }, fair-doors xs (i + 1) (All-tail DoorFits x xs f))
 
+-- so is a blank one
 fair-blank : Fair blank
 fair-blank = record { opens = omega arith; closes = omega arith; due = omega arith; work = omega arith; low = omega (arith, ints); high = omega (arith, ints) }
 
@@ -61,9 +64,11 @@ fair-blank = record { opens = omega arith; closes = omega arith; due = omega ari
 abbrev pub FairRow : ℕ → List ℕ → Type 0
 FairRow i row = (k : ℕ) → LegFits i k (get_or row k 0)
 
+-- a row of zeros is one
 blank-row : (i : ℕ) → FairRow i (replicate 17 0)
 blank-row i k = replicated (λ v. LegFits i k v) 17 0 0 (omega arith, λ _. refl) (omega arith, λ _. refl) k
 
+-- rows in range are such rows
 fair-rows : (n i : ℕ) (rs : List (List ℕ)) → AllFrom (RowFits n) i rs → AllFrom FairRow i (map row_of rs)
 fair-rows n i [] f = tt
 fair-rows n i (r ∷ rs) f = (fill-each (LegFits i) 0 r 1 (replicate 17 0) f.0.1 (blank-row i), fair-rows n (i + 1) rs f.1)
@@ -78,6 +83,7 @@ pub record Whole (d : Draft) : Type 0 where
   pub worked : (k : ℕ) → 1 ≤ k → k ≤ d.n → 1 ≤ (at d.doors k).work
   pub rows : (i : ℕ) → FairRow i (get_or d.drives i [])
 
+-- the round of contents in range is lawful
 round-whole : (c : Content) → Fits c → Whole (round_of c)
 round-whole c f = record {
   one = f.one;

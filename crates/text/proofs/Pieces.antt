@@ -14,6 +14,7 @@ Lacks s bs = All (λ b. eqb b s ≡ false) bs
 pub pieces_more : (s : ℕ) (a b : List ℕ) → Lacks s a → pieces s (a ++ s ∷ b) ≡ a ∷ pieces s b
 pieces_more s a b h = slice_split_at (λ b. eqb b s) a s b h (grind arith)
 
+-- there is a piece
 pub some-piece : (s : ℕ) (a : List ℕ) → 0 < length (pieces s a)
 some-piece s a = omega (arith, length-slice_split (λ b. eqb b s) a)
 

@@ -8,6 +8,7 @@ use Rattle.text.specs.Steps.{Next, line_step}
 use Rattle.text.specs.Reading.{read_lines}
 use Rattle.text.proofs.Pieces.{some-piece}
 
+-- the first of the lines, and those after it
 pub read_more : (p : List ℕ) (ps : List (List ℕ)) (line : ℕ) (s : Stage) (d : Draft) → 0 < length ps → and_then (line_step s d line (fields_in p)) (λ t. read_lines ps (line + 1) t.0 t.1) ≡ read_lines (p ∷ ps) line s d
 read_more p [] line s d l = absurd (omega arith)
 read_more p (q ∷ ps) line s d l = refl

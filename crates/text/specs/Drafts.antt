@@ -8,7 +8,14 @@ use Rattle.text.specs.declared.line.Pair.{Pair}
 
 -- before the first line all is 0
 abbrev pub unread : Draft
-unread = record { n = 0; load = 0; cap = 0; doors = replicate 17 blank; drives = replicate 17 (replicate 17 0); ahead = replicate 17 0 }
+unread = record {
+  n = 0;
+  load = 0;
+  cap = 0;
+  doors = replicate 17 blank;
+  drives = replicate 17 (replicate 17 0);
+  ahead = replicate 17 0;
+}
 
 -- the round line
 abbrev pub with_head : Draft → Head → Draft

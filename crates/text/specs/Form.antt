@@ -29,7 +29,8 @@ head_fields h = codes "round" ∷ decimal h.n ∷ decimal h.load ∷ decimal h.c
 -- the fields of the line of door k
 abbrev pub door_fields : ℕ → Door → List (List ℕ)
 door_fields k x =
-    codes "door" ∷ decimal k ∷ decimal x.opens ∷ decimal x.closes ∷ decimal x.due ∷ decimal x.work ∷ signed_decimal x.change ∷ []
+    codes "door" ∷ decimal k ∷ decimal x.opens ∷ decimal x.closes ∷ decimal x.due ∷ decimal x.work
+    ∷ signed_decimal x.change ∷ []
 
 -- the drive from i to j: "-" where they are the same
 abbrev pub leg_field : ℕ → ℕ → ℕ → List ℕ
@@ -46,7 +47,8 @@ pair_fields p = codes "first" ∷ decimal p.first ∷ decimal p.then ∷ []
 -- the lines of a text, by their fields
 abbrev pub records : Content → List (List (List ℕ))
 records c =
-    head_fields c.head ∷ (map_from door_fields 1 c.doors ++ (map_from row_fields 0 c.rows ++ map pair_fields c.pairs))
+    head_fields c.head
+    ∷ (map_from door_fields 1 c.doors ++ (map_from row_fields 0 c.rows ++ map pair_fields c.pairs))
 
 -- the lines, with tabs between the fields and a line feed at the end of each
 abbrev pub written : List (List (List ℕ)) → List ℕ

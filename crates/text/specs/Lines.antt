@@ -72,7 +72,8 @@ leg_in i j line fs =
 -- the drives from i to the m doors from j on, into a row
 abbrev pub row_from : ℕ → ℕ → ℕ → ℕ → List (List ℕ) → List ℕ → Result (List ℕ) Refusal
 row_from zero i j line fs row = Ok row
-row_from (suc m) i j line fs row = and_then (leg_in i j line fs) (λ leg. row_from m i (j + 1) line fs (slice_set row j leg))
+row_from (suc m) i j line fs row =
+    and_then (leg_in i j line fs) (λ leg. row_from m i (j + 1) line fs (slice_set row j leg))
 
 -- a drive line, where the place `due` is the next
 abbrev pub row_due : ℕ → ℕ → ℕ → List (List ℕ) → Result (List ℕ) Refusal

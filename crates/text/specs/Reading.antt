@@ -19,7 +19,8 @@ at_end s d line = Err (NotDue line)
 abbrev pub read_lines : List (List ℕ) → ℕ → Stage → Draft → Result Draft Refusal
 read_lines [] line s d = at_end s d line
 read_lines (p ∷ []) line s d = if length p == 0 then at_end s d line else Err (Unended line)
-read_lines (p ∷ q ∷ ps) line s d = and_then (line_step s d line (fields_in p)) (λ t. read_lines (q ∷ ps) (line + 1) t.0 t.1)
+read_lines (p ∷ q ∷ ps) line s d =
+    and_then (line_step s d line (fields_in p)) (λ t. read_lines (q ∷ ps) (line + 1) t.0 t.1)
 
 -- the whole text, from its line 1
 abbrev pub read_text : List ℕ → Result Draft Refusal

@@ -27,8 +27,8 @@ abbrev pub went : Result Stage Refusal → Draft → Next
 went (Ok s) d = Ok (s, d)
 went (Err e) d = Err e
 
--- what a line of the kind that is due leads to; any other kind is refused. After the round line door 1 is the next,
--- after the last door the drives from the yard are, and after the drives from the last place pairs may come
+-- what a line of the kind that is due leads to; any other kind is refused. After the round line
+-- door 1 is due, after the last door the drives from the yard, after the last drives any pairs
 abbrev pub kind_step : Stage → Kind → Draft → ℕ → List (List ℕ) → Next
 kind_step Head Round d line fs = and_then (head_of line fs) (λ h. Ok (Doors 1, with_head d h))
 kind_step (Doors k) Door d line fs =

@@ -4,19 +4,21 @@ use Rattle.text.specs.declared.token.Token.{Token}
 use Rattle.text.specs.declared.token.Token.TheVariants.{Number, Negative, Dash, Word}
 use Rattle.text.specs.Number.{plain, minus, dash}
 
--- the bytes of a token, its line and its field
+-- the bytes of a token
 abbrev pub bytes_of : Token → List ℕ
 bytes_of (Number b l f) = b.now
 bytes_of (Negative b l f) = b.now
 bytes_of (Dash b l f) = b.now
 bytes_of (Word b l f) = b.now
 
+-- its line, from 1
 abbrev pub line_of : Token → ℕ
 line_of (Number b l f) = l
 line_of (Negative b l f) = l
 line_of (Dash b l f) = l
 line_of (Word b l f) = l
 
+-- its field, from 1
 abbrev pub field_of : Token → ℕ
 field_of (Number b l f) = f
 field_of (Negative b l f) = f
