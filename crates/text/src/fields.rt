@@ -1,9 +1,11 @@
 //! A line cut into its fields.
 ghost use Rattle.std.specs.Prelude.{◌≡◌, ℕ, ◌-◌, ◌<◌, ◌≤◌, List, [], length, slice_index_or};
 ghost use Rattle.std.specs.Borrow.{Bor};
+ghost use Rattle.text.specs.Kinds.{named};
 ghost use Rattle.text.specs.Pieces.{fields_in};
 ghost use Rattle.text.specs.Tokens.{Formed, bytes_of, line_of, field_of};
 
+use crate::kind::{Kind, kind_of};
 use crate::token::{Token, token_of};
 
 /// As many fields as a line may have: those of the drives to 16 doors.
@@ -50,11 +52,11 @@ impl<'a> Line<'a> {
         self.count
     }
 
-    /// The kind's field, the first.
-    pub(crate) fn kind(&self) -> &'a [u8]
-        ensures { result.now ≡ slice_index_or (fields_in self.now.bytes.now) 0 [] }
+    /// The kind that the first field names.
+    pub(crate) fn kind(&self) -> Kind
+        ensures { result ≡ named (slice_index_or (fields_in self.now.bytes.now) 0 []) }
     {
-        self.fields[0]
+        kind_of(&self.fields)
     }
 
     /// The token of the field of that number, from 1; where there is none, the field is empty.

@@ -1,5 +1,6 @@
 //! The kinds of lines.
-ghost use Rattle.std.specs.Prelude.{◌≡◌};
+ghost use Rattle.std.specs.Prelude.{◌≡◌, List, ℕ, ◌≤◌, length, slice_index_or};
+ghost use Rattle.std.specs.Borrow.{Bor};
 ghost use Rattle.text.specs.Kinds.{named};
 
 #[derive(Clone, Copy)]
@@ -11,15 +12,16 @@ pub(crate) enum Kind {
     Other,
 }
 
-/// The kind that a line's first field names.
-pub(crate) fn kind_of(field: &[u8]) -> Kind
-    ensures { result ≡ named field.now }
+/// The kind that a line's first field names; the rest of the line follows.
+pub(crate) fn kind_of(fields: &[&[u8]]) -> Kind
+    requires { 1 ≤ length fields.now }
+    ensures { (d : Bor (List ℕ)) → result ≡ named (slice_index_or fields.now 0 d).now }
 {
-    match field {
-        [b'r', b'o', b'u', b'n', b'd'] => Kind::Round,
-        [b'd', b'o', b'o', b'r'] => Kind::Door,
-        [b'd', b'r', b'i', b'v', b'e'] => Kind::Drive,
-        [b'f', b'i', b'r', b's', b't'] => Kind::First,
+    match fields {
+        [[b'r', b'o', b'u', b'n', b'd'], ..] => Kind::Round,
+        [[b'd', b'o', b'o', b'r'], ..] => Kind::Door,
+        [[b'd', b'r', b'i', b'v', b'e'], ..] => Kind::Drive,
+        [[b'f', b'i', b'r', b's', b't'], ..] => Kind::First,
         _ => Kind::Other,
     }
 }

@@ -7,7 +7,7 @@ ghost use Rattle.text.specs.declared.stage.Stage.TheVariants.{Head, Doors, Drive
 
 use crate::draft::Draft;
 use crate::fields::Line;
-use crate::kind::{Kind, kind_of};
+use crate::kind::Kind;
 use crate::line::{door_due, head_of, pair_of, row_due};
 use crate::refusal::Refusal;
 use crate::stage::Stage;
@@ -71,7 +71,7 @@ pub(crate) fn take_line(draft: &mut Draft, stage: Stage, line: &Line<'_>) -> Res
         ≡ line_step stage draft.old line.now.number (fields_of line.now) }
     ensures ready { IfOk result (λ s. Ready s draft.new) }
 {
-    match (stage, kind_of(line.kind())) {
+    match (stage, line.kind()) {
         (Stage::Head, Kind::Round) => take_head(draft, line),
         (Stage::Doors(due), Kind::Door) => take_door(draft, due, line),
         (Stage::Drives(from), Kind::Drive) => take_drive(draft, from, line),
