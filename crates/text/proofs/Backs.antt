@@ -1,8 +1,9 @@
 -- A text of the form is accepted.
-use Rattle.std.proofs.Common.{◌≡◌, ℕ, suc, ◌+◌, ◌-◌, ◌<◌, ◌≤◌, Bool, true, false, cond, eqb, ltb, List, [], ◌∷◌, ◌++◌, map, fold, length, get_or, drop, set, replicate, ℤ, pos, negsuc, ◌≤ℤ◌, Ok, Err, decimal, sym, refl, ap, ◌∙◌, arith, le-ltb, lt-ltb, eq-eqb, ne_eqb}
+use Rattle.std.proofs.Common.{◌≡◌, ℕ, suc, ◌+◌, ◌-◌, ◌<◌, ◌≤◌, Bool, true, false, nat_eq, nat_lt, List, [], ◌∷◌, ◌++◌, map, fold, length, slice_index_or, drop, slice_set, replicate, ℤ, pos, negsuc, ◌≤ℤ◌, Ok, Err, decimal, sym, refl, ap, ◌∙◌, arith, le-ltb, lt-ltb, eq-eqb, ne_eqb}
 use borrow.Author.Differences.{ints}
 use Rattle.std.specs.Fmt.{signed_decimal}
 use Rattle.std.specs.List.{All, list_all, join_with_byte}
+use Rattle.std.specs.Bool.{if◌then◌else◌}
 use Rattle.std.specs.Str.{all_ascii_digits}
 use Rattle.std.proofs.lemmas.Bool.{and_parts}
 use Rattle.std.proofs.lemmas.Bool.Decides.{nat_tests}
@@ -32,7 +33,7 @@ use Rattle.text.proofs.Texts.{read_more}
 
 -- each byte is above the separators
 abbrev clear : List ℕ → Bool
-clear f = list_all (λ b. ltb 44 b) f
+clear f = list_all (λ b. nat_lt 44 b) f
 
 -- digits are
 clear-digits : (f : List ℕ) → all_ascii_digits f ≡ true → clear f ≡ true
@@ -51,7 +52,7 @@ clear-signed (negsuc v) l h = clear-decimal (suc v) (omega (arith, ints))
 -- no separator stands in such a field
 lacks-clear : (s : ℕ) (f : List ℕ) → s ≤ 44 → clear f ≡ true → Lacks s f
 lacks-clear s f l h =
-    All-weaker (λ b. ltb 44 b ≡ true) (λ b. eqb b s ≡ false) (λ b m. grind (arith, nat_tests)) f (AllPass-from_list_all (λ b. ltb 44 b) f h)
+    All-weaker (λ b. nat_lt 44 b ≡ true) (λ b. nat_eq b s ≡ false) (λ b m. grind (arith, nat_tests)) f (AllPass-from_list_all (λ b. nat_lt 44 b) f h)
 
 -- a line of such fields
 abbrev Clean : List (List ℕ) → Type 0
@@ -61,7 +62,7 @@ Clean fs = (0 < length fs) × (list_all clear fs ≡ true)
 pieces-joined : (fs : List (List ℕ)) → Clean fs → fields_in (join_with_byte 9 fs) ≡ fs
 pieces-joined [] c = absurd (omega arith)
 pieces-joined (f ∷ []) c =
-    slice_split_none (λ b. eqb b 9) f (lacks-clear 9 f (omega arith) (and_parts (clear f) true c.1).0)
+    slice_split_none (λ b. nat_eq b 9) f (lacks-clear 9 f (omega arith) (and_parts (clear f) true c.1).0)
 pieces-joined (f ∷ g ∷ fs) c =
     let p = and_parts (clear f) (list_all clear (g ∷ fs)) c.1 in
     pieces_more 9 f (join_with_byte 9 (g ∷ fs)) (lacks-clear 9 f (omega arith) p.0)
@@ -69,12 +70,12 @@ pieces-joined (f ∷ g ∷ fs) c =
 
 -- no line feed stands in a line of such fields
 lacks-joined : (fs : List (List ℕ)) → list_all clear fs ≡ true → Lacks 10 (join_with_byte 9 fs)
-lacks-joined [] c = All-nil (λ b. eqb b 10 ≡ false)
+lacks-joined [] c = All-nil (λ b. nat_eq b 10 ≡ false)
 lacks-joined (f ∷ []) c = lacks-clear 10 f (omega arith) (and_parts (clear f) true c).0
 lacks-joined (f ∷ g ∷ fs) c =
     let p = and_parts (clear f) (list_all clear (g ∷ fs)) c in
-    All-append (λ b. eqb b 10 ≡ false) f (9 ∷ join_with_byte 9 (g ∷ fs)) (lacks-clear 10 f (omega arith) p.0)
-    (All-cons (λ b. eqb b 10 ≡ false) 9 (join_with_byte 9 (g ∷ fs)) refl (lacks-joined (g ∷ fs) p.1))
+    All-append (λ b. nat_eq b 10 ≡ false) f (9 ∷ join_with_byte 9 (g ∷ fs)) (lacks-clear 10 f (omega arith) p.0)
+    (All-cons (λ b. nat_eq b 10 ≡ false) 9 (join_with_byte 9 (g ∷ fs)) refl (lacks-joined (g ∷ fs) p.1))
 
 -- ---- a line of each kind is taken
 
@@ -95,7 +96,7 @@ head-back d h line a b c e =
     rw (number-back 1 16 h.n line 2 a b (omega arith), number-back 0 999 h.load line 3 (omega arith) (omega arith) (omega arith), number-back h.load 999 h.cap line 4 c e (omega arith))
 
 -- so is the line of door k
-door-back : (k : ℕ) (d : Draft) (x : door.Door) (line : ℕ) → 1 ≤ k → k ≤ d.n → d.n ≤ 16 → DoorFits x → line_step (Doors k) d line (door_fields k x) ≡ Ok (cond (ltb k d.n) (Doors (k + 1)) (Drives 0), with_door d k x)
+door-back : (k : ℕ) (d : Draft) (x : door.Door) (line : ℕ) → 1 ≤ k → k ≤ d.n → d.n ≤ 16 → DoorFits x → line_step (Doors k) d line (door_fields k x) ≡ Ok (if nat_lt k d.n then Doors (k + 1) else Drives 0, with_door d k x)
 door-back k d x line a b c f =
     rw (
       number-back 1 d.n k line 2 a b (omega arith),
@@ -117,7 +118,7 @@ pair-back d p line l f =
     )
 
 -- and the field of a drive
-leg-back : (i j line v : ℕ) (fs : List (List ℕ)) → get_or fs (j + 2 - 1) [] ≡ leg_field i j v → LegFits i j v → leg_in i j line fs ≡ Ok v
+leg-back : (i j line v : ℕ) (fs : List (List ℕ)) → slice_index_or fs (j + 2 - 1) [] ≡ leg_field i j v → LegFits i j v → leg_in i j line fs ≡ Ok v
 leg-back i j line v fs e f =
     let n = number-back 0 999 v line (j + 2) (omega arith) f.0 (omega arith) in
     rw e (grind (arith, nat_tests))
@@ -127,10 +128,10 @@ legs-back : (vs : List ℕ) (i j line : ℕ) (fs : List (List ℕ)) (row : List 
 legs-back [] i j line fs row e f = refl
 legs-back (v ∷ vs) i j line fs row e f =
     let place : j + 2 - 1 ≡ j + 1 + 0 = omega arith in
-    let first = ap (λ k. get_or fs k []) place ∙ sym (get_or-drop (j + 1) fs 0 []) ∙ ap (λ t. get_or t 0 []) e in
+    let first = ap (λ k. slice_index_or fs k []) place ∙ sym (get_or-drop (j + 1) fs 0 []) ∙ ap (λ t. slice_index_or t 0 []) e in
     let rest = sym (drop-drop 1 (j + 1) fs) ∙ ap (λ t. drop 1 t) e in
-    ap (λ r. and_then r (λ leg. row_from (length vs) i (j + 1) line fs (set row j leg))) (leg-back i j line v fs first f.0)
-    ∙ legs-back vs i (j + 1) line fs (set row j v) rest f.1
+    ap (λ r. and_then r (λ leg. row_from (length vs) i (j + 1) line fs (slice_set row j leg))) (leg-back i j line v fs first f.0)
+    ∙ legs-back vs i (j + 1) line fs (slice_set row j v) rest f.1
 
 -- as many as there were
 length-map_from : {A B : Type 0} (f : ℕ → A → B) (i : ℕ) (xs : List A) → length (map_from f i xs) ≡ length xs
@@ -138,7 +139,7 @@ length-map_from f i [] = refl
 length-map_from f i (x ∷ xs) = ap suc (length-map_from f (i + 1) xs)
 
 -- and the drive line of place k
-row-back : (k : ℕ) (d : Draft) (vs : List ℕ) (line : ℕ) → k ≤ d.n → d.n ≤ 16 → RowFits d.n k vs → line_step (Drives k) d line (row_fields k vs) ≡ Ok (cond (ltb k d.n) (Drives (k + 1)) Pairs, with_row d k (row_of vs))
+row-back : (k : ℕ) (d : Draft) (vs : List ℕ) (line : ℕ) → k ≤ d.n → d.n ≤ 16 → RowFits d.n k vs → line_step (Drives k) d line (row_fields k vs) ≡ Ok (if nat_lt k d.n then Drives (k + 1) else Pairs, with_row d k (row_of vs))
 row-back k d vs line a b f =
     let many : length (row_fields k vs) ≡ d.n + 2 = omega (arith, length-map_from (leg_field k) 1 vs) in
     let row : row_from d.n k 1 line (row_fields k vs) (replicate 17 0) ≡ Ok (row_of vs) = rw (← f.0) (legs-back vs k 1 line (row_fields k vs) (replicate 17 0) refl f.1) in
@@ -165,7 +166,7 @@ gives-pairs (p ∷ qs) line d l f =
     line-gives (pair_fields p) (map pair_fields qs) line Pairs Pairs d (with_pair d p) _ clean (pair-back d p line l fits) (gives-pairs qs (line + 1) (with_pair d p) l (All-tail (PairFits d.n) p qs f))
 
 -- the drive line of place k, and the lines after it
-row-gives : (vs : List ℕ) (fss : List (List (List ℕ))) (k line : ℕ) (d e : Draft) → d.n ≤ 16 → k ≤ d.n → RowFits d.n k vs → Gives fss (line + 1) (cond (ltb k d.n) (Drives (k + 1)) Pairs) (with_row d k (row_of vs)) e → Gives (row_fields k vs ∷ fss) line (Drives k) d e
+row-gives : (vs : List ℕ) (fss : List (List (List ℕ))) (k line : ℕ) (d e : Draft) → d.n ≤ 16 → k ≤ d.n → RowFits d.n k vs → Gives fss (line + 1) (if nat_lt k d.n then Drives (k + 1) else Pairs) (with_row d k (row_of vs)) e → Gives (row_fields k vs ∷ fss) line (Drives k) d e
 row-gives vs fss k line d e l m f g =
     let clean : Clean (row_fields k vs) = (omega arith, rw (clear-decimal k (omega arith)) (clean-legs k 1 vs f.1)) in
     line-gives (row_fields k vs) fss line (Drives k) _ d (with_row d k (row_of vs)) e clean (row-back k d vs line m l f) g
@@ -180,7 +181,7 @@ gives-rows (r ∷ x ∷ rs) gss k line d e l m c f g =
     (rw (lt-ltb k d.n (omega arith)) (gives-rows (x ∷ rs) gss (k + 1) (line + 1) (with_row d k (row_of r)) e l (omega arith) (omega arith) f.1 g))
 
 -- the line of door k, and the lines after it
-door-gives : (x : door.Door) (fss : List (List (List ℕ))) (k line : ℕ) (d e : Draft) → d.n ≤ 16 → 1 ≤ k → k ≤ d.n → DoorFits x → Gives fss (line + 1) (cond (ltb k d.n) (Doors (k + 1)) (Drives 0)) (with_door d k x) e → Gives (door_fields k x ∷ fss) line (Doors k) d e
+door-gives : (x : door.Door) (fss : List (List (List ℕ))) (k line : ℕ) (d e : Draft) → d.n ≤ 16 → 1 ≤ k → k ≤ d.n → DoorFits x → Gives fss (line + 1) (if nat_lt k d.n then Doors (k + 1) else Drives 0) (with_door d k x) e → Gives (door_fields k x ∷ fss) line (Doors k) d e
 door-gives x fss k line d e l o m f g =
     line-gives (door_fields k x) fss line (Doors k) _ d (with_door d k x) e (clean-door k x (omega arith) f) (door-back k d x line o m l f) g
 

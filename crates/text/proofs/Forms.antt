@@ -1,6 +1,7 @@
 -- An accepted text has the form of a round's text.
-use Rattle.std.proofs.Common.{◌≡◌, ◌≢◌, ◌⊎◌, ℕ, zero, suc, ◌+◌, ◌-◌, ◌<◌, ◌≤◌, Bool, true, false, cond, eqb, ltb, List, [], ◌∷◌, ◌++◌, map, fold, length, get_or, drop, set, replicate, Ok, Err, codes, Result, sym, refl, ap, ◌∙◌, subst, ⊎_elim, arith, eqb-true, ltb-true, ltb-false}
+use Rattle.std.proofs.Common.{◌≡◌, ◌≢◌, ◌⊎◌, ℕ, zero, suc, ◌+◌, ◌-◌, ◌<◌, ◌≤◌, Bool, true, false, nat_eq, nat_lt, List, [], ◌∷◌, ◌++◌, map, fold, length, slice_index_or, drop, slice_set, replicate, Ok, Err, codes, Result, sym, refl, ap, ◌∙◌, subst, ⊎_elim, arith, eqb-true, ltb-true, ltb-false}
 use Rattle.std.specs.List.{All, join_with_byte, range_with_len}
+use Rattle.std.specs.Bool.{if◌then◌else◌}
 use Rattle.std.specs.Str.{bytes_eq}
 use Rattle.std.proofs.lemmas.Bool.{cases_Bool}
 use Rattle.std.proofs.lemmas.Bool.Decides.{nat_tests}
@@ -38,9 +39,9 @@ then_ok (Ok a) k b e = (a, refl, e)
 then_ok (Err x) k b e = absurd cc
 
 -- a test that was passed
-cond-ok : {A : Type 0} (t : Bool) (r : Result A Refusal) (x : Refusal) (b : A) → cond t r (Err x) ≡ Ok b → (t ≡ true) × (r ≡ Ok b)
-cond-ok true r x b e = (refl, e)
-cond-ok false r x b e = absurd cc
+if_ok : {A : Type 0} (t : Bool) (r : Result A Refusal) (x : Refusal) (b : A) → (if t then r else Err x) ≡ Ok b → (t ≡ true) × (r ≡ Ok b)
+if_ok true r x b e = (refl, e)
+if_ok false r x b e = absurd cc
 
 -- a number that went on
 then-number : {B : Type 0} (low high : ℕ) (f : List ℕ) (line k : ℕ) (K : ℕ → Result B Refusal) (b : B) → high ≤ 9999 → and_then (number_in low high f line k) K ≡ Ok b → (v : ℕ) × Says low high f v × (K v ≡ Ok b)
@@ -85,17 +86,17 @@ named-is f First e = grind (arith, word_tells f)
 named-is f Other e = tt
 
 -- a line that is taken has the word of the kind that is due
-line-due : (s : Stage) (d : Draft) (line : ℕ) (fs : List (List ℕ)) (t : Stage × Draft) → line_step s d line fs ≡ Ok t → Named (due s) (get_or fs 0 []) × (kind_step s (due s) d line fs ≡ Ok t)
+line-due : (s : Stage) (d : Draft) (line : ℕ) (fs : List (List ℕ)) (t : Stage × Draft) → line_step s d line fs ≡ Ok t → Named (due s) (slice_index_or fs 0 []) × (kind_step s (due s) d line fs ≡ Ok t)
 line-due s d line fs t e =
-    let k = kind-due s (named (get_or fs 0 [])) d line fs t e in
-    (named-is (get_or fs 0 []) (due s) k, rw k at e)
+    let k = kind-due s (named (slice_index_or fs 0 [])) d line fs t e in
+    (named-is (slice_index_or fs 0 []) (due s) k, rw k at e)
 
 -- the fields of a line that has so many
-fields-are : {A : Type 0} (n line : ℕ) (fs : List (List ℕ)) (r : Result A Refusal) (b : A) → counted n line fs r ≡ Ok b → (length fs ≡ n) × (fs ≡ map (λ k. get_or fs k []) (range_with_len 0 n)) × (r ≡ Ok b)
+fields-are : {A : Type 0} (n line : ℕ) (fs : List (List ℕ)) (r : Result A Refusal) (b : A) → counted n line fs r ≡ Ok b → (length fs ≡ n) × (fs ≡ map (λ k. slice_index_or fs k []) (range_with_len 0 n)) × (r ≡ Ok b)
 fields-are n line fs r b e =
-    let c = cond-ok (eqb (length fs) n) r (FieldCount line) b e in
+    let c = if_ok (nat_eq (length fs) n) r (FieldCount line) b e in
     let many = eqb-true (length fs) n c.0 in
-    (many, fill_by_all (λ k. get_or fs k []) fs n [] many (λ k m. refl), c.1)
+    (many, fill_by_all (λ k. slice_index_or fs k []) fs n [] many (λ k m. refl), c.1)
 
 -- ---- a line of each kind
 
@@ -105,69 +106,69 @@ pair-form d line fs t l e =
     let q = line-due Pairs d line fs t e in
     let o = then_ok (pair_of d.n line fs) _ t q.1 in
     let c = fields-are 3 line fs _ o.0 o.1 in
-    let a = then-number 1 d.n (get_or fs 1 []) line 2 _ o.0 (omega arith) c.2 in
-    let b = then-number 1 d.n (get_or fs 2 []) line 3 _ o.0 (omega arith) a.2 in
+    let a = then-number 1 d.n (slice_index_or fs 1 []) line 2 _ o.0 (omega arith) c.2 in
+    let b = then-number 1 d.n (slice_index_or fs 2 []) line 3 _ o.0 (omega arith) a.2 in
     let p : pair.Pair = record { first = a.0; then = b.0 } in
     let r : (a.0 ≢ b.0) × (p ≡ o.0) = grind (arith, nat_tests, b.2) in
     (p, cc, record { first = a.1.from; most = a.1.to; second = b.1.from; last = b.1.to; apart = r.0 }, cc)
 
 -- so is a round line
-head-form : (line : ℕ) (fs : List (List ℕ)) (t : Stage × Draft) → line_step Head unread line fs ≡ Ok t → (h : head.Head) × (head_fields h ≡ fs) × Says 1 16 (get_or fs 1 []) h.n × Says h.load 999 (get_or fs 3 []) h.cap × ((Doors 1, with_head unread h) ≡ t)
+head-form : (line : ℕ) (fs : List (List ℕ)) (t : Stage × Draft) → line_step Head unread line fs ≡ Ok t → (h : head.Head) × (head_fields h ≡ fs) × Says 1 16 (slice_index_or fs 1 []) h.n × Says h.load 999 (slice_index_or fs 3 []) h.cap × ((Doors 1, with_head unread h) ≡ t)
 head-form line fs t e =
     let q = line-due Head unread line fs t e in
     let o = then_ok (head_of line fs) _ t q.1 in
     let c = fields-are 4 line fs _ o.0 o.1 in
-    let a = then-number 1 16 (get_or fs 1 []) line 2 _ o.0 (omega arith) c.2 in
-    let b = then-number 0 999 (get_or fs 2 []) line 3 _ o.0 (omega arith) a.2 in
-    let f = then-number b.0 999 (get_or fs 3 []) line 4 _ o.0 (omega arith) b.2 in
+    let a = then-number 1 16 (slice_index_or fs 1 []) line 2 _ o.0 (omega arith) c.2 in
+    let b = then-number 0 999 (slice_index_or fs 2 []) line 3 _ o.0 (omega arith) a.2 in
+    let f = then-number b.0 999 (slice_index_or fs 3 []) line 4 _ o.0 (omega arith) b.2 in
     (record { n = a.0; load = b.0; cap = f.0 }, cc, a.1, f.1, cc)
 
 -- where a line goes on after its number, that is the one that is due
-turn-says : {A : Type 0} (low high due line : ℕ) (fs : List (List ℕ)) (r : Result A Refusal) (b : A) → high ≤ 9999 → and_then (in_turn low high due line fs) (λ _. r) ≡ Ok b → Says low high (get_or fs 1 []) due × (r ≡ Ok b)
+turn-says : {A : Type 0} (low high due line : ℕ) (fs : List (List ℕ)) (r : Result A Refusal) (b : A) → high ≤ 9999 → and_then (in_turn low high due line fs) (λ _. r) ≡ Ok b → Says low high (slice_index_or fs 1 []) due × (r ≡ Ok b)
 turn-says low high due line fs r b l e =
     let o = then_ok (in_turn low high due line fs) _ b e in
-    let a = then-number low high (get_or fs 1 []) line 2 _ o.0 l o.1 in
-    let c = cond-ok (eqb a.0 due) (Ok tt) (OutOfTurn line 2) o.0 a.2 in
-    (subst (Says low high (get_or fs 1 [])) (eqb-true a.0 due c.0) a.1, o.2)
+    let a = then-number low high (slice_index_or fs 1 []) line 2 _ o.0 l o.1 in
+    let c = if_ok (nat_eq a.0 due) (Ok tt) (OutOfTurn line 2) o.0 a.2 in
+    (subst (Says low high (slice_index_or fs 1 [])) (eqb-true a.0 due c.0) a.1, o.2)
 
 -- so is a door line
-door-form : (d : Draft) (k line : ℕ) (fs : List (List ℕ)) (t : Stage × Draft) → d.n ≤ 16 → line_step (Doors k) d line fs ≡ Ok t → (x : door.Door) × (door_fields k x ≡ fs) × DoorFits x × ((cond (ltb k d.n) (Doors (k + 1)) (Drives 0), with_door d k x) ≡ t)
+door-form : (d : Draft) (k line : ℕ) (fs : List (List ℕ)) (t : Stage × Draft) → d.n ≤ 16 → line_step (Doors k) d line fs ≡ Ok t → (x : door.Door) × (door_fields k x ≡ fs) × DoorFits x × ((if nat_lt k d.n then Doors (k + 1) else Drives 0, with_door d k x) ≡ t)
 door-form d k line fs t l e =
     let q = line-due (Doors k) d line fs t e in
     let o = then_ok (door_due d.n k line fs) _ t q.1 in
     let x = o.0 in
     let c = fields-are 7 line fs _ x o.1 in
     let i = turn-says 1 d.n k line fs _ x (omega arith) c.2 in
-    let a = then-number 0 9999 (get_or fs 2 []) line 3 _ x (omega arith) i.1 in
-    let b = then-number 0 9999 (get_or fs 3 []) line 4 _ x (omega arith) a.2 in
-    let f = then-number 0 9999 (get_or fs 4 []) line 5 _ x (omega arith) b.2 in
-    let w = then-number 1 999 (get_or fs 5 []) line 6 _ x (omega arith) f.2 in
-    let g = then_ok (change_in (get_or fs 6 []) line 7) _ x w.2 in
-    let z = change-says (get_or fs 6 []) line 7 g.0 g.1 in
+    let a = then-number 0 9999 (slice_index_or fs 2 []) line 3 _ x (omega arith) i.1 in
+    let b = then-number 0 9999 (slice_index_or fs 3 []) line 4 _ x (omega arith) a.2 in
+    let f = then-number 0 9999 (slice_index_or fs 4 []) line 5 _ x (omega arith) b.2 in
+    let w = then-number 1 999 (slice_index_or fs 5 []) line 6 _ x (omega arith) f.2 in
+    let g = then_ok (change_in (slice_index_or fs 6 []) line 7) _ x w.2 in
+    let z = change-says (slice_index_or fs 6 []) line 7 g.0 g.1 in
     let r : door.Door = record { opens = a.0; closes = b.0; due = f.0; work = w.0; change = g.0 } in
     let fits : DoorFits r = record { opens = a.1.to; closes = b.1.to; due = f.1.to; some = w.1.from; work = w.1.to; low = z.low; high = z.high } in
     (r, cc, fits, cc)
 
 -- and the field of a drive
-leg-form : (i j line : ℕ) (fs : List (List ℕ)) (v : ℕ) → leg_in i j line fs ≡ Ok v → (leg_field i j v ≡ get_or fs (j + 2 - 1) []) × LegFits i j v
+leg-form : (i j line : ℕ) (fs : List (List ℕ)) (v : ℕ) → leg_in i j line fs ≡ Ok v → (leg_field i j v ≡ slice_index_or fs (j + 2 - 1) []) × LegFits i j v
 leg-form i j line fs v e =
-    let f = get_or fs (j + 2 - 1) [] in
+    let f = slice_index_or fs (j + 2 - 1) [] in
     grind (arith, nat_tests, word_tells f (codes "-"), number-says 0 999 f line (j + 2) v)
 
 -- and the fields of the drives to the doors from j on
 legs-form : (m i j line : ℕ) (fs : List (List ℕ)) (row out : List ℕ) → length fs ≡ j + 1 + m → row_from m i j line fs row ≡ Ok out → (vs : List ℕ) × (length vs ≡ m) × (map_from (leg_field i) j vs ≡ drop (j + 1) fs) × (fill j vs row ≡ out) × AllFrom (LegFits i) j vs
 legs-form zero i j line fs row out l e = ([], refl, sym (drop_all (j + 1) fs (omega arith)), cc, tt)
 legs-form (suc m) i j line fs row out l e =
-    let a = then_ok (leg_in i j line fs) (λ leg. row_from m i (j + 1) line fs (set row j leg)) out e in
+    let a = then_ok (leg_in i j line fs) (λ leg. row_from m i (j + 1) line fs (slice_set row j leg)) out e in
     let f = leg-form i j line fs a.0 a.1 in
-    let h = legs-form m i (j + 1) line fs (set row j a.0) out (omega arith) a.2 in
+    let h = legs-form m i (j + 1) line fs (slice_set row j a.0) out (omega arith) a.2 in
     let place : j + 2 - 1 ≡ j + 1 = omega arith in
     let more = drop_more fs (j + 1) [] (omega arith) in
-    let first = f.0 ∙ ap (λ k. get_or fs k []) place in
+    let first = f.0 ∙ ap (λ k. slice_index_or fs k []) place in
     (a.0 ∷ h.0, omega (arith, h.1), cc, h.3, (f.1, h.4))
 
 -- and a drive line
-row-form : (d : Draft) (k line : ℕ) (fs : List (List ℕ)) (t : Stage × Draft) → d.n ≤ 16 → line_step (Drives k) d line fs ≡ Ok t → (vs : List ℕ) × (row_fields k vs ≡ fs) × RowFits d.n k vs × ((cond (ltb k d.n) (Drives (k + 1)) Pairs, with_row d k (row_of vs)) ≡ t)
+row-form : (d : Draft) (k line : ℕ) (fs : List (List ℕ)) (t : Stage × Draft) → d.n ≤ 16 → line_step (Drives k) d line fs ≡ Ok t → (vs : List ℕ) × (row_fields k vs ≡ fs) × RowFits d.n k vs × ((if nat_lt k d.n then Drives (k + 1) else Pairs, with_row d k (row_of vs)) ≡ t)
 row-form d k line fs t l e =
     let q = line-due (Drives k) d line fs t e in
     let o = then_ok (row_due d.n k line fs) _ t q.1 in
@@ -194,7 +195,7 @@ end-run line s d e h = absurd cc
 run-lines : (ps : List (List ℕ)) (line : ℕ) (s : Stage) (d e : Draft) → 0 < length ps → read_lines ps line s d ≡ Ok e → (fss : List (List (List ℕ))) × (written fss ≡ join_with_byte 10 ps) × Run fss s d e
 run-lines [] line s d e l h = absurd (omega arith)
 run-lines (p ∷ []) line s d e l h =
-    let a = cond-ok (eqb (length p) 0) (at_end s d line) (Unended line) e h in
+    let a = if_ok (nat_eq (length p) 0) (at_end s d line) (Unended line) e h in
     ([], sym (nil_from_length p (eqb-true (length p) 0 a.0)), end-run line s d e a.1)
 run-lines (p ∷ q ∷ ps) line s d e l h =
     let a = then_ok (line_step s d line (fields_in p)) _ e h in
@@ -221,7 +222,7 @@ rows-form (fs ∷ fss) k d e l m r =
     let i = rows-form fss (k + 1) (with_row d k (row_of q.0)) e l (omega (arith, ltb-true k d.n t)) (rw t at go) in
     (q.0 ∷ i.0, i.1, cc, omega (arith, i.3), (q.2, i.4), i.5))
     (λ t. (q.0 ∷ [], fss, cc, omega (arith, ltb-false k d.n t), (q.2, tt), rw t at go))
-    (cases_Bool (ltb k d.n))
+    (cases_Bool (nat_lt k d.n))
 
 -- the lines from door k on: door lines, and what drives make of the rest
 doors-form : (fss : List (List (List ℕ))) (k : ℕ) (d e : Draft) → d.n ≤ 16 → k ≤ d.n → Run fss (Doors k) d e → (xs : List door.Door) × (gss : List (List (List ℕ))) × (map_from door_fields k xs ++ gss ≡ fss) × (length xs + k ≡ d.n + 1) × All DoorFits xs × Run gss (Drives 0) (record d { doors = fill k xs d.doors }) e
@@ -234,7 +235,7 @@ doors-form (fs ∷ fss) k d e l m r =
     let i = doors-form fss (k + 1) (with_door d k q.0) e l (omega (arith, ltb-true k d.n t)) (rw t at go) in
     (q.0 ∷ i.0, i.1, cc, omega (arith, i.3), All-cons DoorFits q.0 i.0 q.2 i.4, i.5))
     (λ t. (q.0 ∷ [], fss, cc, omega (arith, ltb-false k d.n t), All-cons DoorFits q.0 [] q.2 (All-nil DoorFits), rw t at go))
-    (cases_Bool (ltb k d.n))
+    (cases_Bool (nat_lt k d.n))
 
 -- all lines
 run-form : (fss : List (List (List ℕ))) (e : Draft) → Run fss Head unread e → HasForm (written fss) e

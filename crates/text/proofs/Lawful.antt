@@ -1,5 +1,5 @@
 -- The round of contents in range is lawful.
-use Rattle.std.proofs.Common.{◌≡◌, ℕ, zero, suc, ◌+◌, ◌-◌, ◌<◌, ◌≤◌, List, [], ◌∷◌, map, length, get_or, set, replicate, pos, negsuc, ◌≤ℤ◌, refl, subst, arith}
+use Rattle.std.proofs.Common.{◌≡◌, ℕ, zero, suc, ◌+◌, ◌-◌, ◌<◌, ◌≤◌, List, [], ◌∷◌, map, length, slice_index_or, slice_set, replicate, pos, negsuc, ◌≤ℤ◌, refl, subst, arith}
 use borrow.Author.Differences.{ints}
 use Rattle.std.specs.List.{All}
 use Rattle.std.proofs.lemmas.Grind.{common_steps}
@@ -11,7 +11,7 @@ use Rattle.text.specs.declared.draft.Draft.{Draft}
 use Rattle.text.specs.Form.{AllFrom, DoorFits, LegFits, RowFits, Fits, Content, fill, row_of, round_of, HasForm}
 
 -- what holds of each element at its place, the default too, holds after a write
-set-each : {A : Type 0} (P : ℕ → A → Type 0) (d : A) (xs : List A) (i : ℕ) (x : A) → P i x → ((k : ℕ) → P k (get_or xs k d)) → (k : ℕ) → P k (get_or (set xs i x) k d)
+set-each : {A : Type 0} (P : ℕ → A → Type 0) (d : A) (xs : List A) (i : ℕ) (x : A) → P i x → ((k : ℕ) → P k (slice_index_or xs k d)) → (k : ℕ) → P k (slice_index_or (slice_set xs i x) k d)
 set-each P d [] i x p h k = h k
 set-each P d (y ∷ ys) zero x p h zero = p
 set-each P d (y ∷ ys) zero x p h (suc k) = h (suc k)
@@ -19,23 +19,23 @@ set-each P d (y ∷ ys) (suc i) x p h zero = h 0
 set-each P d (y ∷ ys) (suc i) x p h (suc k) = set-each (λ j. P (suc j)) d ys i x p (λ j. h (suc j)) k
 
 -- and after a table is filled with such
-fill-each : {A : Type 0} (P : ℕ → A → Type 0) (d : A) (xs : List A) (i : ℕ) (t : List A) → AllFrom P i xs → ((k : ℕ) → P k (get_or t k d)) → (k : ℕ) → P k (get_or (fill i xs t) k d)
+fill-each : {A : Type 0} (P : ℕ → A → Type 0) (d : A) (xs : List A) (i : ℕ) (t : List A) → AllFrom P i xs → ((k : ℕ) → P k (slice_index_or t k d)) → (k : ℕ) → P k (slice_index_or (fill i xs t) k d)
 fill-each P d [] i t f h k = h k
-fill-each P d (x ∷ xs) i t f h k = fill-each P d xs (i + 1) (set t i x) f.1 (set-each P d t i x f.0 h) k
+fill-each P d (x ∷ xs) i t f h k = fill-each P d xs (i + 1) (slice_set t i x) f.1 (set-each P d t i x f.0 h) k
 
 -- below the places that are filled nothing changes
-fill_below : {A : Type 0} (d : A) (xs : List A) (i k : ℕ) (t : List A) → k < i → get_or (fill i xs t) k d ≡ get_or t k d
+fill_below : {A : Type 0} (d : A) (xs : List A) (i k : ℕ) (t : List A) → k < i → slice_index_or (fill i xs t) k d ≡ slice_index_or t k d
 fill_below d [] i k t l = refl
-fill_below d (x ∷ xs) i k t l = grind (arith, common_steps, fill_below d xs (i + 1) k (set t i x))
+fill_below d (x ∷ xs) i k t l = grind (arith, common_steps, fill_below d xs (i + 1) k (slice_set t i x))
 
 -- a place that is filled has its element
-fill_at : {A : Type 0} (d : A) (xs : List A) (i j k : ℕ) (t : List A) → j ≡ i + k → i + length xs ≤ length t → k < length xs → get_or (fill i xs t) j d ≡ get_or xs k d
+fill_at : {A : Type 0} (d : A) (xs : List A) (i j k : ℕ) (t : List A) → j ≡ i + k → i + length xs ≤ length t → k < length xs → slice_index_or (fill i xs t) j d ≡ slice_index_or xs k d
 fill_at d [] i j k t e l m = absurd (omega arith)
-fill_at d (x ∷ xs) i j zero t e l m = grind (arith, common_steps, fill_below d xs (i + 1) j (set t i x))
-fill_at d (x ∷ xs) i j (suc k) t e l m = grind (arith, common_steps, fill_at d xs (i + 1) j k (set t i x))
+fill_at d (x ∷ xs) i j zero t e l m = grind (arith, common_steps, fill_below d xs (i + 1) j (slice_set t i x))
+fill_at d (x ∷ xs) i j (suc k) t e l m = grind (arith, common_steps, fill_at d xs (i + 1) j k (slice_set t i x))
 
 -- what holds of x, and of the default, holds of each copy of x
-replicated : {A : Type 0} (P : A → Type 0) (m : ℕ) (x d : A) → P x → P d → (k : ℕ) → P (get_or (replicate m x) k d)
+replicated : {A : Type 0} (P : A → Type 0) (m : ℕ) (x d : A) → P x → P d → (k : ℕ) → P (slice_index_or (replicate m x) k d)
 replicated P zero x d p q k = q
 replicated P (suc m) x d p q zero = p
 replicated P (suc m) x d p q (suc k) = replicated P m x d p q k
@@ -62,7 +62,7 @@ fair-blank = record { opens = omega arith; closes = omega arith; due = omega ari
 
 -- a row of drives from i
 abbrev pub FairRow : ℕ → List ℕ → Type 0
-FairRow i row = (k : ℕ) → LegFits i k (get_or row k 0)
+FairRow i row = (k : ℕ) → LegFits i k (slice_index_or row k 0)
 
 -- a row of zeros is one
 blank-row : (i : ℕ) → FairRow i (replicate 17 0)
@@ -81,7 +81,7 @@ pub record Whole (d : Draft) : Type 0 where
   pub small : d.cap ≤ 999
   pub doors : (k : ℕ) → Fair (at d.doors k)
   pub worked : (k : ℕ) → 1 ≤ k → k ≤ d.n → 1 ≤ (at d.doors k).work
-  pub rows : (i : ℕ) → FairRow i (get_or d.drives i [])
+  pub rows : (i : ℕ) → FairRow i (slice_index_or d.drives i [])
 
 -- the round of contents in range is lawful
 round-whole : (c : Content) → Fits c → Whole (round_of c)

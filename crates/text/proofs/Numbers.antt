@@ -1,5 +1,5 @@
 -- What the tests of a field's bytes tell, and how numbers are written.
-use Rattle.std.proofs.Common.{◌≡◌, ◌⊎◌, ℕ, zero, suc, ◌+◌, ◌-◌, ◌*◌, ◌<◌, ◌≤◌, true, ◌&&◌, List, [], ◌∷◌, length, get_or, take, drop, ℤ, pos, negsuc, neg_ℤ, ◌≤ℤ◌, Ok, codes, decimal, sym, refl, ap, ◌∙◌, subst, ⊎_elim, arith, le-leb, lt-ltb}
+use Rattle.std.proofs.Common.{◌≡◌, ◌⊎◌, ℕ, zero, suc, ◌+◌, ◌-◌, ◌*◌, ◌<◌, ◌≤◌, true, ◌&&◌, List, [], ◌∷◌, length, slice_index_or, take, drop, ℤ, pos, negsuc, neg_ℤ, ◌≤ℤ◌, Ok, codes, decimal, sym, refl, ap, ◌∙◌, subst, ⊎_elim, arith, le-leb, lt-ltb}
 use borrow.Author.Differences.{ints}
 use Rattle.std.specs.Char.{digit_value, is_ascii_digit}
 use Rattle.std.specs.Fmt.{signed_decimal}
@@ -23,7 +23,7 @@ all-digits [] = refl
 all-digits (x ∷ a) = ap (λ t. is_ascii_digit x && t) (all-digits a)
 
 -- the first digit is not 0, and the rest tells
-pub positive-rest : (a : List ℕ) → 1 ≤ length a → 49 ≤ get_or a 0 0 → get_or a 0 0 ≤ 57 → list_all is_ascii_digit (take (length a - 1) (drop 1 a)) ≡ positive a
+pub positive-rest : (a : List ℕ) → 1 ≤ length a → 49 ≤ slice_index_or a 0 0 → slice_index_or a 0 0 ≤ 57 → list_all is_ascii_digit (take (length a - 1) (drop 1 a)) ≡ positive a
 positive-rest [] l m n = absurd (omega arith)
 positive-rest (x ∷ a) l m n = rw (take_rest (x ∷ a) 1) (grind (arith, nat_tests, all-digits a))
 
@@ -32,13 +32,13 @@ pub own : IsNumeralModel (λ ds. all_ascii_digits ds ≡ true) (digits_value 10)
 own = numerals_by_value _ tells_all_ascii_digits
 
 -- a byte among digits is one
-pub digit-place : (a : List ℕ) (i : ℕ) → all_ascii_digits a ≡ true → i < length a → IsInRange 48 57 (get_or a i 0)
+pub digit-place : (a : List ℕ) (i : ℕ) → all_ascii_digits a ≡ true → i < length a → IsInRange 48 57 (slice_index_or a i 0)
 digit-place a i h l = digit_at a i (own.to a h) l
 
 -- one digit more
-pub value-step : (a : List ℕ) (i : ℕ) → i < length a → 48 ≤ get_or a i 0 → get_or a i 0 ≤ 57 → digits_value 10 (take (i + 1) a) ≡ digits_value 10 (take i a) * 10 + (get_or a i 0 - 48)
+pub value-step : (a : List ℕ) (i : ℕ) → i < length a → 48 ≤ slice_index_or a i 0 → slice_index_or a i 0 ≤ 57 → digits_value 10 (take (i + 1) a) ≡ digits_value 10 (take i a) * 10 + (slice_index_or a i 0 - 48)
 value-step a i l d e =
-    let v : digit_value (get_or a i 0) ≡ get_or a i 0 - 48 = grind (arith, nat_tests) in
+    let v : digit_value (slice_index_or a i 0) ≡ slice_index_or a i 0 - 48 = grind (arith, nat_tests) in
     digits_value_more 10 a i l ∙ ap (λ t. digits_value 10 (take i a) * 10 + t) v
 
 -- ---- from the bytes to the number
@@ -46,7 +46,7 @@ value-step a i l d e =
 -- digits that do not start with 0 are how their value is written
 decimal-positive : (f : List ℕ) → positive f ≡ true → digits_value 10 f ≤ 9999 → decimal (digits_value 10 f) ≡ f
 decimal-positive f e l =
-    let p : (all_ascii_digits f ≡ true) × (48 < get_or f 0 0) = grind (arith, nat_tests) in
+    let p : (all_ascii_digits f ≡ true) × (48 < slice_index_or f 0 0) = grind (arith, nat_tests) in
     decimal-digits_value own f p.0 (grind (arith, get_or_past f 0 0)) (λ z. absurd (omega arith)) (omega arith)
 
 -- so is 0
@@ -96,7 +96,7 @@ change-says f line k z e =
 -- a number other than 0 is written by digits that do not start with 0
 positive-decimal : (v : ℕ) → 0 < v → v ≤ 9999 → positive (decimal v) ≡ true
 positive-decimal v p l =
-    and_from _ _ (lt-ltb 48 (get_or (decimal v) 0 0) (first_decimal v p (omega arith))) (digits_decimal own v (omega arith))
+    and_from _ _ (lt-ltb 48 (slice_index_or (decimal v) 0 0) (first_decimal v p (omega arith))) (digits_decimal own v (omega arith))
 
 -- any number is written with no leading zero
 plain-decimal : (v : ℕ) → v ≤ 9999 → plain (decimal v) ≡ true

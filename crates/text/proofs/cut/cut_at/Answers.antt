@@ -1,4 +1,4 @@
-use Rattle.std.proofs.Common.{◌≡◌, false, eqb, rules, tests}
+use Rattle.std.proofs.Common.{◌≡◌, false, nat_eq, rules, tests}
 use Rattle.std.proofs.lemmas.List.Elements.{All-from_get_or}
 use Rattle.std.proofs.lemmas.List.Splits.{slice_split_none}
 use Rattle.text.proofs.Pieces.{pieces-cut}
@@ -10,4 +10,4 @@ returns-in-Some-clause-parts c =
 
 pub returns-in-None-clause-parts : goal.returns-in-None-clause-parts
 returns-in-None-clause-parts c =
-    slice_split_none (λ b. eqb b c.args.sep) c.args.bytes.now (All-from_get_or (λ b. eqb b c.args.sep ≡ false) c.args.bytes.now 0 (λ k l. search (rules, tests)))
+    slice_split_none (λ b. nat_eq b c.args.sep) c.args.bytes.now (All-from_get_or (λ b. nat_eq b c.args.sep ≡ false) c.args.bytes.now 0 (λ k l. search (rules, tests)))
