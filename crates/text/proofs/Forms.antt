@@ -1,9 +1,17 @@
 -- An accepted text has the form of a round's text.
-use Rattle.std.proofs.Common.{◌≡◌, ℕ, zero, suc, ◌+◌, ◌-◌, ◌<◌, ◌≤◌, Bool, true, false, cond, ◌&&◌, eqb, ltb, List, [], ◌∷◌, ◌++◌, map, length, get_or, drop, set, replicate, Ok, codes, decimal, sym, refl, ap, ◌∙◌, subst, ⊎_elim, arith, ltb-false, ltb-true, eqb-true}
-use borrow.Author.Tests.{eqb-false, both_ways}
-use Rattle.std.proofs.lemmas.Bool.{cases_Bool, and_parts}
-use Rattle.std.proofs.lemmas.List.{drop_more, drop_all}
-use Rattle.text.specs.declared.refusal.Refusal.TheVariants.{NotNumber, NotDue, Unended}
+use Rattle.std.proofs.Common.{◌≡◌, ◌≢◌, ◌⊎◌, ℕ, zero, suc, ◌+◌, ◌-◌, ◌<◌, ◌≤◌, Bool, true, false, nat_eq, nat_lt, List, [], ◌∷◌, ◌++◌, map, fold, length, slice_index_or, drop, slice_set, replicate, Ok, Err, codes, Result, sym, refl, ap, ◌∙◌, subst, ⊎_elim, arith, eqb-true, ltb-true, ltb-false}
+use Rattle.std.specs.List.{All, join_with_byte, range_with_len}
+use Rattle.std.specs.Bool.{if◌then◌else◌}
+use Rattle.std.specs.Str.{bytes_eq}
+use Rattle.std.proofs.lemmas.Bool.{cases_Bool}
+use Rattle.std.proofs.lemmas.Bool.Decides.{nat_tests}
+use Rattle.std.proofs.lemmas.List.{drop_more, drop_all, nil_from_length}
+use Rattle.std.proofs.lemmas.List.Elements.{All-nil, All-cons}
+use Rattle.std.proofs.lemmas.List.FromFn.{fill_by_all}
+use Rattle.std.proofs.lemmas.List.Splits.{join_with_byte-slice_split}
+use Rattle.std.proofs.lemmas.Slice.Eq.{bytes_eq-Decides}
+use Rattle.text.specs.declared.refusal.Refusal.{Refusal}
+use Rattle.text.specs.declared.refusal.Refusal.TheVariants.{FieldCount, OutOfTurn, Unended}
 use Rattle.text.specs.declared.kind.Kind.{Kind}
 use Rattle.text.specs.declared.kind.Kind.TheVariants.{Round, Door, Drive, First, Other}
 use Rattle.text.specs.declared.stage.Stage.{Stage}
@@ -12,336 +20,250 @@ use Rattle.text.specs.declared.draft.Draft.{Draft}
 use Rattle.round.specs.declared.door.Door as door
 use Rattle.text.specs.declared.line.Head as head
 use Rattle.text.specs.declared.line.Pair as pair
-use Rattle.text.specs.Number.{dash}
-use Rattle.text.specs.Pieces.{pieces, onto}
-use Rattle.text.specs.Kinds.{named, is_round, is_door, is_drive, is_first}
-use Rattle.text.specs.Lines.{head_of, door_due, leg_in, row_from, row_due, pair_of}
-use Rattle.text.specs.Steps.{line_step, head_step, door_step, drive_step, pair_step}
+use Rattle.text.specs.Fields.{number_in, change_in}
+use Rattle.text.specs.Pieces.{fields_in, lines_in}
+use Rattle.text.specs.Kinds.{named}
+use Rattle.text.specs.Lines.{and_then, counted, head_of, door_due, in_turn, leg_in, row_from, row_due, pair_of}
+use Rattle.text.specs.Steps.{line_step, kind_step}
 use Rattle.text.specs.Reading.{read_lines, read_text, at_end}
-use Rattle.text.specs.Drafts.{unread, with_head, with_door, with_row, with_pair}
-use Rattle.text.specs.Form.{head_fields, door_fields, doors_fields, leg_fields, row_fields, rows_fields, pair_fields, joined, written, DoorFits, Each, LegsFit, RowsFit, PairFits, fill_row, add_doors, add_rows, add_pairs, HasForm}
+use Rattle.text.specs.Drafts.{unread, with_head, with_door, with_row, with_ahead, with_pair}
+use Rattle.text.specs.Form.{map_from, head_fields, door_fields, leg_field, row_fields, pair_fields, written, AllFrom, DoorFits, LegFits, RowFits, PairFits, fill, row_of, HasForm}
 use Rattle.text.proofs.Pieces.{some-piece}
-use Rattle.text.proofs.Sound.{never, ok_same, then_ok, cond-ok, HeadSays, DueSays, PairSays, RowSays, number-says, head_ok, due-ok, pair_ok, row_ok, round-ok, door-kind-ok, drive-kind-ok, first-kind-ok}
+use Rattle.text.proofs.Numbers.{Says, number-says, change-says}
 
--- pieces joined again
-join-onto : (s b : ℕ) (ps : List (List ℕ)) → 0 < length ps → joined s (onto b ps) ≡ b ∷ joined s ps
-join-onto s b [] l = absurd (omega arith)
-join-onto s b (p ∷ []) l = refl
-join-onto s b (p ∷ q ∷ ps) l = refl
+-- ---- results
 
-join-empty : (s : ℕ) (ps : List (List ℕ)) → 0 < length ps → joined s ([] ∷ ps) ≡ s ∷ joined s ps
-join-empty s [] l = absurd (omega arith)
-join-empty s (p ∷ ps) l = refl
+-- a value that went on
+then_ok : {A B : Type 0} (r : Result A Refusal) (k : A → Result B Refusal) (b : B) → and_then r k ≡ Ok b → (a : A) × (r ≡ Ok a) × (k a ≡ Ok b)
+then_ok (Ok a) k b e = (a, refl, e)
+then_ok (Err x) k b e = absurd cc
 
-pub join-pieces : (s : ℕ) (a : List ℕ) → joined s (pieces s a) ≡ a
-join-pieces s [] = refl
-join-pieces s (b ∷ a) =
-    ⊎_elim
-    (λ t. rw t (join-empty s (pieces s a) (some-piece s a) ∙ ap (λ r. s ∷ r) (join-pieces s a) ∙ ap (λ x. x ∷ a) (sym (eqb-true b s t))))
-    (λ t. rw t (join-onto s b (pieces s a) (some-piece s a) ∙ ap (λ r. b ∷ r) (join-pieces s a)))
-    (cases_Bool (eqb b s))
+-- a test that was passed
+if_ok : {A : Type 0} (t : Bool) (r : Result A Refusal) (x : Refusal) (b : A) → (if t then r else Err x) ≡ Ok b → (t ≡ true) × (r ≡ Ok b)
+if_ok true r x b e = (refl, e)
+if_ok false r x b e = absurd cc
 
--- lists of a known length
-of3 : {A : Type 0} (d : A) (f : List A) → length f ≡ 3 → f ≡ get_or f 0 d ∷ get_or f 1 d ∷ get_or f 2 d ∷ []
-of3 d [] e = absurd (omega arith)
-of3 d (a ∷ []) e = absurd (omega arith)
-of3 d (a ∷ b ∷ []) e = absurd (omega arith)
-of3 d (a ∷ b ∷ c ∷ []) e = refl
-of3 d (a ∷ b ∷ c ∷ x ∷ f) e = absurd (omega arith)
+-- a number that went on
+then-number : {B : Type 0} (low high : ℕ) (f : List ℕ) (line k : ℕ) (K : ℕ → Result B Refusal) (b : B) → high ≤ 9999 → and_then (number_in low high f line k) K ≡ Ok b → (v : ℕ) × Says low high f v × (K v ≡ Ok b)
+then-number low high f line k K b l e =
+    let a = then_ok (number_in low high f line k) K b e in
+    (a.0, number-says low high f line k a.0 l a.1, a.2)
 
-of4 : {A : Type 0} (d : A) (f : List A) → length f ≡ 4 → f ≡ get_or f 0 d ∷ get_or f 1 d ∷ get_or f 2 d ∷ get_or f 3 d ∷ []
-of4 d [] e = absurd (omega arith)
-of4 d (a ∷ f) e = ap (λ t. a ∷ t) (of3 d f (omega arith))
+-- ---- kinds
 
-of5 : {A : Type 0} (d : A) (f : List A) → length f ≡ 5 → f ≡ get_or f 0 d ∷ get_or f 1 d ∷ get_or f 2 d ∷ get_or f 3 d ∷ get_or f 4 d ∷ []
-of5 d [] e = absurd (omega arith)
-of5 d (a ∷ f) e = ap (λ t. a ∷ t) (of4 d f (omega arith))
+-- the kind that is due
+abbrev due : Stage → Kind
+due Head = Round
+due (Doors k) = Door
+due (Drives k) = Drive
+due Pairs = First
 
-of6 : {A : Type 0} (d : A) (f : List A) → length f ≡ 6 → f ≡ get_or f 0 d ∷ get_or f 1 d ∷ get_or f 2 d ∷ get_or f 3 d ∷ get_or f 4 d ∷ get_or f 5 d ∷ []
-of6 d [] e = absurd (omega arith)
-of6 d (a ∷ f) e = ap (λ t. a ∷ t) (of5 d f (omega arith))
-
-of7 : {A : Type 0} (d : A) (f : List A) → length f ≡ 7 → f ≡ get_or f 0 d ∷ get_or f 1 d ∷ get_or f 2 d ∷ get_or f 3 d ∷ get_or f 4 d ∷ get_or f 5 d ∷ get_or f 6 d ∷ []
-of7 d [] e = absurd (omega arith)
-of7 d (a ∷ f) e = ap (λ t. a ∷ t) (of6 d f (omega arith))
-
-word4 : (f : List ℕ) (a b c d : ℕ) → (eqb (length f) 4 && (eqb (get_or f 0 0) a && (eqb (get_or f 1 0) b && (eqb (get_or f 2 0) c && eqb (get_or f 3 0) d)))) ≡ true → f ≡ a ∷ b ∷ c ∷ d ∷ []
-word4 f a b c d t =
-    let p = and_parts (eqb (length f) 4) _ t in
-    let q = and_parts (eqb (get_or f 0 0) a) _ p.1 in
-    let r = and_parts (eqb (get_or f 1 0) b) _ q.1 in
-    let s = and_parts (eqb (get_or f 2 0) c) _ r.1 in
-    let l = of4 0 f (eqb-true _ 4 p.0) in
-    let w = eqb-true _ a q.0 in
-    let x = eqb-true _ b r.0 in
-    let y = eqb-true _ c s.0 in
-    let z = eqb-true _ d s.1 in
-    cc
-
-word5 : (f : List ℕ) (a b c d e : ℕ) → (eqb (length f) 5 && (eqb (get_or f 0 0) a && (eqb (get_or f 1 0) b && (eqb (get_or f 2 0) c && (eqb (get_or f 3 0) d && eqb (get_or f 4 0) e))))) ≡ true → f ≡ a ∷ b ∷ c ∷ d ∷ e ∷ []
-word5 f a b c d e t =
-    let p = and_parts (eqb (length f) 5) _ t in
-    let q = and_parts (eqb (get_or f 0 0) a) _ p.1 in
-    let r = and_parts (eqb (get_or f 1 0) b) _ q.1 in
-    let s = and_parts (eqb (get_or f 2 0) c) _ r.1 in
-    let u = and_parts (eqb (get_or f 3 0) d) _ s.1 in
-    let l = of5 0 f (eqb-true _ 5 p.0) in
-    let w = eqb-true _ a q.0 in
-    let x = eqb-true _ b r.0 in
-    let y = eqb-true _ c s.0 in
-    let z = eqb-true _ d u.0 in
-    let o = eqb-true _ e u.1 in
-    cc
+-- where a line is taken, its kind is the one that is due
+kind-due : (s : Stage) (k : Kind) (d : Draft) (line : ℕ) (fs : List (List ℕ)) (t : Stage × Draft) → kind_step s k d line fs ≡ Ok t → k ≡ due s
+kind-due Head Round d line fs t e = refl
+kind-due (Doors i) Door d line fs t e = refl
+kind-due (Drives i) Drive d line fs t e = refl
+kind-due Pairs First d line fs t e = refl
+kind-due s k d line fs t e = absurd cc
 
 -- a kind is named by its word alone
-code : Kind → ℕ
-code Round = 1
-code Door = 2
-code Drive = 3
-code First = 4
-code Other = 5
+abbrev Named : Kind → List ℕ → Type 0
+Named Round f = codes "round" ≡ f
+Named Door f = codes "door" ≡ f
+Named Drive f = codes "drive" ≡ f
+Named First f = codes "first" ≡ f
+Named Other f = Unit {0}
 
-picked1 : (a b c d : Bool) → cond a Round (cond b Door (cond c Drive (cond d First Other))) ≡ Round → a ≡ true
-unfolding code
-picked1 true b c d e = refl
-picked1 false true c d e = absurd (omega (arith, ap code e))
-picked1 false false true d e = absurd (omega (arith, ap code e))
-picked1 false false false true e = absurd (omega (arith, ap code e))
-picked1 false false false false e = absurd (omega (arith, ap code e))
+-- a field is a word or is not
+word_tells : (f w : List ℕ) → ((bytes_eq f w ≡ true) × (f ≡ w)) ⊎ ((bytes_eq f w ≡ false) × (f ≢ w))
+word_tells f w = grind (arith, bytes_eq-Decides f w)
 
-picked2 : (a b c d : Bool) → cond a Round (cond b Door (cond c Drive (cond d First Other))) ≡ Door → b ≡ true
-unfolding code
-picked2 true b c d e = absurd (omega (arith, ap code e))
-picked2 false true c d e = refl
-picked2 false false true d e = absurd (omega (arith, ap code e))
-picked2 false false false true e = absurd (omega (arith, ap code e))
-picked2 false false false false e = absurd (omega (arith, ap code e))
+named-is : (f : List ℕ) (k : Kind) → named f ≡ k → Named k f
+named-is f Round e = grind (arith, word_tells f)
+named-is f Door e = grind (arith, word_tells f)
+named-is f Drive e = grind (arith, word_tells f)
+named-is f First e = grind (arith, word_tells f)
+named-is f Other e = tt
 
-picked3 : (a b c d : Bool) → cond a Round (cond b Door (cond c Drive (cond d First Other))) ≡ Drive → c ≡ true
-unfolding code
-picked3 true b c d e = absurd (omega (arith, ap code e))
-picked3 false true c d e = absurd (omega (arith, ap code e))
-picked3 false false true d e = refl
-picked3 false false false true e = absurd (omega (arith, ap code e))
-picked3 false false false false e = absurd (omega (arith, ap code e))
+-- a line that is taken has the word of the kind that is due
+line-due : (s : Stage) (d : Draft) (line : ℕ) (fs : List (List ℕ)) (t : Stage × Draft) → line_step s d line fs ≡ Ok t → Named (due s) (slice_index_or fs 0 []) × (kind_step s (due s) d line fs ≡ Ok t)
+line-due s d line fs t e =
+    let k = kind-due s (named (slice_index_or fs 0 [])) d line fs t e in
+    (named-is (slice_index_or fs 0 []) (due s) k, rw k at e)
 
-picked4 : (a b c d : Bool) → cond a Round (cond b Door (cond c Drive (cond d First Other))) ≡ First → d ≡ true
-unfolding code
-picked4 true b c d e = absurd (omega (arith, ap code e))
-picked4 false true c d e = absurd (omega (arith, ap code e))
-picked4 false false true d e = absurd (omega (arith, ap code e))
-picked4 false false false true e = refl
-picked4 false false false false e = absurd (omega (arith, ap code e))
+-- the fields of a line that has so many
+fields-are : {A : Type 0} (n line : ℕ) (fs : List (List ℕ)) (r : Result A Refusal) (b : A) → counted n line fs r ≡ Ok b → (length fs ≡ n) × (fs ≡ map (λ k. slice_index_or fs k []) (range_with_len 0 n)) × (r ≡ Ok b)
+fields-are n line fs r b e =
+    let c = if_ok (nat_eq (length fs) n) r (FieldCount line) b e in
+    let many = eqb-true (length fs) n c.0 in
+    (many, fill_by_all (λ k. slice_index_or fs k []) fs n [] many (λ k m. refl), c.1)
 
-pub named-round : (f : List ℕ) → named f ≡ Round → f ≡ codes "round"
-named-round f e = word5 f 114 111 117 110 100 (picked1 (is_round f) (is_door f) (is_drive f) (is_first f) e)
+-- ---- a line of each kind
 
-pub named-door : (f : List ℕ) → named f ≡ Door → f ≡ codes "door"
-named-door f e = word4 f 100 111 111 114 (picked2 (is_round f) (is_door f) (is_drive f) (is_first f) e)
+-- a line of a pair that is taken is one that is written, in range
+pair-form : (d : Draft) (line : ℕ) (fs : List (List ℕ)) (t : Stage × Draft) → d.n ≤ 16 → line_step Pairs d line fs ≡ Ok t → (p : pair.Pair) × (pair_fields p ≡ fs) × PairFits d.n p × ((Pairs, with_pair d p) ≡ t)
+pair-form d line fs t l e =
+    let q = line-due Pairs d line fs t e in
+    let o = then_ok (pair_of d.n line fs) _ t q.1 in
+    let c = fields-are 3 line fs _ o.0 o.1 in
+    let a = then-number 1 d.n (slice_index_or fs 1 []) line 2 _ o.0 (omega arith) c.2 in
+    let b = then-number 1 d.n (slice_index_or fs 2 []) line 3 _ o.0 (omega arith) a.2 in
+    let p : pair.Pair = record { first = a.0; then = b.0 } in
+    let r : (a.0 ≢ b.0) × (p ≡ o.0) = grind (arith, nat_tests, b.2) in
+    (p, cc, record { first = a.1.from; most = a.1.to; second = b.1.from; last = b.1.to; apart = r.0 }, cc)
 
-pub named-drive : (f : List ℕ) → named f ≡ Drive → f ≡ codes "drive"
-named-drive f e = word5 f 100 114 105 118 101 (picked3 (is_round f) (is_door f) (is_drive f) (is_first f) e)
+-- so is a round line
+head-form : (line : ℕ) (fs : List (List ℕ)) (t : Stage × Draft) → line_step Head unread line fs ≡ Ok t → (h : head.Head) × (head_fields h ≡ fs) × Says 1 16 (slice_index_or fs 1 []) h.n × Says h.load 999 (slice_index_or fs 3 []) h.cap × ((Doors 1, with_head unread h) ≡ t)
+head-form line fs t e =
+    let q = line-due Head unread line fs t e in
+    let o = then_ok (head_of line fs) _ t q.1 in
+    let c = fields-are 4 line fs _ o.0 o.1 in
+    let a = then-number 1 16 (slice_index_or fs 1 []) line 2 _ o.0 (omega arith) c.2 in
+    let b = then-number 0 999 (slice_index_or fs 2 []) line 3 _ o.0 (omega arith) a.2 in
+    let f = then-number b.0 999 (slice_index_or fs 3 []) line 4 _ o.0 (omega arith) b.2 in
+    (record { n = a.0; load = b.0; cap = f.0 }, cc, a.1, f.1, cc)
 
-pub named-first : (f : List ℕ) → named f ≡ First → f ≡ codes "first"
-named-first f e = word5 f 102 105 114 115 116 (picked4 (is_round f) (is_door f) (is_drive f) (is_first f) e)
+-- where a line goes on after its number, that is the one that is due
+turn-says : {A : Type 0} (low high due line : ℕ) (fs : List (List ℕ)) (r : Result A Refusal) (b : A) → high ≤ 9999 → and_then (in_turn low high due line fs) (λ _. r) ≡ Ok b → Says low high (slice_index_or fs 1 []) due × (r ≡ Ok b)
+turn-says low high due line fs r b l e =
+    let o = then_ok (in_turn low high due line fs) _ b e in
+    let a = then-number low high (slice_index_or fs 1 []) line 2 _ o.0 l o.1 in
+    let c = if_ok (nat_eq a.0 due) (Ok tt) (OutOfTurn line 2) o.0 a.2 in
+    (subst (Says low high (slice_index_or fs 1 [])) (eqb-true a.0 due c.0) a.1, o.2)
+
+-- so is a door line
+door-form : (d : Draft) (k line : ℕ) (fs : List (List ℕ)) (t : Stage × Draft) → d.n ≤ 16 → line_step (Doors k) d line fs ≡ Ok t → (x : door.Door) × (door_fields k x ≡ fs) × DoorFits x × ((if nat_lt k d.n then Doors (k + 1) else Drives 0, with_door d k x) ≡ t)
+door-form d k line fs t l e =
+    let q = line-due (Doors k) d line fs t e in
+    let o = then_ok (door_due d.n k line fs) _ t q.1 in
+    let x = o.0 in
+    let c = fields-are 7 line fs _ x o.1 in
+    let i = turn-says 1 d.n k line fs _ x (omega arith) c.2 in
+    let a = then-number 0 9999 (slice_index_or fs 2 []) line 3 _ x (omega arith) i.1 in
+    let b = then-number 0 9999 (slice_index_or fs 3 []) line 4 _ x (omega arith) a.2 in
+    let f = then-number 0 9999 (slice_index_or fs 4 []) line 5 _ x (omega arith) b.2 in
+    let w = then-number 1 999 (slice_index_or fs 5 []) line 6 _ x (omega arith) f.2 in
+    let g = then_ok (change_in (slice_index_or fs 6 []) line 7) _ x w.2 in
+    let z = change-says (slice_index_or fs 6 []) line 7 g.0 g.1 in
+    let r : door.Door = record { opens = a.0; closes = b.0; due = f.0; work = w.0; change = g.0 } in
+    let fits : DoorFits r = record { opens = a.1.to; closes = b.1.to; due = f.1.to; some = w.1.from; work = w.1.to; low = z.low; high = z.high } in
+    (r, cc, fits, cc)
+
+-- and the field of a drive
+leg-form : (i j line : ℕ) (fs : List (List ℕ)) (v : ℕ) → leg_in i j line fs ≡ Ok v → (leg_field i j v ≡ slice_index_or fs (j + 2 - 1) []) × LegFits i j v
+leg-form i j line fs v e =
+    let f = slice_index_or fs (j + 2 - 1) [] in
+    grind (arith, nat_tests, word_tells f (codes "-"), number-says 0 999 f line (j + 2) v)
+
+-- and the fields of the drives to the doors from j on
+legs-form : (m i j line : ℕ) (fs : List (List ℕ)) (row out : List ℕ) → length fs ≡ j + 1 + m → row_from m i j line fs row ≡ Ok out → (vs : List ℕ) × (length vs ≡ m) × (map_from (leg_field i) j vs ≡ drop (j + 1) fs) × (fill j vs row ≡ out) × AllFrom (LegFits i) j vs
+legs-form zero i j line fs row out l e = ([], refl, sym (drop_all (j + 1) fs (omega arith)), cc, tt)
+legs-form (suc m) i j line fs row out l e =
+    let a = then_ok (leg_in i j line fs) (λ leg. row_from m i (j + 1) line fs (slice_set row j leg)) out e in
+    let f = leg-form i j line fs a.0 a.1 in
+    let h = legs-form m i (j + 1) line fs (slice_set row j a.0) out (omega arith) a.2 in
+    let place : j + 2 - 1 ≡ j + 1 = omega arith in
+    let more = drop_more fs (j + 1) [] (omega arith) in
+    let first = f.0 ∙ ap (λ k. slice_index_or fs k []) place in
+    (a.0 ∷ h.0, omega (arith, h.1), cc, h.3, (f.1, h.4))
+
+-- and a drive line
+row-form : (d : Draft) (k line : ℕ) (fs : List (List ℕ)) (t : Stage × Draft) → d.n ≤ 16 → line_step (Drives k) d line fs ≡ Ok t → (vs : List ℕ) × (row_fields k vs ≡ fs) × RowFits d.n k vs × ((if nat_lt k d.n then Drives (k + 1) else Pairs, with_row d k (row_of vs)) ≡ t)
+row-form d k line fs t l e =
+    let q = line-due (Drives k) d line fs t e in
+    let o = then_ok (row_due d.n k line fs) _ t q.1 in
+    let c = fields-are (d.n + 2) line fs _ o.0 o.1 in
+    let i = turn-says 0 d.n k line fs _ o.0 (omega arith) c.2 in
+    let r = legs-form d.n k 1 line fs (replicate 17 0) o.0 (omega arith) i.1 in
+    let s = drop_more fs 0 [] (omega arith) in
+    let u = drop_more fs 1 [] (omega arith) in
+    (r.0, cc, (r.1, r.4), cc)
+
+-- ---- the lines of each kind
 
 -- the lines by their fields, one step for each
-abbrev pub Run : List (List (List ℕ)) → Stage → Draft → Draft → Type 0
+abbrev Run : List (List (List ℕ)) → Stage → Draft → Draft → Type 0
 Run [] s d e = (s ≡ Pairs) × (d ≡ e)
-Run (fs ∷ fss) s d e = (line : ℕ) × (t : Stage) × (u : Draft) × (line_step s d line fs ≡ Ok (t, u)) × Run fss t u e
+Run (fs ∷ fss) s d e = (line : ℕ) × (t : Stage × Draft) × (line_step s d line fs ≡ Ok t) × Run fss t.0 t.1 e
 
+-- a text ends with pairs
 end-run : (line : ℕ) (s : Stage) (d e : Draft) → at_end s d line ≡ Ok e → (s ≡ Pairs) × (d ≡ e)
-end-run line Head d e h = absurd (never _ e h)
-end-run line (Doors k) d e h = absurd (never _ e h)
-end-run line (Drives k) d e h = absurd (never _ e h)
-end-run line Pairs d e h = (refl, ok_same _ _ h)
+end-run line Pairs d e h = (refl, cc)
+end-run line s d e h = absurd cc
 
-no_length : (p : List ℕ) → length p ≡ 0 → [] ≡ p
-no_length [] e = refl
-no_length (b ∷ p) e = absurd (omega arith)
-
-pub run-lines : (ps : List (List ℕ)) (line : ℕ) (s : Stage) (d e : Draft) → 0 < length ps → read_lines ps line s d ≡ Ok e → (fss : List (List (List ℕ))) × (written fss ≡ joined 10 ps) × Run fss s d e
+-- the lines of an accepted text are taken one after another
+run-lines : (ps : List (List ℕ)) (line : ℕ) (s : Stage) (d e : Draft) → 0 < length ps → read_lines ps line s d ≡ Ok e → (fss : List (List (List ℕ))) × (written fss ≡ join_with_byte 10 ps) × Run fss s d e
 run-lines [] line s d e l h = absurd (omega arith)
 run-lines (p ∷ []) line s d e l h =
-    let a = cond-ok (eqb (length p) 0) (at_end s d line) (Unended line) e h in
-    ([], no_length p (eqb-true (length p) 0 a.0), end-run line s d e a.1)
+    let a = if_ok (nat_eq (length p) 0) (at_end s d line) (Unended line) e h in
+    ([], sym (nil_from_length p (eqb-true (length p) 0 a.0)), end-run line s d e a.1)
 run-lines (p ∷ q ∷ ps) line s d e l h =
-    let a = then_ok (line_step s d line (pieces 9 p)) _ e h in
-    let r = run-lines (q ∷ ps) (line + 1) a.0.0 a.0.1 e (omega arith) a.2 in (
-      pieces 9 p ∷ r.0,
-      ap (λ t. t ++ (10 ∷ written r.0)) (join-pieces 9 p) ∙ ap (λ t. p ++ (10 ∷ t)) r.1,
-      (line, a.0.0, a.0.1, a.1, r.2),
-    )
+    let a = then_ok (line_step s d line (fields_in p)) _ e h in
+    let r = run-lines (q ∷ ps) (line + 1) a.0.0 a.0.1 e (omega arith) a.2 in
+    let same = join_with_byte-slice_split 9 p in
+    (fields_in p ∷ r.0, cc, (line, a.0, a.1, r.2))
 
--- a pair line
-pair_line : (n : ℕ) (fs : List (List ℕ)) (p : pair.Pair) → named (get_or fs 0 []) ≡ First → PairSays n fs p → (pair_fields p ≡ fs) × PairFits n p
-pair_line n fs p k y =
-    let l = of3 [] fs y.fields in
-    let w = named-first (get_or fs 0 []) k in
-    let a = y.first.text in
-    let b = y.then.text in
-    (cc, record { first = y.first.from; most = y.first.to; then = y.then.from; last = y.then.to; apart = y.apart })
-
-pub pairs-form : (fss : List (List (List ℕ))) (d e : Draft) → d.n ≤ 16 → Run fss Pairs d e → (qs : List pair.Pair) × (map pair_fields qs ≡ fss) × (add_pairs d qs ≡ e) × Each (PairFits d.n) qs
-pairs-form [] d e l r = ([], refl, r.1, tt)
+-- the lines from the first pair on
+pairs-form : (fss : List (List (List ℕ))) (d e : Draft) → d.n ≤ 16 → Run fss Pairs d e → (qs : List pair.Pair) × (map pair_fields qs ≡ fss) × (record d { ahead = fold with_ahead d.ahead qs } ≡ e) × All (PairFits d.n) qs
+pairs-form [] d e l r = ([], refl, r.1, All-nil (PairFits d.n))
 pairs-form (fs ∷ fss) d e l r =
-    let q = first-kind-ok (named (get_or fs 0 [])) (pair_step d r.0 fs) (NotDue r.0) (r.1, r.2) r.3 in
-    let a = then_ok (pair_of d.n r.0 fs) _ (r.1, r.2) q.1 in
-    let y = pair_line d.n fs a.0 q.0 (pair_ok d.n r.0 fs a.0 l a.1) in
-    let z = subst (λ (z : Stage × Draft). Run fss z.0 z.1 e) (sym (ok_same (Pairs, with_pair d a.0) (r.1, r.2) a.2)) r.4 in
-    let i = pairs-form fss (with_pair d a.0) e l z in
-    (a.0 ∷ i.0, (λ t. y.0 t ∷ i.1 t), i.2, (y.1, i.3))
+    let q = pair-form d r.0 fs r.1 l r.2 in
+    let i = pairs-form fss (with_pair d q.0) e l (subst (λ (z : Stage × Draft). Run fss z.0 z.1 e) (sym q.3) r.3) in
+    (q.0 ∷ i.0, cc, i.2, All-cons (PairFits d.n) q.0 i.0 q.2 i.3)
 
--- a drive line
-dash-is : (f : List ℕ) → dash f ≡ true → 45 ∷ [] ≡ f
-dash-is [] e = absurd (both_ways false refl e)
-dash-is (b ∷ []) e = ap (λ t. t ∷ []) (sym (eqb-true b 45 e))
-dash-is (b ∷ c ∷ f) e = absurd (both_ways false refl e)
-
-leg-form : (i j line : ℕ) (fs : List (List ℕ)) (v : ℕ) → leg_in i j line fs ≡ Ok v → (cond (eqb i j) (45 ∷ []) (decimal v) ≡ get_or fs (j + 2 - 1) []) × (v ≤ 999) × (i ≡ j → v ≡ 0)
-leg-form i j line fs v e =
+-- the lines from the drives of place k on: drive lines, and what pairs make of the rest
+rows-form : (fss : List (List (List ℕ))) (k : ℕ) (d e : Draft) → d.n ≤ 16 → k ≤ d.n → Run fss (Drives k) d e → (rs : List (List ℕ)) × (gss : List (List (List ℕ))) × (map_from row_fields k rs ++ gss ≡ fss) × (length rs + k ≡ d.n + 1) × AllFrom (RowFits d.n) k rs × Run gss Pairs (record d { drives = fill k (map row_of rs) d.drives }) e
+rows-form [] k d e l m r = absurd cc
+rows-form (fs ∷ fss) k d e l m r =
+    let q = row-form d k r.0 fs r.1 l r.2 in
+    let go = subst (λ (z : Stage × Draft). Run fss z.0 z.1 e) (sym q.3) r.3 in
     ⊎_elim
     (λ t.
-    let q = cond-ok (dash (get_or fs (j + 2 - 1) [])) (Ok 0) (NotNumber line (j + 2)) v (rw t at e) in
-    let z = ok_same 0 v q.1 in
-    (rw t (dash-is (get_or fs (j + 2 - 1) []) q.0), omega arith, λ _. sym z))
-    (λ t.
-    let q = number-says 0 999 (get_or fs (j + 2 - 1) []) line (j + 2) v (omega arith) (rw t at e) in
-    (rw t q.text, q.to, λ same. absurd (eqb-false i j t same)))
-    (cases_Bool (eqb i j))
+    let i = rows-form fss (k + 1) (with_row d k (row_of q.0)) e l (omega (arith, ltb-true k d.n t)) (rw t at go) in
+    (q.0 ∷ i.0, i.1, cc, omega (arith, i.3), (q.2, i.4), i.5))
+    (λ t. (q.0 ∷ [], fss, cc, omega (arith, ltb-false k d.n t), (q.2, tt), rw t at go))
+    (cases_Bool (nat_lt k d.n))
 
-row-form : (m i j line : ℕ) (fs : List (List ℕ)) (row out : List ℕ) → length fs ≡ j + 1 + m → row_from m i j line fs row ≡ Ok out → (vs : List ℕ) × (length vs ≡ m) × (leg_fields i j vs ≡ drop (j + 1) fs) × (fill_row j vs row ≡ out) × LegsFit i j vs
-row-form zero i j line fs row out l e = ([], refl, sym (drop_all (j + 1) fs (omega arith)), ok_same _ _ e, tt)
-row-form (suc m) i j line fs row out l e =
-    let a = then_ok (leg_in i j line fs) (λ leg. row_from m i (j + 1) line fs (set row j leg)) out e in
-    let f = leg-form i j line fs a.0 a.1 in
-    let h = row-form m i (j + 1) line fs (set row j a.0) out (omega arith) a.2 in
-    let place : j + 2 - 1 ≡ j + 1 = omega arith in
-    let first = f.0 ∙ ap (λ k. get_or fs k []) place in
-    (a.0 ∷ h.0, (omega (arith, h.1)), (λ t. first t ∷ h.2 t) ∙ sym (drop_more fs (j + 1) [] (omega arith)), h.3, (f.1, f.2, h.4))
-
--- the stages differ
-rank : Stage → ℕ
-rank Head = 0
-rank (Doors k) = 1
-rank (Drives k) = 2
-rank Pairs = 3
-
-stages : (k : ℕ) → Drives k ≡ Pairs → ⊥
-unfolding rank
-stages k e = omega (arith, ap rank e)
-
-stages-doors : (k : ℕ) → Doors k ≡ Pairs → ⊥
-unfolding rank
-stages-doors k e = omega (arith, ap rank e)
-
-stages-head : Head ≡ Pairs → ⊥
-unfolding rank
-stages-head e = omega (arith, ap rank e)
-
-two-more : (fs : List (List ℕ)) → 2 ≤ length fs → get_or fs 0 [] ∷ get_or fs 1 [] ∷ drop 2 fs ≡ fs
-two-more [] l = absurd (omega arith)
-two-more (a ∷ []) l = absurd (omega arith)
-two-more (a ∷ b ∷ fs) l = refl
-
-row_line : (n k line : ℕ) (fs : List (List ℕ)) (row : List ℕ) → named (get_or fs 0 []) ≡ Drive → RowSays n k line fs row → (vs : List ℕ) × (row_fields k vs ≡ fs) × (fill_row 1 vs (replicate 17 0) ≡ row) × (length vs ≡ n) × LegsFit k 1 vs
-row_line n k line fs row e y =
-    let many = y.fields in
-    let r = row-form n k 1 line fs (replicate 17 0) row (omega arith) y.rest in
-    let w = named-drive (get_or fs 0 []) e in
-    let x = y.number.text in
-    let z = r.2 in
-    let t = two-more fs (omega arith) in
-    (r.0, cc, r.3, r.1, r.4)
-
-same_row : (k : ℕ) (d : Draft) (row out : List ℕ) (rs : List (List ℕ)) (qs : List pair.Pair) (e : Draft) → out ≡ row → add_pairs (add_rows (k + 1) (with_row d k row) rs) qs ≡ e → add_pairs (add_rows (k + 1) (with_row d k out) rs) qs ≡ e
-same_row k d row out rs qs e p q = ap (λ r. add_pairs (add_rows (k + 1) (with_row d k r) rs) qs) p ∙ q
-
-pub drives-form : (fss : List (List (List ℕ))) (k : ℕ) (d e : Draft) → d.n ≤ 16 → k ≤ d.n → Run fss (Drives k) d e → (rs : List (List ℕ)) × (qs : List pair.Pair) × (rows_fields k rs ++ map pair_fields qs ≡ fss) × (add_pairs (add_rows k d rs) qs ≡ e) × (length rs + k ≡ d.n + 1) × RowsFit d.n k rs × Each (PairFits d.n) qs
-drives-form [] k d e l m r = absurd (stages k r.0)
-drives-form (fs ∷ fss) k d e l m r =
-    let q = drive-kind-ok (named (get_or fs 0 [])) (drive_step k d r.0 fs) (NotDue r.0) (r.1, r.2) r.3 in
-    let a = then_ok (row_due d.n k r.0 fs) _ (r.1, r.2) q.1 in
-    let y = row_line d.n k r.0 fs a.0 q.0 (row_ok d.n k r.0 fs a.0 l a.1) in
-    let z = subst (λ (z : Stage × Draft). Run fss z.0 z.1 e) (sym (ok_same (cond (ltb k d.n) (Drives (k + 1)) Pairs, with_row d k a.0) (r.1, r.2) a.2)) r.4 in
-    ⊎_elim
-    (λ t.
-    let i = drives-form fss (k + 1) (with_row d k a.0) e l (omega (arith, ltb-true k d.n t)) (subst (λ (b : Bool). Run fss (cond b (Drives (k + 1)) Pairs) (with_row d k a.0) e) t z) in
-    (y.0 ∷ i.0, i.1, (λ x. y.1 x ∷ i.2 x), same_row k d _ _ i.0 i.1 e y.2 i.3, omega (arith, i.4), (y.3, y.4, i.5), i.6))
-    (λ t.
-    let i = pairs-form fss (with_row d k a.0) e l (subst (λ (b : Bool). Run fss (cond b (Drives (k + 1)) Pairs) (with_row d k a.0) e) t z) in
-    (y.0 ∷ [], i.0, (λ x. y.1 x ∷ i.1 x), same_row k d _ _ [] i.0 e y.2 i.2, omega (arith, ltb-false k d.n t), (y.3, y.4, tt), i.3))
-    (cases_Bool (ltb k d.n))
-
-door-line : (n k : ℕ) (fs : List (List ℕ)) (x : door.Door) → named (get_or fs 0 []) ≡ Door → DueSays n k fs x → (door_fields k x ≡ fs) × DoorFits x
-door-line n k fs x e y =
-    let l = of7 [] fs y.fields in
-    let w = named-door (get_or fs 0 []) e in
-    let a = y.number.text in
-    let b = y.rest.opens.text in
-    let c = y.rest.closes.text in
-    let f = y.rest.due.text in
-    let g = y.rest.work.text in
-    let h = y.rest.change.text in
-    let s = y.rest in
-    (cc, record { opens = s.opens.to; closes = s.closes.to; due = s.due.to; some = s.work.from; work = s.work.to; low = s.change.low; high = s.change.high })
-
-pub doors-form : (fss : List (List (List ℕ))) (k : ℕ) (d e : Draft) → d.n ≤ 16 → k ≤ d.n → Run fss (Doors k) d e → (xs : List door.Door) × (rs : List (List ℕ)) × (qs : List pair.Pair) × (doors_fields k xs ++ (rows_fields 0 rs ++ map pair_fields qs) ≡ fss) × (add_pairs (add_rows 0 (add_doors k d xs) rs) qs ≡ e) × (length xs + k ≡ d.n + 1) × Each DoorFits xs × (length rs ≡ d.n + 1) × RowsFit d.n 0 rs × Each (PairFits d.n) qs
-doors-form [] k d e l m r = absurd (stages-doors k r.0)
+-- the lines from door k on: door lines, and what drives make of the rest
+doors-form : (fss : List (List (List ℕ))) (k : ℕ) (d e : Draft) → d.n ≤ 16 → k ≤ d.n → Run fss (Doors k) d e → (xs : List door.Door) × (gss : List (List (List ℕ))) × (map_from door_fields k xs ++ gss ≡ fss) × (length xs + k ≡ d.n + 1) × All DoorFits xs × Run gss (Drives 0) (record d { doors = fill k xs d.doors }) e
+doors-form [] k d e l m r = absurd cc
 doors-form (fs ∷ fss) k d e l m r =
-    let q = door-kind-ok (named (get_or fs 0 [])) (door_step k d r.0 fs) (NotDue r.0) (r.1, r.2) r.3 in
-    let a = then_ok (door_due d.n k r.0 fs) _ (r.1, r.2) q.1 in
-    let y = door-line d.n k fs a.0 q.0 (due-ok d.n k r.0 fs a.0 l a.1) in
-    let z = subst (λ (z : Stage × Draft). Run fss z.0 z.1 e) (sym (ok_same (cond (ltb k d.n) (Doors (k + 1)) (Drives 0), with_door d k a.0) (r.1, r.2) a.2)) r.4 in
+    let q = door-form d k r.0 fs r.1 l r.2 in
+    let go = subst (λ (z : Stage × Draft). Run fss z.0 z.1 e) (sym q.3) r.3 in
     ⊎_elim
     (λ t.
-    let i = doors-form fss (k + 1) (with_door d k a.0) e l (omega (arith, ltb-true k d.n t)) (subst (λ (b : Bool). Run fss (cond b (Doors (k + 1)) (Drives 0)) (with_door d k a.0) e) t z) in
-    (a.0 ∷ i.0, i.1, i.2, (λ x. y.0 x ∷ i.3 x), i.4, omega (arith, i.5), (y.1, i.6), i.7, i.8, i.9))
-    (λ t.
-    let i = drives-form fss 0 (with_door d k a.0) e l (omega arith) (subst (λ (b : Bool). Run fss (cond b (Doors (k + 1)) (Drives 0)) (with_door d k a.0) e) t z) in
-    (a.0 ∷ [], i.0, i.1, (λ x. y.0 x ∷ i.2 x), i.3, omega (arith, ltb-false k d.n t), (y.1, tt), omega (arith, i.4), i.5, i.6))
-    (cases_Bool (ltb k d.n))
+    let i = doors-form fss (k + 1) (with_door d k q.0) e l (omega (arith, ltb-true k d.n t)) (rw t at go) in
+    (q.0 ∷ i.0, i.1, cc, omega (arith, i.3), All-cons DoorFits q.0 i.0 q.2 i.4, i.5))
+    (λ t. (q.0 ∷ [], fss, cc, omega (arith, ltb-false k d.n t), All-cons DoorFits q.0 [] q.2 (All-nil DoorFits), rw t at go))
+    (cases_Bool (nat_lt k d.n))
 
-head-line : (fs : List (List ℕ)) (h : head.Head) → named (get_or fs 0 []) ≡ Round → HeadSays fs h → head_fields h ≡ fs
-head-line fs h e y =
-    let l = of4 [] fs y.fields in
-    let w = named-round (get_or fs 0 []) e in
-    let a = y.count.text in
-    let b = y.load.text in
-    let c = y.cap.text in
-    cc
-
-same-written : (fs gs : List (List ℕ)) (fss gss : List (List (List ℕ))) → fs ≡ gs → fss ≡ gss → written (fs ∷ fss) ≡ written (gs ∷ gss)
-same-written fs gs fss gss p q = ap written (λ x. p x ∷ q x)
-
+-- all lines
 run-form : (fss : List (List (List ℕ))) (e : Draft) → Run fss Head unread e → HasForm (written fss) e
-run-form [] e r = absurd (stages-head r.0)
+run-form [] e r = absurd cc
 run-form (fs ∷ fss) e r =
-    let q = round-ok (named (get_or fs 0 [])) (head_step unread r.0 fs) (NotDue r.0) (r.1, r.2) r.3 in
-    let a = then_ok (head_of r.0 fs) _ (r.1, r.2) q.1 in
-    let y = head_ok r.0 fs a.0 a.1 in
-    let same = head-line fs a.0 q.0 y in
-    let z = subst (λ (z : Stage × Draft). Run fss z.0 z.1 e) (sym (ok_same (Doors 1, with_head unread a.0) (r.1, r.2) a.2)) r.4 in
-    let i = doors-form fss 1 (with_head unread a.0) e y.count.to y.count.from z in
+    let h = head-form r.0 fs r.1 r.2 in
+    let x = doors-form fss 1 (with_head unread h.0) e h.2.to h.2.from (subst (λ (z : Stage × Draft). Run fss z.0 z.1 e) (sym h.4) r.3) in
+    let w = rows-form x.1 0 (record (with_head unread h.0) { doors = fill 1 x.0 unread.doors }) e h.2.to (omega arith) x.5 in
+    let p = pairs-form w.1 (record (with_head unread h.0) { doors = fill 1 x.0 unread.doors; drives = fill 0 (map row_of w.0) unread.drives }) e h.2.to w.5 in
     record {
-      content = record { head = a.0; doors = i.0; rows = i.1; pairs = i.2 };
+      content = record { head = h.0; doors = x.0; rows = w.0; pairs = p.0 };
       fits = record {
-        one = y.count.from;
-        most = y.count.to;
-        load = y.cap.from;
-        cap = y.cap.to;
-        many = omega (arith, i.5);
-        doors = i.6;
-        places = i.7;
-        rows = i.8;
-        pairs = i.9;
+        one = h.2.from;
+        most = h.2.to;
+        load = h.3.from;
+        cap = h.3.to;
+        many = omega (arith, x.3);
+        doors = x.4;
+        places = omega (arith, w.3);
+        rows = w.4;
+        pairs = p.3;
       };
-      same = same-written (head_fields a.0) fs (doors_fields 1 i.0 ++ (rows_fields 0 i.1 ++ map pair_fields i.2)) fss same i.3;
-      round = i.4;
+      same = cc;
+      round = p.2;
     }
 
 -- an accepted text has the form, and gives the round of that form
 pub accepted-form : (text : List ℕ) (d : Draft) → read_text text ≡ Ok d → HasForm text d
 accepted-form text d h =
-    let r = run-lines (pieces 10 text) 1 Head unread d (some-piece 10 text) h in
-    subst (λ t. HasForm t d) (r.1 ∙ join-pieces 10 text) (run-form r.0 d r.2)
+    let r = run-lines (lines_in text) 1 Head unread d (some-piece 10 text) h in
+    subst (λ t. HasForm t d) (r.1 ∙ join_with_byte-slice_split 10 text) (run-form r.0 d r.2)

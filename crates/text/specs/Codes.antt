@@ -1,5 +1,5 @@
 -- The number, the line and the field of each refusal.
-use Rattle.std.specs.Prelude.{ℕ, List, ◌∷◌, ◌++◌, codes, decimal}
+use Rattle.std.specs.Prelude.{ℕ, List, ◌++◌, codes, decimal}
 use Rattle.text.specs.declared.refusal.Refusal.{Refusal}
 use Rattle.text.specs.declared.refusal.Refusal.TheVariants.{NotDue, FieldCount, NotNumber, OutOfRange, OutOfTurn, Unended, TooLong}
 
@@ -35,4 +35,5 @@ field_of TooLong = 0
 
 -- the line that tells of it: number, line and field, with tabs between
 abbrev pub told : Refusal → List ℕ
-told r = codes "refused" ++ (9 ∷ decimal (number_of r)) ++ (9 ∷ decimal (line_of r)) ++ (9 ∷ decimal (field_of r))
+told r =
+    codes "refused\t" ++ decimal (number_of r) ++ codes "\t" ++ decimal (line_of r) ++ codes "\t" ++ decimal (field_of r)

@@ -8,22 +8,31 @@ use Rattle.text.specs.declared.line.Pair.{Pair}
 
 -- before the first line all is 0
 abbrev pub unread : Draft
-unread = record { n = 0; load = 0; cap = 0; doors = replicate 17 blank; drives = replicate 17 (replicate 17 0); ahead = replicate 17 0 }
+unread = record {
+  n = 0;
+  load = 0;
+  cap = 0;
+  doors = replicate 17 blank;
+  drives = replicate 17 (replicate 17 0);
+  ahead = replicate 17 0;
+}
 
 -- the round line
 abbrev pub with_head : Draft → Head → Draft
-with_head d h = record { n = h.n; load = h.load; cap = h.cap; doors = d.doors; drives = d.drives; ahead = d.ahead }
+with_head d h = record d { n = h.n; load = h.load; cap = h.cap }
 
 -- the line of door k
 abbrev pub with_door : Draft → ℕ → Door → Draft
-with_door d k x = record { n = d.n; load = d.load; cap = d.cap; doors = slice_set d.doors k x; drives = d.drives; ahead = d.ahead }
+with_door d k x = record d { doors = slice_set d.doors k x }
 
 -- the drives from place i
 abbrev pub with_row : Draft → ℕ → List ℕ → Draft
-with_row d i row = record { n = d.n; load = d.load; cap = d.cap; doors = d.doors; drives = slice_set d.drives i row; ahead = d.ahead }
+with_row d i row = record d { drives = slice_set d.drives i row }
 
--- a pair: the set of the doors ahead of its second door gets its first
+-- the sets of the doors ahead of each door, with one pair more: the set of its second door gets its first
+abbrev pub with_ahead : List ℕ → Pair → List ℕ
+with_ahead sets p = slice_set sets p.then (bit_or (slice_index sets p.then) (2 ^ p.first))
+
+-- the line of a pair
 abbrev pub with_pair : Draft → Pair → Draft
-with_pair d p =
-    let more : ℕ = bit_or (slice_index d.ahead p.then) (2 ^ p.first) in
-    record { n = d.n; load = d.load; cap = d.cap; doors = d.doors; drives = d.drives; ahead = slice_set d.ahead p.then more }
+with_pair d p = record d { ahead = with_ahead d.ahead p }

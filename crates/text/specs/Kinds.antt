@@ -1,53 +1,13 @@
--- The kinds of lines by their names, given in bytes.
-use Rattle.std.specs.Prelude.{ℕ, Bool, cond, ◌&&◌, List, [], ◌∷◌, length, drop, ◌==◌, nat_le, slice_index}
+-- The kinds of lines by their names.
+use Rattle.std.specs.Prelude.{ℕ, List, codes, bytes_eq, if◌then◌else◌}
 use Rattle.text.specs.declared.kind.Kind.{Kind}
 use Rattle.text.specs.declared.kind.Kind.TheVariants.{Round, Door, Drive, First, Other}
 
--- the word "round"
-abbrev pub is_round : List ℕ → Bool
-is_round f = length f == 5 && (slice_index f 0 == 114 && (slice_index f 1 == 111 && (slice_index f 2 == 117 && (slice_index f 3 == 110 && slice_index f 4 == 100))))
-
--- the word "door"
-abbrev pub is_door : List ℕ → Bool
-is_door f = length f == 4 && (slice_index f 0 == 100 && (slice_index f 1 == 111 && (slice_index f 2 == 111 && slice_index f 3 == 114)))
-
--- the word "drive"
-abbrev pub is_drive : List ℕ → Bool
-is_drive f = length f == 5 && (slice_index f 0 == 100 && (slice_index f 1 == 114 && (slice_index f 2 == 105 && (slice_index f 3 == 118 && slice_index f 4 == 101))))
-
--- the word "first"
-abbrev pub is_first : List ℕ → Bool
-is_first f = length f == 5 && (slice_index f 0 == 102 && (slice_index f 1 == 105 && (slice_index f 2 == 114 && (slice_index f 3 == 115 && slice_index f 4 == 116))))
-
 -- the kind that a field names
 abbrev pub named : List ℕ → Kind
-named f = cond (is_round f) Round (cond (is_door f) Door (cond (is_drive f) Drive (cond (is_first f) First Other)))
-
--- the word "round", and whatever follows
-abbrev pub starts_round : List ℕ → Bool
-starts_round f = slice_index f 0 == 114 && (slice_index f 1 == 111 && (slice_index f 2 == 117 && (slice_index f 3 == 110 && (slice_index f 4 == 100 && nat_le 5 (length f)))))
-
--- the word "door", and whatever follows
-abbrev pub starts_door : List ℕ → Bool
-starts_door f = slice_index f 0 == 100 && (slice_index f 1 == 111 && (slice_index f 2 == 111 && (slice_index f 3 == 114 && nat_le 4 (length f))))
-
--- the word "drive", and whatever follows
-abbrev pub starts_drive : List ℕ → Bool
-starts_drive f = slice_index f 0 == 100 && (slice_index f 1 == 114 && (slice_index f 2 == 105 && (slice_index f 3 == 118 && (slice_index f 4 == 101 && nat_le 5 (length f)))))
-
--- the word "first", and whatever follows
-abbrev pub starts_first : List ℕ → Bool
-starts_first f = slice_index f 0 == 102 && (slice_index f 1 == 105 && (slice_index f 2 == 114 && (slice_index f 3 == 115 && (slice_index f 4 == 116 && nat_le 5 (length f)))))
-
--- the kind k if its word ends there: at a tab, or with the line
-abbrev pub ended_by : Kind → List ℕ → Kind
-ended_by k [] = k
-ended_by k (b ∷ bs) = cond (b == 9) k Other
-
--- the kind that the start of a line names
-abbrev pub started : List ℕ → Kind
-started f =
-    cond (starts_round f) (ended_by Round (drop 5 f))
-    (cond (starts_door f) (ended_by Door (drop 4 f))
-    (cond (starts_drive f) (ended_by Drive (drop 5 f))
-    (cond (starts_first f) (ended_by First (drop 5 f)) Other)))
+named f =
+    if bytes_eq f (codes "round") then Round
+    else if bytes_eq f (codes "door") then Door
+    else if bytes_eq f (codes "drive") then Drive
+    else if bytes_eq f (codes "first") then First
+    else Other

@@ -1,26 +1,19 @@
 -- The forms of a field's bytes.
-use Rattle.std.specs.Prelude.{ℕ, Bool, false, cond, List, [], ◌∷◌, ◌==◌}
-use Rattle.std.specs.Char.{is_ascii_digit}
-use Rattle.std.specs.Str.{all_ascii_digits}
-
--- digits with no leading zero
-abbrev pub plain : List ℕ → Bool
-plain [] = false
-plain (b ∷ []) = is_ascii_digit b
-plain (b ∷ c ∷ bs) = cond (b == 48) false (all_ascii_digits (b ∷ c ∷ bs))
+use Rattle.std.specs.Prelude.{ℕ, Bool, ◌&&◌, ◌||◌, List, drop, codes, bytes_eq, ◌==◌, nat_lt, slice_index}
+use Rattle.std.specs.Str.{all_ascii_digits, byte}
 
 -- digits, the first of them not 0
 abbrev pub positive : List ℕ → Bool
-positive [] = false
-positive (b ∷ bs) = cond (b == 48) false (all_ascii_digits (b ∷ bs))
+positive f = nat_lt (byte "0") (slice_index f 0) && all_ascii_digits f
+
+-- digits with no leading zero
+abbrev pub plain : List ℕ → Bool
+plain f = bytes_eq f (codes "0") || positive f
 
 -- a minus, and digits of which the first is not 0
 abbrev pub minus : List ℕ → Bool
-minus [] = false
-minus (b ∷ bs) = cond (b == 45) (positive bs) false
+minus f = slice_index f 0 == byte "-" && positive (drop 1 f)
 
 -- a minus alone
 abbrev pub dash : List ℕ → Bool
-dash [] = false
-dash (b ∷ []) = b == 45
-dash (b ∷ c ∷ bs) = false
+dash f = bytes_eq f (codes "-")

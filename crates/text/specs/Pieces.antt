@@ -1,12 +1,16 @@
--- The pieces of a list of bytes between separators: one more than there are separators.
-use Rattle.std.specs.Prelude.{ℕ, cond, List, [], ◌∷◌, ◌==◌}
+-- Where bytes are cut.
+use Rattle.std.specs.Prelude.{ℕ, List, ◌==◌}
+use Rattle.std.specs.List.{slice_split}
+use Rattle.std.specs.Str.{byte}
 
--- b before the first piece
-abbrev pub onto : ℕ → List (List ℕ) → List (List ℕ)
-onto b [] = (b ∷ []) ∷ []
-onto b (p ∷ ps) = (b ∷ p) ∷ ps
-
--- the pieces at the separator s
+-- the pieces between the separators s: one more than there are separators
 abbrev pub pieces : ℕ → List ℕ → List (List ℕ)
-pieces s [] = [] ∷ []
-pieces s (b ∷ bs) = cond (b == s) ([] ∷ pieces s bs) (onto b (pieces s bs))
+pieces s bs = slice_split (λ b. b == s) bs
+
+-- the fields of a line
+abbrev pub fields_in : List ℕ → List (List ℕ)
+fields_in line = pieces (byte "\t") line
+
+-- the lines of a text, and what stands after the last line feed
+abbrev pub lines_in : List ℕ → List (List ℕ)
+lines_in text = pieces (byte "\n") text

@@ -19,7 +19,7 @@ Reads (Err e) was is text = (read_text text ≡ Err e) × (is ≡ was)
 -- a text is accepted exactly if it has the form of a round's text
 abbrev pub Accepts : {A : Type 0} → Result A Refusal → Round → List ℕ → Type 0
 Accepts (Ok u) is text = HasForm text (contents is)
-Accepts (Err e) is text = (d : Draft) → HasForm text d → ⊥
+Accepts (Err e) is text = (d : Draft) → ¬ HasForm text d
 
 -- a text above 16,384 bytes is refused, and any other is read
 abbrev pub Bounded : {A : Type 0} → Result A Refusal → Round → Round → List ℕ → Type 0

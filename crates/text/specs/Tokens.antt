@@ -1,28 +1,24 @@
--- The token that a field gives.
-use Rattle.std.specs.Prelude.{◌≡◌, ℕ, true, false, cond, List}
-use Rattle.std.specs.Borrow.{Bor}
+-- What a token holds.
+use Rattle.std.specs.Prelude.{◌≡◌, ℕ, true, false, List}
 use Rattle.text.specs.declared.token.Token.{Token}
 use Rattle.text.specs.declared.token.Token.TheVariants.{Number, Negative, Dash, Word}
 use Rattle.text.specs.Number.{plain, minus, dash}
 
--- by the form of the field's bytes, at line l and field f
-abbrev pub token_of : Bor (List ℕ) → ℕ → ℕ → Token
-token_of b l f =
-    cond (dash b.now) (Dash b l f) (cond (minus b.now) (Negative b l f) (cond (plain b.now) (Number b l f) (Word b l f)))
-
--- the bytes of a token, its line and its field
+-- the bytes of a token
 abbrev pub bytes_of : Token → List ℕ
 bytes_of (Number b l f) = b.now
 bytes_of (Negative b l f) = b.now
 bytes_of (Dash b l f) = b.now
 bytes_of (Word b l f) = b.now
 
+-- its line, from 1
 abbrev pub line_of : Token → ℕ
 line_of (Number b l f) = l
 line_of (Negative b l f) = l
 line_of (Dash b l f) = l
 line_of (Word b l f) = l
 
+-- its field, from 1
 abbrev pub field_of : Token → ℕ
 field_of (Number b l f) = f
 field_of (Negative b l f) = f

@@ -55,7 +55,8 @@ impl Draft {
 
     /// The set of the doors ahead of the second gets the first.
     pub(crate) fn add_pair(&mut self, pair: Pair)
-        requires { (pair.first ≤ 16) × (pair.then ≤ 16) }
+        requires first { pair.first ≤ 16 }
+        requires then { pair.then ≤ 16 }
         ensures { self.new ≡ with_pair self.old pair }
     {
         let ahead = &mut self.ahead[pair.then as usize];

@@ -1,7 +1,7 @@
 //! The kinds of lines.
-ghost use Rattle.std.specs.Prelude.{◌≡◌, [], slice_index_or};
-ghost use Rattle.text.specs.Pieces.{pieces};
-ghost use Rattle.text.specs.Kinds.{named, ended_by, started};
+ghost use Rattle.std.specs.Prelude.{◌≡◌, List, ℕ, ◌≤◌, length, slice_index_or};
+ghost use Rattle.std.specs.Borrow.{Bor};
+ghost use Rattle.text.specs.Kinds.{named};
 
 #[derive(Clone, Copy)]
 pub(crate) enum Kind {
@@ -12,32 +12,16 @@ pub(crate) enum Kind {
     Other,
 }
 
-/// The kind, if its word ends before `rest`: at a tab, or with the line.
-fn ended(kind: Kind, rest: &[u8]) -> Kind
-    ensures { result ≡ ended_by kind rest.now }
+/// The kind that a line's first field names; the rest of the line follows.
+pub(crate) fn kind_of(fields: &[&[u8]]) -> Kind
+    requires { 1 ≤ length fields.now }
+    ensures { (d : Bor (List ℕ)) → result ≡ named (slice_index_or fields.now 0 d).now }
 {
-    match rest {
-        [] | [b'\t', ..] => kind,
+    match fields {
+        [[b'r', b'o', b'u', b'n', b'd'], ..] => Kind::Round,
+        [[b'd', b'o', b'o', b'r'], ..] => Kind::Door,
+        [[b'd', b'r', b'i', b'v', b'e'], ..] => Kind::Drive,
+        [[b'f', b'i', b'r', b's', b't'], ..] => Kind::First,
         _ => Kind::Other,
     }
-}
-
-/// The kind by the word that the line starts with, and the rest of the line.
-fn kind_at_start(line: &[u8]) -> Kind
-    ensures { result ≡ started line.now }
-{
-    match line {
-        [b'r', b'o', b'u', b'n', b'd', rest @ ..] => ended(Kind::Round, rest),
-        [b'd', b'o', b'o', b'r', rest @ ..] => ended(Kind::Door, rest),
-        [b'd', b'r', b'i', b'v', b'e', rest @ ..] => ended(Kind::Drive, rest),
-        [b'f', b'i', b'r', b's', b't', rest @ ..] => ended(Kind::First, rest),
-        _ => Kind::Other,
-    }
-}
-
-/// The kind that the line's first field names.
-pub(crate) fn kind_of(line: &[u8]) -> Kind
-    ensures { result ≡ named (slice_index_or (pieces 9 line.now) 0 []) }
-{
-    kind_at_start(line)
 }

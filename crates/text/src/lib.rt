@@ -7,6 +7,7 @@
 
 mod cut;
 mod draft;
+mod fields;
 mod kind;
 mod line;
 mod number;

@@ -1,38 +1,19 @@
 //! What a line says, by its fields.
-ghost use Rattle.std.specs.Prelude.{◌≡◌, ◌-◌, ◌<◌, ◌≤◌, [], length, replicate, IfOk, ◌==◌, slice_index_or};
-ghost use Rattle.text.specs.Pieces.{pieces};
-ghost use Rattle.text.specs.Tokens.{Formed, bytes_of, line_of, field_of};
-ghost use Rattle.text.specs.Fields.{number_in, change_in, dash_in};
-ghost use Rattle.text.specs.Lines.{counted, in_turn, door_of, door_due, head_of, pair_of, leg_in, row_from, row_due};
+ghost use Rattle.std.specs.Prelude.{◌≡◌, ◌<◌, ◌≤◌, replicate, IfOk};
+ghost use Rattle.text.specs.Lines.{fields_of, number_at, change_at, dash_at, counted, in_turn};
+ghost use Rattle.text.specs.Lines.{door_of, door_due, head_of, pair_of, leg_in, row_from, row_due};
 
-use crate::cut::{count, piece};
+use crate::fields::Line;
 use crate::number::{change, within};
 use crate::refusal::Refusal;
-use crate::token::{Token, token_of};
+use crate::token::Token;
 use round::door::Door;
 
-#[derive(Clone, Copy)]
-pub(crate) struct Line<'a> {
-    pub(crate) bytes: &'a [u8],
-    pub(crate) number: usize,
-}
-
-/// The field of that number, from 1.
-fn field_at<'a>(line: Line<'a>, field: usize) -> Token<'a>
-    requires { 1 ≤ field }
-    ensures formed { Formed result }
-    ensures bytes { bytes_of result ≡ slice_index_or (pieces 9 line.entry.bytes.now) (field - 1) [] }
-    ensures line { line_of result ≡ line.entry.number }
-    ensures field { field_of result ≡ field }
-{
-    token_of(piece(line.bytes, b'\t', field - 1), line.number, field)
-}
-
 /// Refuses a line that has not that many fields.
-fn expect_fields(line: Line<'_>, many: usize) -> Result<(), Refusal>
-    ensures { result ≡ counted many line.entry.number (pieces 9 line.entry.bytes.now) (Ok tt) }
+fn expect_fields(line: &Line<'_>, count: usize) -> Result<(), Refusal>
+    ensures { result ≡ counted count line.now.number (fields_of line.now) (Ok tt) }
 {
-    if count(line.bytes, b'\t') == many {
+    if line.count() == count {
         Ok(())
     } else {
         Err(Refusal::FieldCount { line: line.number })
@@ -40,27 +21,29 @@ fn expect_fields(line: Line<'_>, many: usize) -> Result<(), Refusal>
 }
 
 /// The number in that field, from low to high.
-fn number_at(line: Line<'_>, field: usize, low: u16, high: u16) -> Result<u16, Refusal>
-    requires { (1 ≤ field) × (high < 10000) }
-    ensures value { result ≡ number_in low high
-        (slice_index_or (pieces 9 line.entry.bytes.now) (field - 1) []) line.entry.number field }
+fn number_at(line: &Line<'_>, field: usize, low: u16, high: u16) -> Result<u16, Refusal>
+    requires some { 1 ≤ field }
+    requires most { field ≤ 18 }
+    requires small { high < 10000 }
+    ensures value { result ≡ number_at line.now.number (fields_of line.now) field low high }
     ensures bound { IfOk result (λ v. (low ≤ v) × (v ≤ high)) }
 {
-    within(field_at(line, field), low, high)
+    within(line.token(field), low, high)
 }
 
-fn change_at(line: Line<'_>, field: usize) -> Result<i8, Refusal>
-    requires { 1 ≤ field }
-    ensures { result ≡ change_in (slice_index_or (pieces 9 line.entry.bytes.now) (field - 1) [])
-        line.entry.number field }
+/// The change in that field, from -99 to 99.
+fn change_at(line: &Line<'_>, field: usize) -> Result<i8, Refusal>
+    requires some { 1 ≤ field }
+    requires most { field ≤ 18 }
+    ensures { result ≡ change_at line.now.number (fields_of line.now) field }
 {
-    change(field_at(line, field))
+    change(line.token(field))
 }
 
 /// Refuses a line whose number, from low to high, is not the one that is due.
-fn expect_turn(line: Line<'_>, low: u16, high: u16, due: u16) -> Result<(), Refusal>
+fn expect_turn(line: &Line<'_>, low: u16, high: u16, due: u16) -> Result<(), Refusal>
     requires { high < 10000 }
-    ensures { result ≡ in_turn low high due line.entry.number (pieces 9 line.entry.bytes.now) }
+    ensures { result ≡ in_turn low high due line.now.number (fields_of line.now) }
 {
     if number_at(line, 2, low, high)? == due {
         Ok(())
@@ -73,8 +56,8 @@ fn expect_turn(line: Line<'_>, low: u16, high: u16, due: u16) -> Result<(), Refu
 }
 
 /// What a door line says of its door.
-fn door_of(line: Line<'_>) -> Result<Door, Refusal>
-    ensures { result ≡ door_of line.entry.number (pieces 9 line.entry.bytes.now) }
+fn door_of(line: &Line<'_>) -> Result<Door, Refusal>
+    ensures { result ≡ door_of line.now.number (fields_of line.now) }
 {
     let opens = number_at(line, 3, 0, 9_999)?;
     let closes = number_at(line, 4, 0, 9_999)?;
@@ -91,9 +74,9 @@ fn door_of(line: Line<'_>) -> Result<Door, Refusal>
 }
 
 /// The door of a door line, where the door `due` of n is the next.
-pub(crate) fn door_due(line: Line<'_>, n: u16, due: u16) -> Result<Door, Refusal>
+pub(crate) fn door_due(line: &Line<'_>, n: u16, due: u16) -> Result<Door, Refusal>
     requires { n ≤ 16 }
-    ensures { result ≡ door_due n due line.entry.number (pieces 9 line.entry.bytes.now) }
+    ensures { result ≡ door_due n due line.now.number (fields_of line.now) }
 {
     expect_fields(line, 7)?;
     expect_turn(line, 1, n, due)?;
@@ -108,8 +91,10 @@ pub(crate) struct Head {
     pub(crate) cap: u16,
 }
 
-pub(crate) fn head_of(line: Line<'_>) -> Result<Head, Refusal>
-    ensures { result ≡ head_of line.entry.number (pieces 9 line.entry.bytes.now) }
+/// The round line.
+pub(crate) fn head_of(line: &Line<'_>) -> Result<Head, Refusal>
+    ensures value { result ≡ head_of line.now.number (fields_of line.now) }
+    ensures bound { IfOk result (λ h. (1 ≤ h.n) × (h.n ≤ 16)) }
 {
     expect_fields(line, 4)?;
     let n = number_at(line, 2, 1, 16)?;
@@ -125,9 +110,10 @@ pub(crate) struct Pair {
     pub(crate) then: u16,
 }
 
-pub(crate) fn pair_of(line: Line<'_>, n: u16) -> Result<Pair, Refusal>
+/// The line of a pair of the n doors.
+pub(crate) fn pair_of(line: &Line<'_>, n: u16) -> Result<Pair, Refusal>
     requires { n ≤ 16 }
-    ensures value { result ≡ pair_of n line.entry.number (pieces 9 line.entry.bytes.now) }
+    ensures value { result ≡ pair_of n line.now.number (fields_of line.now) }
     ensures bound { IfOk result (λ p. (p.first ≤ n) × (p.then ≤ n)) }
 {
     expect_fields(line, 3)?;
@@ -143,12 +129,12 @@ pub(crate) fn pair_of(line: Line<'_>, n: u16) -> Result<Pair, Refusal>
 }
 
 /// A "-" in that field, for a drive of no minutes.
-fn dash_at(line: Line<'_>, field: usize) -> Result<u16, Refusal>
-    requires { 1 ≤ field }
-    ensures { result ≡ dash_in (slice_index_or (pieces 9 line.entry.bytes.now) (field - 1) [])
-        line.entry.number field }
+fn dash_at(line: &Line<'_>, field: usize) -> Result<u16, Refusal>
+    requires some { 1 ≤ field }
+    requires most { field ≤ 18 }
+    ensures { result ≡ dash_at line.now.number (fields_of line.now) field }
 {
-    match field_at(line, field) {
+    match line.token(field) {
         Token::Dash { .. } => Ok(0),
         _ => Err(Refusal::NotNumber {
             line: line.number,
@@ -158,9 +144,9 @@ fn dash_at(line: Line<'_>, field: usize) -> Result<u16, Refusal>
 }
 
 /// The drive from a place to a door: "-" where they are the same.
-fn leg_at(line: Line<'_>, from: u16, to: u16) -> Result<u16, Refusal>
+fn leg_at(line: &Line<'_>, from: u16, to: u16) -> Result<u16, Refusal>
     requires { to ≤ 16 }
-    ensures { result ≡ leg_in from to line.entry.number (pieces 9 line.entry.bytes.now) }
+    ensures { result ≡ leg_in from to line.now.number (fields_of line.now) }
 {
     let field = to as usize + 2;
     if from == to {
@@ -171,10 +157,9 @@ fn leg_at(line: Line<'_>, from: u16, to: u16) -> Result<u16, Refusal>
 }
 
 /// The drives from a place to each of n doors.
-fn row_of(line: Line<'_>, n: u16, from: u16) -> Result<[u16; 17], Refusal>
+fn row_of(line: &Line<'_>, n: u16, from: u16) -> Result<[u16; 17], Refusal>
     requires { n ≤ 16 }
-    ensures { result ≡ row_from n from 1 line.entry.number (pieces 9 line.entry.bytes.now)
-        (replicate 17 0) }
+    ensures { result ≡ row_from n from 1 line.now.number (fields_of line.now) (replicate 17 0) }
 {
     let mut row = [0; 17];
     for to in 1..=n {
@@ -184,9 +169,9 @@ fn row_of(line: Line<'_>, n: u16, from: u16) -> Result<[u16; 17], Refusal>
 }
 
 /// The drives of a drive line, where the place `due` is the next.
-pub(crate) fn row_due(line: Line<'_>, n: u16, due: u16) -> Result<[u16; 17], Refusal>
+pub(crate) fn row_due(line: &Line<'_>, n: u16, due: u16) -> Result<[u16; 17], Refusal>
     requires { n ≤ 16 }
-    ensures { result ≡ row_due n due line.entry.number (pieces 9 line.entry.bytes.now) }
+    ensures { result ≡ row_due n due line.now.number (fields_of line.now) }
 {
     expect_fields(line, n as usize + 2)?;
     expect_turn(line, 0, n, due)?;

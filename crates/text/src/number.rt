@@ -26,7 +26,8 @@ fn amount(digits: &[u8]) -> u16
 
 /// The number of a field, from low to high.
 pub(crate) fn within(token: Token<'_>, low: u16, high: u16) -> Result<u16, Refusal>
-    requires { (Formed token) × (high < 10000) }
+    requires formed { Formed token }
+    requires small { high < 10000 }
     ensures { result ≡ number_in low high (bytes_of token.entry) (line_of token.entry)
         (field_of token.entry) }
 {
@@ -48,7 +49,8 @@ pub(crate) fn within(token: Token<'_>, low: u16, high: u16) -> Result<u16, Refus
 /// The number of a field, from -99 to 99.
 pub(crate) fn change(token: Token<'_>) -> Result<i8, Refusal>
     requires { Formed token }
-    ensures { result ≡ change_in (bytes_of token.entry) (line_of token.entry) (field_of token.entry) }
+    ensures { result ≡ change_in (bytes_of token.entry) (line_of token.entry)
+        (field_of token.entry) }
 {
     match token {
         Token::Number { bytes, line, field } => match amount(bytes) {

@@ -1,26 +1,32 @@
 //! One line more of the text.
-ghost use Rattle.std.specs.Prelude.{◌≡◌, ◌≤◌};
-ghost use Rattle.text.specs.Pieces.{pieces};
-ghost use Rattle.text.specs.Steps.{Ready, went, head_step, door_step, drive_step, pair_step, line_step};
+ghost use Rattle.std.specs.Prelude.{◌≡◌, ◌≤◌, IfOk};
+ghost use Rattle.text.specs.Lines.{fields_of};
+ghost use Rattle.text.specs.Steps.{Ready, went, kind_step, line_step};
+ghost use Rattle.text.specs.declared.kind.Kind.TheVariants.{Round, Door, Drive, First};
+ghost use Rattle.text.specs.declared.stage.Stage.TheVariants.{Head, Doors, Drives, Pairs};
 
 use crate::draft::Draft;
-use crate::kind::{Kind, kind_of};
-use crate::line::{Line, door_due, head_of, pair_of, row_due};
+use crate::fields::Line;
+use crate::kind::Kind;
+use crate::line::{door_due, head_of, pair_of, row_due};
 use crate::refusal::Refusal;
 use crate::stage::Stage;
 
-fn take_head(draft: &mut Draft, line: Line<'_>) -> Result<Stage, Refusal>
-    ensures { went result draft.new ≡ head_step draft.old line.entry.number
-        (pieces 9 line.entry.bytes.now) }
+fn take_head(draft: &mut Draft, line: &Line<'_>) -> Result<Stage, Refusal>
+    ensures step { went result draft.new
+        ≡ kind_step Head Round draft.old line.now.number (fields_of line.now) }
+    ensures ready { IfOk result (λ s. Ready s draft.new) }
 {
     draft.set_head(head_of(line)?);
     Ok(Stage::Doors(1))
 }
 
-fn take_door(draft: &mut Draft, due: u16, line: Line<'_>) -> Result<Stage, Refusal>
-    requires { (due ≤ draft.old.n) × (draft.old.n ≤ 16) }
-    ensures { went result draft.new ≡ door_step due draft.old line.entry.number
-        (pieces 9 line.entry.bytes.now) }
+fn take_door(draft: &mut Draft, due: u16, line: &Line<'_>) -> Result<Stage, Refusal>
+    requires due { due ≤ draft.old.n }
+    requires most { draft.old.n ≤ 16 }
+    ensures step { went result draft.new
+        ≡ kind_step (Doors due) Door draft.old line.now.number (fields_of line.now) }
+    ensures ready { IfOk result (λ s. Ready s draft.new) }
 {
     let door = door_due(line, draft.n, due)?;
     draft.set_door(due, door);
@@ -31,10 +37,12 @@ fn take_door(draft: &mut Draft, due: u16, line: Line<'_>) -> Result<Stage, Refus
     }
 }
 
-fn take_drive(draft: &mut Draft, from: u16, line: Line<'_>) -> Result<Stage, Refusal>
-    requires { (from ≤ draft.old.n) × (draft.old.n ≤ 16) }
-    ensures { went result draft.new ≡ drive_step from draft.old line.entry.number
-        (pieces 9 line.entry.bytes.now) }
+fn take_drive(draft: &mut Draft, from: u16, line: &Line<'_>) -> Result<Stage, Refusal>
+    requires due { from ≤ draft.old.n }
+    requires most { draft.old.n ≤ 16 }
+    ensures step { went result draft.new
+        ≡ kind_step (Drives from) Drive draft.old line.now.number (fields_of line.now) }
+    ensures ready { IfOk result (λ s. Ready s draft.new) }
 {
     let row = row_due(line, draft.n, from)?;
     draft.set_row(from, row);
@@ -45,10 +53,11 @@ fn take_drive(draft: &mut Draft, from: u16, line: Line<'_>) -> Result<Stage, Ref
     }
 }
 
-fn take_pair(draft: &mut Draft, line: Line<'_>) -> Result<Stage, Refusal>
+fn take_pair(draft: &mut Draft, line: &Line<'_>) -> Result<Stage, Refusal>
     requires { draft.old.n ≤ 16 }
-    ensures { went result draft.new ≡ pair_step draft.old line.entry.number
-        (pieces 9 line.entry.bytes.now) }
+    ensures step { went result draft.new
+        ≡ kind_step Pairs First draft.old line.now.number (fields_of line.now) }
+    ensures ready { IfOk result (λ s. Ready s draft.new) }
 {
     let pair = pair_of(line, draft.n)?;
     draft.add_pair(pair);
@@ -56,12 +65,13 @@ fn take_pair(draft: &mut Draft, line: Line<'_>) -> Result<Stage, Refusal>
 }
 
 /// One line, whose kind has to be due.
-pub(crate) fn take_line(draft: &mut Draft, stage: Stage, line: Line<'_>) -> Result<Stage, Refusal>
+pub(crate) fn take_line(draft: &mut Draft, stage: Stage, line: &Line<'_>) -> Result<Stage, Refusal>
     requires { Ready stage draft.old }
-    ensures { went result draft.new ≡ line_step stage draft.old line.entry.number
-        (pieces 9 line.entry.bytes.now) }
+    ensures step { went result draft.new
+        ≡ line_step stage draft.old line.now.number (fields_of line.now) }
+    ensures ready { IfOk result (λ s. Ready s draft.new) }
 {
-    match (stage, kind_of(line.bytes)) {
+    match (stage, line.kind()) {
         (Stage::Head, Kind::Round) => take_head(draft, line),
         (Stage::Doors(due), Kind::Door) => take_door(draft, due, line),
         (Stage::Drives(from), Kind::Drive) => take_drive(draft, from, line),

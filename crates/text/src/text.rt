@@ -4,7 +4,7 @@ ghost use Rattle.text.specs.Reading.{read_text};
 
 use crate::cut::cut_at;
 use crate::draft::Draft;
-use crate::line::Line;
+use crate::fields::Line;
 use crate::refusal::Refusal;
 use crate::stage::Stage;
 use crate::step::take_line;
@@ -17,7 +17,7 @@ pub(crate) fn draft_of(text: &[u8]) -> Result<Draft, Refusal>
     let mut rest = text;
     let mut number = 1;
     while let Some((bytes, after)) = cut_at(rest, b'\n') {
-        stage = take_line(&mut draft, stage, Line { bytes, number })?;
+        stage = take_line(&mut draft, stage, &Line::new(bytes, number))?;
         rest = after;
         number += 1;
     }

@@ -2,7 +2,7 @@
 ghost use Rattle.std.specs.Prelude.{◌≡◌};
 ghost use Rattle.std.specs.Str.{all_ascii_digits};
 ghost use Rattle.text.specs.Number.{plain, positive, minus};
-ghost use Rattle.text.specs.Tokens.{token_of};
+ghost use Rattle.text.specs.Tokens.{Formed, bytes_of, line_of, field_of};
 
 #[derive(Clone, Copy)]
 pub(crate) enum Token<'a> {
@@ -57,8 +57,12 @@ fn is_negative(bytes: &[u8]) -> bool
     }
 }
 
+/// The token of a field, whose case is the form of its bytes.
 pub(crate) fn token_of<'a>(bytes: &'a [u8], line: usize, field: usize) -> Token<'a>
-    ensures { result ≡ token_of bytes.entry line field }
+    ensures formed { Formed result }
+    ensures bytes { bytes_of result ≡ bytes.now }
+    ensures line { line_of result ≡ line }
+    ensures field { field_of result ≡ field }
 {
     if matches!(bytes, b"-") {
         Token::Dash { bytes, line, field }
