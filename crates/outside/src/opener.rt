@@ -25,7 +25,9 @@ impl Rule for Opener {
 
     ghost stands = { λ r s w. (s ≡ false → w ≡ []) };
 
-    ghost lawful = { λ r n e. subst (λ (m : ℕ). RuleLaws m (opener_sense r.n r.door) (Begins r.door) (λ s w. s ≡ false → w ≡ [])) e (opener_lawful r.n r.door) };
+    ghost lawful = { λ r n e.
+        subst (λ (m : ℕ). RuleLaws m (opener_sense r.n r.door) (Begins r.door) (λ s w. s ≡ false → w ≡ [])) e
+        (opener_lawful r.n r.door) };
 
     ghost reflexive = { λ r s. (opener_lawful r.n r.door).same_self s };
 

@@ -1,7 +1,6 @@
 -- One more place of a row.
 use Rattle.std.proofs.Common.{◌≡◌, ℕ, zero, suc, ◌+◌, ◌<◌, true, false, List, [], ◌∷◌, ◌++◌, length, get_or, take, drop, map, set, replicate, sym, refl, ap, ◌∙◌, arith}
-use Rattle.std.proofs.lemmas.Grind.{common_steps}
-use Rattle.std.proofs.lemmas.Grind.{elements}
+use Rattle.std.proofs.lemmas.Grind.{common_steps, elements}
 use Rattle.std.proofs.lemmas.List.{drop_more, take_more, get_or_past, get_or_append_left, get_or-append_right, get_or-set_same, get_or-set_other, map-append, length-map, length-take}
 use Rattle.std.proofs.lemmas.Bool.{cases_order}
 use Rattle.layers.specs.declared.node.Node.{Node}
