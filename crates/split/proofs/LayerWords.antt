@@ -1,6 +1,7 @@
 -- Parting a layer of records that are laid out is parting the layer of the net.
 use Rattle.std.proofs.Common.{◌≡◌, ℕ, zero, suc, ◌+◌, ◌-◌, ◌*◌, ◌<◌, ◌≤◌, Bool, true, false, cond, ltb, leb, List, [], ◌∷◌, ◌++◌, length, get_or, take, drop, Option, Ok, Err, sym, refl, ap, ◌∙◌, subst, ap₂, arith}
 use Rattle.std.proofs.lemmas.List.{length-append}
+use Rattle.std.proofs.lemmas.Bool.Decides.{nat_tests}
 use Rattle.std.proofs.lemmas.Bool.{leb-false, le-ltb, lt-leb, or_from, cond-false}
 use Rattle.layers.specs.declared.node.Node.{Node}
 use Rattle.layers.specs.declared.refusal.Refusal.TheVariants.{NoLayer}
@@ -21,7 +22,7 @@ use Rattle.labels.specs.Passes.{part, relabelled}
 use Rattle.labels.proofs.Laying.{Arranged, arranged-of}
 use Rattle.split.specs.Steps.{place_check, node_count, alike, parted_one, parts_from, layer_steps}
 use Rattle.split.specs.Words.{LayerDone}
-use Rattle.split.proofs.Checks.{place_is, clear-done}
+use Rattle.split.proofs.Checks.{clear-done}
 use Rattle.split.proofs.LayerNet.{Known, labs, downs-same, stands_same, known_alike, known-parted, known-tail, known-length, known-labels}
 use Rattle.split.proofs.PartWords.{relaid-same}
 use Rattle.split.proofs.ShapedNet.{count-layer}
@@ -199,7 +200,7 @@ module _ {S V : Type 0} (by : Setting S V) (self : (s : S) → by.rule.same s s 
     pub layer-words : by.width ≤ 128 → Done by.round.n by.width xs (parted by by.width i 0 Ls) (layer_steps by i xs)
     unfolding layer_steps
     layer-words few =
-        let clear : place_check by.round.n by.width (length xs) i ≡ Ok tt = place_is by.round.n by.width (length xs) i w few laid-fit ∙ cond-false _ (Err NoLayer) (Ok tt) (or_from (ltb i 1) (leb by.round.n i) (le-ltb i 1 low) (lt-leb by.round.n i high)) in
+        let clear : place_check by.round.n by.width (length xs) i ≡ Ok tt = grind (arith, nat_tests, w, few, laid-fit, low, high) in
         subst (Done by.round.n by.width xs (parted by by.width i 0 Ls)) (sym (clear-done (place_check by.round.n by.width (length xs) i) _ (false, xs) clear))
         (parts-net by self w i low by.width 0 (node_count ((i - 1) * by.width + by.width) by.width xs) Ls xs laid-state laid-count)
 

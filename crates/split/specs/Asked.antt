@@ -1,6 +1,6 @@
 -- What the checks before a part or a join find.
 -- Nobody has to believe these steps: `answer` and `words` of `part` and of `join` say what they come to.
-use Rattle.std.specs.Prelude.{◌≡◌, ℕ, ◌+◌, ◌-◌, ◌*◌, ◌<◌, ◌≤◌, min, max, Bool, false, List, length, Some, None, Option, Ok, Err}
+use Rattle.std.specs.Prelude.{◌≡◌, ℕ, ◌+◌, ◌-◌, ◌*◌, ◌<◌, ◌≤◌, ◌≢◌, Bool, false, List, length, Some, None, Option, Ok, Err}
 use Rattle.layers.specs.declared.node.Node.{Node}
 use Rattle.layers.specs.declared.refusal.Refusal.TheVariants.{OneGroup}
 use Rattle.layers.specs.Calls.{Outcome}
@@ -50,7 +50,9 @@ module _ {S V : Type 0} (by : Setting S V) where
   pub record MayJoin (i a b : ℕ) (xs : List (Node S V)) : Type 0 where
     pub clear : join_check by i a b xs ≡ Ok tt
     pub placed : Placed by.round.n by.width (length xs) i
-    pub low : 1 ≤ min a b
-    pub apart : min a b < max a b
-    pub high : max a b ≤ node_count ((i - 1) * by.width + by.width) by.width xs
+    pub low_a : 1 ≤ a
+    pub low_b : 1 ≤ b
+    pub high_a : a ≤ node_count ((i - 1) * by.width + by.width) by.width xs
+    pub high_b : b ≤ node_count ((i - 1) * by.width + by.width) by.width xs
+    pub apart : a ≢ b
     pub calm : clash_at (blank_node by.rule by.tally) ((i - 1) * by.width + by.width) a b xs ≡ false

@@ -40,6 +40,7 @@ fn check_pair<S: Copy, V: Copy>(
 }
 
 /// Whether nodes a and b of the layer can be joined.
+#[tactic(auto, unfolding(crate::specs::Steps::join_check))]
 fn check_join<R: Rule, T: Tally>(
     by: &Setting<'_, R, T>,
     nodes: &[Node<R::State, T::Value>],

@@ -60,6 +60,7 @@ fn check_into<R: Rule, T: Tally>(
 }
 
 /// Whether the node of the layer can be parted, and its first in-arc.
+#[tactic(auto, unfolding(crate::specs::Steps::part_check))]
 fn check_part<R: Rule, T: Tally>(
     by: &Setting<'_, R, T>,
     nodes: &[Node<R::State, T::Value>],

@@ -10,19 +10,6 @@ use Rattle.split.proofs.Doing.{layer-small, layer-within}
 use Rattle.split.proofs.Turns.{and-swap}
 use Rattle.split.proofs.agreeing.agreed.Goals as goal
 
-pub returns-then-not-has_room : goal.returns-then-not-has_room
-unfolding agreed_steps
-returns-then-not-has_room g c =
-    let r = c.args.round.now in
-    let By : TallySense g.row.V.Denot → Setting g.row.R-State.Denot g.row.V.Denot = λ s. setting r (g.R.Rule.sense c.args.rule.now) s c.args.width in
-    let xs = c.args.nodes.now in
-    let no : (s : TallySense g.row.V.Denot) → false ≡ agreed_steps (By s) xs = λ s. sym (cond-false (fits r.n c.args.width (length xs)) _ _ (sym c.if-not-has_room.ensures)) in
-    record { steps = no; words = λ s. agreed-said (By s) xs false (no s) }
-
-pub loop-k-init : goal.loop-k-init
-unfolding agreed_layers
-loop-k-init g c s = refl
-
 pub overflow_mul-k : goal.overflow_mul-k
 overflow_mul-k g c =
     let room = room-facts c.args.round.now.n c.args.width (length c.args.nodes.now) (sym c.if-not-has_room.ensures) in

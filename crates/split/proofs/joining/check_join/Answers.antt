@@ -3,15 +3,9 @@ use native.Mathlib.Nat.{max-le}
 use Rattle.std.proofs.lemmas.Result.{err_from_is_err_and}
 use Rattle.layers.specs.Settings.{lent_setting}
 use Rattle.split.specs.Steps.{node_check}
-use Rattle.split.proofs.Asking.{join-place, join_one, join-other, join-pair}
 use Rattle.split.proofs.Checks.{place-clear, node-clear, placed-fits, placed-small}
 use Rattle.split.proofs.Stands.{count_most}
 use Rattle.split.proofs.joining.check_join.Goals as goal
-
-pub returns-in_err-check_place : goal.returns-in_err-check_place
-returns-in_err-check_place g c =
-    let p = err_from_is_err_and c.from_residual.result c.from_residual.ensures.1 in
-    rw (p.1, p.2) (sym (join-place (lent_setting c.args.by.now (g.R.Rule.sense c.args.by.now.rule.now) (g.T.Tally.sense c.args.by.now.tally.now)) c.args.layer c.args.a c.args.b c.args.nodes.now _ (sym c.in_err-check_place.ensures)))
 
 pub overflow_mul-at : goal.overflow_mul-at
 overflow_mul-at g c =
@@ -28,19 +22,6 @@ count_in-count-requires g c =
     let fits = placed-fits c.args.by.now.round.now.n c.args.by.now.width (length c.args.nodes.now) c.args.layer (place-clear _ _ _ _ (sym c.in_ok-check_place.ensures)) in
     omega arith
 
-pub returns-in_err-check_node : goal.returns-in_err-check_node
-returns-in_err-check_node g c =
-    let p = err_from_is_err_and c.from_residual-in_err-check_node.result c.from_residual-in_err-check_node.ensures.1 in
-    rw (p.1, p.2) (sym (join_one (lent_setting c.args.by.now (g.R.Rule.sense c.args.by.now.rule.now) (g.T.Tally.sense c.args.by.now.tally.now)) c.args.layer c.args.a c.args.b c.args.nodes.now _
-    (sym c.in_ok-check_place.ensures) (ap (λ m. node_check m c.args.a) (sym c.count_in-count.ensures) ∙ sym c.in_err-check_node.ensures)))
-
-pub returns-in_err-check_node-2 : goal.returns-in_err-check_node-2
-returns-in_err-check_node-2 g c =
-    let p = err_from_is_err_and c.from_residual-in_err-check_node-2.result c.from_residual-in_err-check_node-2.ensures.1 in
-    rw (p.1, p.2) (sym (join-other (lent_setting c.args.by.now (g.R.Rule.sense c.args.by.now.rule.now) (g.T.Tally.sense c.args.by.now.tally.now)) c.args.layer c.args.a c.args.b c.args.nodes.now _
-    (sym c.in_ok-check_place.ensures) (ap (λ m. node_check m c.args.a) (sym c.count_in-count.ensures) ∙ sym c.in_ok-check_node.ensures)
-    (ap (λ m. node_check m c.args.b) (sym c.count_in-count.ensures) ∙ sym c.in_err-check_node-2.ensures)))
-
 pub check_pair-requires : goal.check_pair-requires
 check_pair-requires g c =
     let w = c.args.by.now.width in
@@ -55,9 +36,3 @@ check_pair-requires g c =
       one_le_b = b.0;
       b_in_bounds = omega (arith, c.count_in-count.ensures, count_most at w c.args.nodes.now);
     }
-
-pub returns : goal.returns
-returns g c =
-    let a : node_check _ c.args.a ≡ Ok tt = ap (λ m. node_check m c.args.a) (sym c.count_in-count.ensures) ∙ sym c.in_ok-check_node.ensures in
-    let b : node_check _ c.args.b ≡ Ok tt = ap (λ m. node_check m c.args.b) (sym c.count_in-count.ensures) ∙ sym c.in_ok-check_node-2.ensures in
-    sym (join-pair (lent_setting c.args.by.now (g.R.Rule.sense c.args.by.now.rule.now) (g.T.Tally.sense c.args.by.now.tally.now)) c.args.layer c.args.a c.args.b c.args.nodes.now _ (sym c.in_ok-check_place.ensures) a b (sym (c.check_pair.ensures _)))

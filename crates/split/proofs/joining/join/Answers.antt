@@ -36,13 +36,13 @@ pub overflow_cast-min : goal.overflow_cast-min
 overflow_cast-min g c =
     let may = join-clear (lent_setting c.args.by.now (g.R.Rule.sense c.args.by.now.rule.now) (g.T.Tally.sense c.args.by.now.tally.now)) c.args.layer c.args.a c.args.b c.args.nodes.now (sym c.in_ok-check_join.ensures) in
     let most = count_most ((c.args.layer - 1) * c.args.by.now.width + c.args.by.now.width) c.args.by.now.width c.args.nodes.now in
-    omega (arith, may.apart, may.high, may.placed.few)
+    omega (arith, may.high_a, may.high_b, may.placed.few)
 
 pub overflow_cast-max : goal.overflow_cast-max
 overflow_cast-max g c =
     let may = join-clear (lent_setting c.args.by.now (g.R.Rule.sense c.args.by.now.rule.now) (g.T.Tally.sense c.args.by.now.tally.now)) c.args.layer c.args.a c.args.b c.args.nodes.now (sym c.in_ok-check_join.ensures) in
     let most = count_most ((c.args.layer - 1) * c.args.by.now.width + c.args.by.now.width) c.args.by.now.width c.args.nodes.now in
-    omega (arith, may.high, may.placed.few)
+    omega (arith, may.high_a, may.high_b, may.placed.few)
 
 pub join_nodes-requires : goal.join_nodes-requires
 join_nodes-requires g c =
@@ -50,9 +50,9 @@ join_nodes-requires g c =
     let most = count_most ((c.args.layer - 1) * c.args.by.now.width + c.args.by.now.width) c.args.by.now.width c.args.nodes.now in
     record {
       two_in_bounds = placed-fits c.args.by.now.round.now.n c.args.by.now.width (length c.args.nodes.now) c.args.layer may.placed;
-      one_le_lo = omega (arith, may.low);
+      one_le_lo = omega (arith, may.low_a, may.low_b);
       lo_lt_hi = omega (arith, may.apart);
-      hi_le_width = omega (arith, may.high);
+      hi_le_width = omega (arith, may.high_a, may.high_b);
     }
 
 pub returns : goal.returns
