@@ -127,13 +127,7 @@ module _ {S V : Type 0} (by : Setting S V) (self : (s : S) → by.rule.same s s 
   pub parts-net : (k a m : ℕ) (Ls : Net) (xs : List (Node S V)) → State Ls xs → m ≡ count by i Ls → Done by.round.n by.width xs (parted by k i a Ls) (parts_from by ((i - 1) * by.width) k a m xs)
   unfolding parted parts_from
   parts-net zero a m Ls xs s em = record { answer = refl; arranged = s.known.arranged; tail = refl; long = refl }
-  parts-net (suc k) a m Ls xs s em =
-      let G : Bool → Bool → Bool → Bool × Net = λ x y z. elim x [ true ↦ (false, Ls) | false ↦ elim y [ true ↦ parted by k i (suc a) Ls | false ↦ elim z [ true ↦ (true, Ls) | false ↦ parted by k i (suc a) P ] ] ] in
-      let same : G (leb m a) (alike by ((i - 1) * by.width) (suc a) xs) (leb by.width m) ≡ G (leb (count by i Ls) a) (one_group by (i - 1) a (first_labels by.rule by.tally) Ls) (leb by.width (count by i Ls)) =
-      ap (λ (c : ℕ). G (leb c a) (alike by ((i - 1) * by.width) (suc a) xs) (leb by.width c)) em ∙ ap (λ y. G (leb (count by i Ls) a) y (leb by.width (count by i Ls))) (group-same Ls xs s a m em) in
-      subst (λ p. Done by.round.n by.width xs p (parts_from by ((i - 1) * by.width) (suc k) a m xs)) same
-      (go (leb m a) refl (alike by ((i - 1) * by.width) (suc a) xs) refl (leb by.width m) refl (parts-net k (suc a) m Ls xs s em)
-      (λ t. parts-net k (suc a) (suc m) P ys t (next-count Ls xs s a m em)))
+  parts-net (suc k) a m Ls xs s em = go (leb m a) refl (alike by ((i - 1) * by.width) (suc a) xs) refl (leb by.width m) refl (parts-net k (suc a) m Ls xs s em) (λ t. parts-net k (suc a) (suc m) P ys t (next-count Ls xs s a m em))
     where
       P : Net
       P = part_at by (i - 1) a (first_labels by.rule by.tally) Ls
@@ -144,20 +138,19 @@ module _ {S V : Type 0} (by : Setting S V) (self : (s : S) → by.rule.same s s 
       go : (x : Bool) → leb m a ≡ x → (y : Bool) → alike by ((i - 1) * by.width) (suc a) xs ≡ y → (z : Bool) → leb by.width m ≡ z
           → Done by.round.n by.width xs (parted by k i (suc a) Ls) (parts_from by ((i - 1) * by.width) k (suc a) m xs)
           → (State P ys → Done by.round.n by.width ys (parted by k i (suc a) P) (parts_from by ((i - 1) * by.width) k (suc a) (suc m) ys))
-          → Done by.round.n by.width xs (elim x [ true ↦ (false, Ls) | false ↦ elim y [ true ↦ parted by k i (suc a) Ls | false ↦ elim z [ true ↦ (true, Ls) | false ↦ parted by k i (suc a) P ] ] ])
-          (cond x (false, xs) (cond y (parts_from by ((i - 1) * by.width) k (suc a) m xs) (cond z (true, xs) (parts_from by ((i - 1) * by.width) k (suc a) (suc m) ys))))
-      go true e y f z g on next = record { answer = refl; arranged = s.known.arranged; tail = refl; long = refl }
-      go false e true f z g on next = on
-      go false e false f true g on next = record { answer = refl; arranged = s.known.arranged; tail = refl; long = refl }
+          → Done by.round.n by.width xs (parted by (suc k) i a Ls) (parts_from by ((i - 1) * by.width) (suc k) a m xs)
+      go true e y f z g on next = rw (parted, parts_from, ← em, e) (record { answer = refl; arranged = s.known.arranged; tail = refl; long = refl })
+      go false e true f z g on next = rw (parted, parts_from, ← em, e, ← group-same Ls xs s a m em, f) on
+      go false e false f true g on next = rw (parted, parts_from, ← em, e, ← group-same Ls xs s a m em, f, ← em, g) (record { answer = refl; arranged = s.known.arranged; tail = refl; long = refl })
       go false e false f false g on next =
           let ml = leb-false by.width m g in
           let t = next (next-state Ls xs s a m em (leb-false m a e) ml (sym (group-same Ls xs s a m em) ∙ f)) in
-          record {
+          rw (parted, parts_from, ← em, e, ← group-same Ls xs s a m em, f, ← em, g) (record {
             answer = t.answer;
             arranged = t.arranged;
             tail = t.tail ∙ known-tail by (i - 1) Ls xs s.known a m ml;
             long = t.long ∙ known-length by (i - 1) Ls xs a m;
-          }
+          })
 
 -- ---- records that are laid out
 module _ {S V : Type 0} (by : Setting S V) (self : (s : S) → by.rule.same s s ≡ true) (w : 1 ≤ by.width) (later : List (Node S V)) (Ls : Net) (p : Proper by.round.n by.width Ls) where

@@ -6,12 +6,6 @@ use Rattle.layers.specs.declared.node.Node.{Node}
 use Rattle.split.specs.Steps.{next_count, alike, parted_one, next_records, parts_from}
 use Rattle.layers.specs.Settings.{Setting}
 
-pub and-swap : (a b : Bool) → (a && b) ≡ (b && a)
-and-swap true true = refl
-and-swap true false = refl
-and-swap false true = refl
-and-swap false false = refl
-
 -- whether the in-arcs agree, as they were looked at by number
 pub said : {S V : Type 0} (by : Setting S V) (at a : ℕ) (xs : List (Node S V)) {b c : Bool} → b ≡ alike by at (a + 1) xs → b ≡ c → alike by at (suc a) xs ≡ c
 said by at a xs e f = ap (λ (t : ℕ). alike by at t xs) (sym (add-one a)) ∙ sym e ∙ f
