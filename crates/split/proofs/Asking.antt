@@ -1,8 +1,9 @@
 -- What the checks find
-use Rattle.std.proofs.Common.{◌≡◌, ℕ, Bool, true, eqb, List, [], ◌∷◌, length, Some, None, Option, Ok, sym, refl, ap, arith}
+use Rattle.std.proofs.Common.{◌≡◌, ℕ, Bool, true, eqb, List, [], ◌∷◌, length, Some, None, Option, Ok, Err, MatchResult, sym, refl, ap, arith}
 use Rattle.std.proofs.lemmas.Bool.{eqb-false}
 use Rattle.layers.specs.declared.node.Node.{Node}
 use Rattle.layers.specs.declared.node.Down.{Down}
+use Rattle.layers.specs.Calls.{Outcome}
 use Rattle.layers.specs.Labels.{all_agree, first_arrival}
 use Rattle.layers.specs.Settings.{Setting}
 use Rattle.split.specs.declared.source.Source.{Source}
@@ -34,7 +35,7 @@ module _ {S V : Type 0} (by : Setting S V) where
       let p = pair-clear _ _ a b _ _ is in
       record {
         clear = is;
-        placed = place-clear by.round.n by.width (length xs) i p.0;
+        placed = place-clear by.round.n by.width (length xs) i by.round.most p.0;
         low_a = p.1;
         high_a = p.2;
         low_b = p.3;
@@ -42,3 +43,7 @@ module _ {S V : Type 0} (by : Setting S V) where
         apart = eqb-false a b p.5;
         calm = p.6;
       }
+
+  pub join-found : (i a b : ℕ) (xs : List (Node S V)) (o : Outcome) → o ≡ join_check by i a b xs → MatchResult o (λ _. MayJoin by i a b xs) (λ e. join_check by i a b xs ≡ Err e)
+  join-found i a b xs (Ok u) e = join-clear i a b xs (sym e)
+  join-found i a b xs (Err f) e = sym e

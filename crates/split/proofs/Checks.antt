@@ -5,8 +5,8 @@ use Rattle.std.proofs.lemmas.Bool.{ltb-false, leb-false, le-ltb, or_parts, or_fr
 use Rattle.layers.specs.Calls.{Outcome}
 use Rattle.layers.specs.declared.refusal.Refusal.{Refusal}
 use Rattle.layers.specs.declared.refusal.Refusal.TheVariants.{Width, Short, NoLayer, NoNode, OneGroup, LayerFull, SameNode, Clash}
-use Rattle.split.specs.Steps.{and_then, place_check, node_check, group_check, pair_check}
-use Rattle.split.specs.Asked.{Placed}
+use Rattle.split.specs.Steps.{and_then, place_check, node_check, pair_check}
+use Rattle.split.specs.Asked.{Placed, Numbered}
 use Rattle.split.proofs.DepthNet.{two-fit}
 
 -- a refusal leaves what is given last
@@ -27,32 +27,28 @@ pub err-left : {B : Type 0} (o k : Outcome) (x y : B) → o ≡ k → is_err o �
 err-left (Ok u) k x y is e = absurd (both_ways _ refl e)
 err-left (Err f) k x y is e = refused-left k x y f (sym is)
 
-pub place-clear : (n w long i : ℕ) → place_check n w long i ≡ Ok tt → Placed n w long i
-place-clear n w long i e = record {
-  some = grind (arith, nat_tests);
-  few = grind (arith, nat_tests);
-  fit = grind (arith, nat_tests);
-  low = grind (arith, nat_tests);
-  high = grind (arith, nat_tests);
-}
+-- a layer that passes, and the one before it, lie within the list
+pub place-clear : (n w long i : ℕ) → n ≤ 16 → place_check n w long i ≡ Ok tt → Placed n w long i
+place-clear n w long i most e =
+    let few : w ≤ 128 = grind (arith, nat_tests) in
+    let fit : n * w + 1 ≤ long = grind (arith, nat_tests) in
+    let low : 1 ≤ i = grind (arith, nat_tests) in
+    let high : i < n = grind (arith, nat_tests) in
+    let within : (i - 1) * w + w + w ≤ n * w = two-fit w (i - 1) n (omega arith) in
+    let all : n * w ≤ 16 * 128 = mul-le-mul most few in
+    record {
+      clear = e;
+      some = grind (arith, nat_tests);
+      few = few;
+      fit = fit;
+      low = low;
+      high = high;
+      two_in_bounds = omega arith;
+      small = omega arith;
+    }
 
-pub node-clear : (m a : ℕ) → node_check m a ≡ Ok tt → (1 ≤ a) × (a ≤ m)
-node-clear m a e = (grind (arith, nat_tests), grind (arith, nat_tests))
-
--- the layer and the one before it lie within the list
-pub placed-fits : (n w long i : ℕ) → Placed n w long i → (i - 1) * w + w + w < long
-placed-fits n w long i p =
-    let low = p.low in
-    let high = p.high in
-    let fit = p.fit in
-    omega (arith, two-fit w (i - 1) n (omega arith))
-
-pub placed-small : (n w long i : ℕ) → n ≤ 16 → Placed n w long i → (i - 1) * w + w + w ≤ 2048
-placed-small n w long i h p =
-    let low = p.low in
-    let high = p.high in
-    let few : n * w ≤ 16 * 128 = mul-le-mul h p.few in
-    omega (arith, two-fit w (i - 1) n (omega arith))
+pub node-clear : (m a : ℕ) → node_check m a ≡ Ok tt → Numbered m a
+node-clear m a e = record { clear = e; low = grind (arith, nat_tests); high = grind (arith, nat_tests) }
 
 -- what two calls leave that answer the same
 pub same_check : {A : Type 0} (k l : Outcome) (x y z : A) → k ≡ l → (k ≡ Ok tt → x ≡ y) → cond (is_ok k) x z ≡ cond (is_ok l) y z

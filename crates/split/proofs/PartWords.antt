@@ -33,7 +33,7 @@ module _ {S V : Type 0} (by : Setting S V) (i a : ℕ) (xs : List (Node S V)) wh
   -- what no refusal tells
   part-clear : part_check by i a xs ≡ Ok tt → Placed by.round.n by.width (length xs) i × (1 ≤ a) × (a ≤ node_count ((i - 1) * by.width + by.width) by.width xs) × (alike by ((i - 1) * by.width) a xs ≡ false) × (node_count ((i - 1) * by.width + by.width) by.width xs < by.width)
   unfolding part_check
-  part-clear e = (place-clear by.round.n by.width (length xs) i (grind (arith, nat_tests)), grind (arith, nat_tests), grind (arith, nat_tests), grind (arith, nat_tests), grind (arith, nat_tests))
+  part-clear e = (place-clear by.round.n by.width (length xs) i by.round.most (grind (arith, nat_tests)), grind (arith, nat_tests), grind (arith, nat_tests), grind (arith, nat_tests), grind (arith, nat_tests))
 
   module _ (some : 1 ≤ by.width) (few : by.width ≤ 128) (fit : by.round.n * by.width + 1 ≤ length xs) (s : IsShaped by.round.n by.width xs) where
     -- the in-arcs of a node agree

@@ -2,7 +2,6 @@ use Rattle.std.proofs.Common.{◌≡◌, ◌+◌, ◌-◌, ◌*◌, ◌<◌, ◌
 use Rattle.layers.specs.Settings.{lent_setting}
 use Rattle.std.proofs.lemmas.Result.{err_from_is_err_and}
 use Rattle.split.specs.Steps.{node_count, parted_one}
-use Rattle.split.proofs.Checks.{placed-fits, placed-small}
 use Rattle.split.proofs.Doing.{part-refused, part-done}
 use Rattle.split.proofs.PartWords.{part-said}
 use Rattle.split.proofs.parting.part.Goals as goal
@@ -19,24 +18,6 @@ returns-in_err-first g c =
       words = part-said by (g.met.R.Rule.reflexive c.args.by.now.rule.now) c.args.layer c.args.node c.args.nodes.now c.args.nodes.now (Err c.in_err-first.field-0.0) (sym no) left;
     })
 
-pub overflow_sub-at : goal.overflow_sub-at
-overflow_sub-at g c = c.in_ok-first.ensures.placed.low
-
-pub overflow_mul-at : goal.overflow_mul-at
-overflow_mul-at g c =
-    let small = placed-small c.args.by.now.round.now.n c.args.by.now.width (length c.args.nodes.now) c.args.layer c.args.by.now.round.now.most c.in_ok-first.ensures.placed in
-    omega arith
-
-pub overflow_add-at : goal.overflow_add-at
-overflow_add-at g c =
-    let small = placed-small c.args.by.now.round.now.n c.args.by.now.width (length c.args.nodes.now) c.args.layer c.args.by.now.round.now.most c.in_ok-first.ensures.placed in
-    omega arith
-
-pub count_in-count-requires : goal.count_in-count-requires
-count_in-count-requires g c =
-    let fits = placed-fits c.args.by.now.round.now.n c.args.by.now.width (length c.args.nodes.now) c.args.layer c.in_ok-first.ensures.placed in
-    omega arith
-
 pub part_node-requires : goal.part_node-requires
 part_node-requires g c =
     let may = c.in_ok-first.ensures in
@@ -44,7 +25,7 @@ part_node-requires g c =
     let count : c.count_in-count.result ≡ m = c.count_in-count.ensures in
     let high : c.args.node ≤ m = may.high in
     let room : m < c.args.by.now.width = may.into.room in record {
-      two_in_bounds = placed-fits c.args.by.now.round.now.n c.args.by.now.width (length c.args.nodes.now) c.args.layer may.placed;
+      two_in_bounds = may.placed.two_in_bounds;
       width_bound = may.placed.few;
       one_le_a = may.low;
       a_le_count = omega arith;
