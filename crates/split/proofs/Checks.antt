@@ -18,15 +18,6 @@ pub clear-done : {A : Type 0} (k : Outcome) (x y : A) → k ≡ Ok tt → cond (
 clear-done (Ok u) x y is = refl
 clear-done (Err f) x y is = cc
 
--- by the answer
-pub ok-clear : (o k : Outcome) → o ≡ k → is_err o ≡ false → k ≡ Ok tt
-ok-clear (Ok u) k is e = sym is
-ok-clear (Err f) k is e = absurd (both_ways _ e refl)
-
-pub err-left : {B : Type 0} (o k : Outcome) (x y : B) → o ≡ k → is_err o ≡ true → cond (is_ok k) x y ≡ y
-err-left (Ok u) k x y is e = absurd (both_ways _ refl e)
-err-left (Err f) k x y is e = refused-left k x y f (sym is)
-
 -- a layer that passes, and the one before it, lie within the list
 pub place-clear : (n w long i : ℕ) → n ≤ 16 → place_check n w long i ≡ Ok tt → Placed n w long i
 place-clear n w long i most e =
@@ -46,9 +37,6 @@ place-clear n w long i most e =
       two_in_bounds = omega arith;
       small = omega arith;
     }
-
-pub node-clear : (m a : ℕ) → node_check m a ≡ Ok tt → Numbered m a
-node-clear m a e = record { clear = e; low = grind (arith, nat_tests); high = grind (arith, nat_tests) }
 
 -- what two calls leave that answer the same
 pub same_check : {A : Type 0} (k l : Outcome) (x y z : A) → k ≡ l → (k ≡ Ok tt → x ≡ y) → cond (is_ok k) x z ≡ cond (is_ok l) y z

@@ -25,18 +25,10 @@ module _ {S V : Type 0} (by : Setting S V) (i : ℕ) (xs : List (Node S V)) wher
   relabel-done : (ys zs : List (Node S V)) → Placed by.round.n by.width (length xs) i → length ys ≡ length xs → zs ≡ cond (fits by.round.n by.width (length ys)) (relabelled by ys) ys → zs ≡ relabelled by ys
   relabel-done ys zs p same is = is ∙ rw (same, placed-room by.round.n by.width (length xs) i p) refl
 
-  pub part-refused : (a : ℕ) (e : Refusal) → part_check by i a xs ≡ Err e → xs ≡ part_steps by i a xs
-  unfolding part_steps
-  part-refused a e is = rw is refl
-
   pub part-done : (a : ℕ) (ys zs : List (Node S V)) → Placed by.round.n by.width (length xs) i → part_check by i a xs ≡ Ok tt → length ys ≡ length xs
       → ys ≡ parted_one by ((i - 1) * by.width) (a - 1) (node_count ((i - 1) * by.width + by.width) by.width xs) xs → zs ≡ cond (fits by.round.n by.width (length ys)) (relabelled by ys) ys → zs ≡ part_steps by i a xs
   unfolding part_steps
   part-done a ys zs p clear same made is = rw (clear, ← made) (relabel-done ys zs p same is)
-
-  pub join-refused : (a b : ℕ) (e : Refusal) → join_check by i a b xs ≡ Err e → xs ≡ join_steps by i a b xs
-  unfolding join_steps
-  join-refused a b e is = rw is refl
 
   pub join-done : (a b : ℕ) (ys zs : List (Node S V)) → Placed by.round.n by.width (length xs) i → join_check by i a b xs ≡ Ok tt → length ys ≡ length xs
       → ys ≡ joined_one by ((i - 1) * by.width) (min a b - 1) (max a b - 1) xs → zs ≡ cond (fits by.round.n by.width (length ys)) (relabelled by ys) ys → zs ≡ join_steps by i a b xs

@@ -1,46 +1,19 @@
-use Rattle.std.proofs.Common.{◌≡◌, ℕ, ◌+◌, ◌-◌, ◌*◌, min, max, length, Ok, Err, sym, ◌∙◌, ap₂, arith}
+use Rattle.std.proofs.Common.{◌≡◌, ℕ, ◌+◌, ◌-◌, ◌*◌, min, max, length, Ok, Err, sym, refl, ◌∙◌, ap₂, arith}
 use Rattle.layers.specs.Settings.{lent_setting}
 use Rattle.std.proofs.lemmas.Result.{err_from_is_err_and}
-use Rattle.split.specs.Steps.{joined_one}
-use Rattle.split.proofs.Doing.{join-refused, join-done}
+use Rattle.split.specs.Steps.{joined_one, join_steps}
+use Rattle.split.proofs.Doing.{join-done}
 use Rattle.split.proofs.JoinWords.{join-said}
 use Rattle.split.proofs.Stands.{count_most}
 use Rattle.split.proofs.joining.join.Goals as goal
 
-pub returns-in_err-check_join : goal.returns-in_err-check_join
-returns-in_err-check_join g c =
+pub returns-in_err-check_join-clause-words : goal.returns-in_err-check_join-clause-words
+unfolding join_steps
+returns-in_err-check_join-clause-words g c =
     let by = lent_setting c.args.by.now (g.R.Rule.sense c.args.by.now.rule.now) (g.T.Tally.sense c.args.by.now.tally.now) in
     let p = err_from_is_err_and c.from_residual.result c.from_residual.ensures.1 in
     let no = c.in_err-check_join.ensures in
-    let left = join-refused by c.args.layer c.args.nodes.now c.args.a c.args.b _ no in
-    rw (p.1, p.2) (record {
-      answer = sym no;
-      steps = left;
-      words = join-said by c.args.layer c.args.a c.args.b c.args.nodes.now c.args.nodes.now (Err c.in_err-check_join.field-0.0) (sym no) left;
-    })
-
-pub overflow_cast-min : goal.overflow_cast-min
-overflow_cast-min g c =
-    let may = c.in_ok-check_join.ensures in
-    let most = count_most ((c.args.layer - 1) * c.args.by.now.width + c.args.by.now.width) c.args.by.now.width c.args.nodes.now in
-    omega (arith, may.high_a, may.high_b, may.placed.few)
-
-pub overflow_cast-max : goal.overflow_cast-max
-overflow_cast-max g c =
-    let may = c.in_ok-check_join.ensures in
-    let most = count_most ((c.args.layer - 1) * c.args.by.now.width + c.args.by.now.width) c.args.by.now.width c.args.nodes.now in
-    omega (arith, may.high_a, may.high_b, may.placed.few)
-
-pub join_nodes-requires : goal.join_nodes-requires
-join_nodes-requires g c =
-    let may = c.in_ok-check_join.ensures in
-    let most = count_most ((c.args.layer - 1) * c.args.by.now.width + c.args.by.now.width) c.args.by.now.width c.args.nodes.now in
-    record {
-      two_in_bounds = may.placed.two_in_bounds;
-      one_le_lo = omega (arith, may.low_a, may.low_b);
-      lo_lt_hi = omega (arith, may.apart);
-      hi_le_width = omega (arith, may.high_a, may.high_b);
-    }
+    rw (p.1, p.2) (join-said by c.args.layer c.args.a c.args.b c.args.nodes.now c.args.nodes.now (Err c.in_err-check_join.field-0.0) (sym no) (rw no refl))
 
 pub returns : goal.returns
 returns g c =
