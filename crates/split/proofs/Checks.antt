@@ -1,5 +1,6 @@
 -- Checks, one after another
 use Rattle.std.proofs.Common.{◌≡◌, ℕ, ◌+◌, ◌-◌, ◌*◌, ◌<◌, ◌≤◌, Bool, true, false, cond, ◌||◌, ltb, leb, is_err, is_ok, Ok, Err, sym, refl, ◌∙◌, ap₂, mul-le-mul, arith}
+use Rattle.std.specs.Prelude.{if◌then◌else◌}
 use Rattle.std.proofs.lemmas.Bool.Decides.{nat_tests}
 use Rattle.std.proofs.lemmas.Bool.{ltb-false, leb-false, le-ltb, or_parts, or_from, both_ways}
 use Rattle.layers.specs.Calls.{Outcome}
@@ -8,15 +9,6 @@ use Rattle.layers.specs.declared.refusal.Refusal.TheVariants.{Width, Short, NoLa
 use Rattle.split.specs.Steps.{and_then, place_check, node_check, pair_check}
 use Rattle.split.specs.Asked.{Placed, Numbered}
 use Rattle.split.proofs.DepthNet.{two-fit}
-
--- a refusal leaves what is given last
-pub refused-left : {A : Type 0} (k : Outcome) (x y : A) (e : Refusal) → k ≡ Err e → cond (is_ok k) x y ≡ y
-refused-left (Ok u) x y e is = cc
-refused-left (Err f) x y e is = refl
-
-pub clear-done : {A : Type 0} (k : Outcome) (x y : A) → k ≡ Ok tt → cond (is_ok k) x y ≡ x
-clear-done (Ok u) x y is = refl
-clear-done (Err f) x y is = cc
 
 -- a layer that passes, and the one before it, lie within the list
 pub place-clear : (n w long i : ℕ) → n ≤ 16 → place_check n w long i ≡ Ok tt → Placed n w long i
@@ -39,9 +31,9 @@ place-clear n w long i most e =
     }
 
 -- what two calls leave that answer the same
-pub same_check : {A : Type 0} (k l : Outcome) (x y z : A) → k ≡ l → (k ≡ Ok tt → x ≡ y) → cond (is_ok k) x z ≡ cond (is_ok l) y z
-same_check (Ok u) l x y z e f = f refl ∙ sym (clear-done l y z (sym e))
-same_check (Err f) l x y z e g = sym (refused-left l y z f (sym e))
+pub same_check : {A : Type 0} (k l : Outcome) (x y z : A) → k ≡ l → (k ≡ Ok tt → x ≡ y) → (if is_ok k then x else z) ≡ (if is_ok l then y else z)
+same_check (Ok u) l x y z e f = rw (← e) (f refl)
+same_check (Err f) l x y z e g = rw (← e) refl
 
 pub passed : (k : Outcome) → is_ok k ≡ true → k ≡ Ok tt
 passed (Ok u) e = refl

@@ -22,7 +22,6 @@ use Rattle.labels.specs.Passes.{part, relabelled}
 use Rattle.labels.proofs.Laying.{Arranged, arranged-of}
 use Rattle.split.specs.Steps.{place_check, node_count, alike, parted_one, parts_from, layer_steps}
 use Rattle.split.specs.Words.{LayerDone}
-use Rattle.split.proofs.Checks.{clear-done}
 use Rattle.split.proofs.LayerNet.{Known, labs, downs-same, stands_same, known_alike, known-parted, known-tail, known-length, known-labels}
 use Rattle.split.proofs.PartWords.{relaid-same}
 use Rattle.split.proofs.ShapedNet.{count-layer}
@@ -194,8 +193,7 @@ module _ {S V : Type 0} (by : Setting S V) (self : (s : S) → by.rule.same s s 
     unfolding layer_steps
     layer-words few =
         let clear : place_check by.round.n by.width (length xs) i ≡ Ok tt = grind (arith, nat_tests, w, few, laid-fit, low, high) in
-        subst (Done by.round.n by.width xs (parted by by.width i 0 Ls)) (sym (clear-done (place_check by.round.n by.width (length xs) i) _ (false, xs) clear))
-        (parts-net by self w i low by.width 0 (node_count ((i - 1) * by.width + by.width) by.width xs) Ls xs laid-state laid-count)
+        rw clear (parts-net by self w i low by.width 0 (node_count ((i - 1) * by.width + by.width) by.width xs) Ls xs laid-state laid-count)
 
 -- the same of an answer and records that are what `layer_steps` says
 pub layer-net : {S V : Type 0} (by : Setting S V) (self : (s : S) → by.rule.same s s ≡ true) (i : ℕ) (later : List (Node S V)) (Ls : Net) (xs ys : List (Node S V)) (b : Bool)

@@ -53,7 +53,8 @@ module _ {S V : Type 0} (by : Setting S V) where
     pub placed : Placed by.round.n by.width (length xs) i
     pub low : 1 ≤ a
     pub high : a ≤ node_count ((i - 1) * by.width + by.width) by.width xs
-    pub into : FirstInto ((i - 1) * by.width) a xs (node_count ((i - 1) * by.width + by.width) by.width xs) s
+    pub into : FirstInto ((i - 1) * by.width) a xs
+        (node_count ((i - 1) * by.width + by.width) by.width xs) s
 
   -- nodes a and b of layer i can be joined
   pub record MayJoin (i a b : ℕ) (xs : List (Node S V)) : Type 0 where
