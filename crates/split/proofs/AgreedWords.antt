@@ -23,8 +23,7 @@ up_to (suc k) f = f k && up_to k f
 
 up_first : (k : ℕ) (f : ℕ → Bool) → up_to (suc k) f ≡ (f 0 && up_to k (λ j. f (suc j)))
 up_first zero f = refl
-up_first (suc k) f = ap (λ b. f (suc k) && b) (up_first k f) ∙ sym (and_assoc (f (suc k)) (f 0) (up_to k (λ j. f (suc j))))
-    ∙ ap (λ b. b && up_to k (λ j. f (suc j))) (and_comm (f (suc k)) (f 0)) ∙ and_assoc (f 0) (f (suc k)) (up_to k (λ j. f (suc j)))
+up_first (suc k) f = grind (arith, up_first k f)
 
 module _ {S V : Type 0} (by : Setting S V) where
   -- the nodes N agree, of which the layer before has the arcs
