@@ -1,5 +1,6 @@
 -- Agreed, on records that have the shape of a diagram, is agreed as it is defined.
 use Rattle.std.proofs.Common.{◌≡◌, ℕ, zero, suc, ◌+◌, ◌-◌, ◌*◌, ◌<◌, ◌≤◌, Bool, true, false, ◌&&◌, List, [], ◌∷◌, length, get_or, take, drop, sym, refl, ap, ◌∙◌, ap₂, arith}
+use Rattle.std.proofs.Math.Bool.{and_comm, and_assoc}
 use Rattle.std.proofs.lemmas.List.{length-map}
 use Rattle.std.proofs.lemmas.Bool.{cond-true, and_from, le-leb}
 use Rattle.layers.specs.declared.node.Node.{Node}
@@ -20,15 +21,9 @@ abbrev up_to : ℕ → (ℕ → Bool) → Bool
 up_to zero f = true
 up_to (suc k) f = f k && up_to k f
 
-and-swap : (a b c : Bool) → (a && (b && c)) ≡ (b && (a && c))
-and-swap true true c = refl
-and-swap true false c = refl
-and-swap false true c = refl
-and-swap false false c = refl
-
 up_first : (k : ℕ) (f : ℕ → Bool) → up_to (suc k) f ≡ (f 0 && up_to k (λ j. f (suc j)))
 up_first zero f = refl
-up_first (suc k) f = ap (λ b. f (suc k) && b) (up_first k f) ∙ and-swap (f (suc k)) (f 0) (up_to k (λ j. f (suc j)))
+up_first (suc k) f = grind (arith, up_first k f)
 
 module _ {S V : Type 0} (by : Setting S V) where
   -- the nodes N agree, of which the layer before has the arcs

@@ -1,12 +1,12 @@
 -- A call that is not refused, and one that is
-use Rattle.std.proofs.Common.{◌≡◌, ℕ, suc, ◌+◌, ◌-◌, ◌*◌, ◌<◌, ◌≤◌, min, max, true, cond, List, length, Ok, Err, sym, ap, ◌∙◌, mul-le-mul, arith}
+use Rattle.std.proofs.Common.{◌≡◌, ℕ, suc, ◌+◌, ◌-◌, ◌*◌, ◌<◌, ◌≤◌, min, max, true, cond, List, length, Ok, Err, refl, ◌∙◌, mul-le-mul, arith}
+use Rattle.std.specs.Prelude.{if◌then◌else◌}
 use Rattle.std.proofs.lemmas.Bool.{cond-true, and_from, le-leb}
 use Rattle.layers.specs.declared.node.Node.{Node}
 use Rattle.layers.specs.declared.refusal.Refusal.{Refusal}
 use Rattle.labels.specs.Passes.{fits, relabelled}
 use Rattle.split.specs.Steps.{node_count, parted_one, part_check, part_steps, join_check, joined_one, join_steps}
 use Rattle.split.specs.Asked.{Placed}
-use Rattle.split.proofs.Checks.{refused-left, clear-done}
 use Rattle.split.proofs.DepthNet.{two-fit}
 use Rattle.layers.specs.Settings.{Setting}
 
@@ -22,25 +22,15 @@ layer-small n w k h few lt = let most : n * w ≤ 16 * 128 = mul-le-mul h few in
 
 module _ {S V : Type 0} (by : Setting S V) (i : ℕ) (xs : List (Node S V)) where
   -- labels worked out anew, in a list that fits
-  relabel-done : (ys zs : List (Node S V)) → Placed by.round.n by.width (length xs) i → length ys ≡ length xs → zs ≡ cond (fits by.round.n by.width (length ys)) (relabelled by ys) ys → zs ≡ relabelled by ys
-  relabel-done ys zs p same is = is ∙ cond-true (fits by.round.n by.width (length ys)) _ _ (ap (fits by.round.n by.width) same ∙ placed-room by.round.n by.width (length xs) i p)
-
-  pub part-refused : (a : ℕ) (e : Refusal) → part_check by i a xs ≡ Err e → xs ≡ part_steps by i a xs
-  unfolding part_steps
-  part-refused a e is = sym (refused-left (part_check by i a xs) _ xs e is)
+  relabel-done : (ys zs : List (Node S V)) → Placed by.round.n by.width (length xs) i → length ys ≡ length xs → zs ≡ (if fits by.round.n by.width (length ys) then relabelled by ys else ys) → zs ≡ relabelled by ys
+  relabel-done ys zs p same is = is ∙ rw (same, placed-room by.round.n by.width (length xs) i p) refl
 
   pub part-done : (a : ℕ) (ys zs : List (Node S V)) → Placed by.round.n by.width (length xs) i → part_check by i a xs ≡ Ok tt → length ys ≡ length xs
-      → ys ≡ parted_one by ((i - 1) * by.width) (a - 1) (node_count ((i - 1) * by.width + by.width) by.width xs) xs → zs ≡ cond (fits by.round.n by.width (length ys)) (relabelled by ys) ys → zs ≡ part_steps by i a xs
+      → ys ≡ parted_one by ((i - 1) * by.width) (a - 1) (node_count ((i - 1) * by.width + by.width) by.width xs) xs → zs ≡ (if fits by.round.n by.width (length ys) then relabelled by ys else ys) → zs ≡ part_steps by i a xs
   unfolding part_steps
-  part-done a ys zs p clear same made is =
-      relabel-done ys zs p same is ∙ ap (relabelled by) made ∙ sym (clear-done (part_check by i a xs) _ xs clear)
-
-  pub join-refused : (a b : ℕ) (e : Refusal) → join_check by i a b xs ≡ Err e → xs ≡ join_steps by i a b xs
-  unfolding join_steps
-  join-refused a b e is = sym (refused-left (join_check by i a b xs) _ xs e is)
+  part-done a ys zs p clear same made is = rw (clear, ← made) (relabel-done ys zs p same is)
 
   pub join-done : (a b : ℕ) (ys zs : List (Node S V)) → Placed by.round.n by.width (length xs) i → join_check by i a b xs ≡ Ok tt → length ys ≡ length xs
-      → ys ≡ joined_one by ((i - 1) * by.width) (min a b - 1) (max a b - 1) xs → zs ≡ cond (fits by.round.n by.width (length ys)) (relabelled by ys) ys → zs ≡ join_steps by i a b xs
+      → ys ≡ joined_one by ((i - 1) * by.width) (min a b - 1) (max a b - 1) xs → zs ≡ (if fits by.round.n by.width (length ys) then relabelled by ys else ys) → zs ≡ join_steps by i a b xs
   unfolding join_steps
-  join-done a b ys zs p clear same made is =
-      relabel-done ys zs p same is ∙ ap (relabelled by) made ∙ sym (clear-done (join_check by i a b xs) _ xs clear)
+  join-done a b ys zs p clear same made is = rw (clear, ← made) (relabel-done ys zs p same is)

@@ -73,11 +73,11 @@ map-drop f i [] = refl
 map-drop f zero (x ∷ xs) = refl
 map-drop f (suc i) (x ∷ xs) = ap (λ ys. f x ∷ ys) (map-drop f i xs)
 
-drop-long : {X : Type 0} (i : ℕ) (xs : List X) → i < length xs → length (without_place i xs) + 1 ≡ length xs
+length-without : {X : Type 0} (i : ℕ) (xs : List X) → i < length xs → suc (length (without_place i xs)) ≡ length xs
 unfolding without_place
-drop-long i [] h = absurd (omega arith)
-drop-long zero (x ∷ xs) h = omega arith
-drop-long (suc i) (x ∷ xs) h = let e : length (without_place i xs) + 1 ≡ length xs = drop-long i xs (omega arith) in omega arith
+length-without i [] h = absurd (omega arith)
+length-without zero (x ∷ xs) h = refl
+length-without (suc i) (x ∷ xs) h = ap suc (length-without i xs (omega arith))
 
 -- a node taken out of a layer, and the place that is left at the end
 drop-table : (w hi : ℕ) (M : Layer) → hi < length M → length M ≤ w → without_place hi (table w (arcs_at M)) ++ arcs_at [] 0 ∷ [] ≡ table w (arcs_at (without_place hi M))
@@ -90,14 +90,10 @@ drop-table (suc w) (suc hi) (nd ∷ M) h le = ap (λ xs. arcs_at (nd ∷ M) 0 �
 
 -- another node at a place of a layer
 set-table : (w lo : ℕ) (M : Layer) (nd : Outs) → lo < length M → length M ≤ w → set (table w (arcs_at M)) lo (record { to = padded_targets nd }) ≡ table w (arcs_at (set M lo nd))
-set-table w lo M nd lt le = table-list w (arcs_at (set M lo nd)) (set (table w (arcs_at M)) lo new) (length-set (table w (arcs_at M)) lo new ∙ table-long w (arcs_at M)) (λ k d k<w. ⊎_elim
-    (λ (e : k ≡ lo). ap (λ (i : ℕ). get_or (set (table w (arcs_at M)) lo new) i d) e ∙ get_or-set_same (table w (arcs_at M)) lo new d (omega (arith, table-long w (arcs_at M)))
-    ∙ ap (λ (x : Outs). record { to = padded_targets x }) (sym (ap (node (set M lo nd)) e ∙ get_or-set_same M lo nd [] lt)))
-    (λ (ne : k ≢ lo). get_or-set_other (table w (arcs_at M)) lo k new d ne ∙ table_at w k (arcs_at M) d k<w ∙ ap (λ (x : Outs). record { to = padded_targets x }) (sym (get_or-set_other M lo k nd [] ne)))
-    (cases_eq k lo))
-  where
-    new : Arcs
-    new = record { to = padded_targets nd }
+set-table w lo [] nd lt le = absurd (omega arith)
+set-table zero lo (x ∷ M) nd lt le = absurd (omega arith)
+set-table (suc w) zero (x ∷ M) nd lt le = refl
+set-table (suc w) (suc lo) (x ∷ M) nd lt le = ap (λ xs. arcs_at (x ∷ M) 0 ∷ xs) (set-table w lo M nd (omega arith) (omega arith))
 
 -- one layer more before them
 joins-deeper : (lo hi d : ℕ) (L : Layer) (Ls : Net) → joined_arcs (suc d) lo hi (L ∷ Ls) ≡ L ∷ joined_arcs d lo hi Ls
@@ -110,7 +106,7 @@ module _ {S V : Type 0} where
   unfolding joined_layer
   layer-long lo hi us z lt =
       let x = joined_node (get_or us lo z) (get_or us hi z) in
-      length_push (without_place hi (set us lo x)) z ∙ drop-long hi (set us lo x) (omega (arith, length-set us lo x)) ∙ length-set us lo x
+      omega (arith, length_push (without_place hi (set us lo x)) z, length-without hi (set us lo x) (omega (arith, length-set us lo x)), length-set us lo x)
 
   second-tail : (w lo hi n : ℕ) (z : Node S V) (ys : List (Node S V)) → w + w ≤ length ys → hi < w → w + w ≤ n → drop n (joined_second w lo hi ys z) ≡ drop n ys
   unfolding joined_second
@@ -128,18 +124,6 @@ module _ {S V : Type 0} where
       ∙ sym (drop-drop k w (B ++ C)) ∙ ap (drop k) (drop_at B C w more)
       ∙ drop-drop k w (drop w ys) ∙ drop-drop (w + k) w ys ∙ ap (λ (i : ℕ). drop i ys) (sym e)
 
-  second-long : (w lo hi : ℕ) (z : Node S V) (ys : List (Node S V)) → w + w ≤ length ys → hi < w → length (joined_second w lo hi ys z) ≡ length ys
-  unfolding joined_second
-  second-long w lo hi z ys le lt =
-      let A = map (moved_node lo hi) (take w ys) in
-      let vs = take w (drop w ys) in
-      let B = joined_layer lo hi vs z in
-      let C = drop w (drop w ys) in
-      let many : length A ≡ w = length-map (take w ys) (moved_node lo hi) ∙ length-take-le w ys (omega arith) in
-      let wide : length vs ≡ w = length-take-le w (drop w ys) (omega (arith, length-drop w ys)) in
-      let more : length B ≡ w = layer-long lo hi vs z (omega arith) ∙ wide in
-      omega (arith, length-append A (B ++ C), length-append B C, length-drop w (drop w ys), length-drop w ys)
-
   pub join-tail : (w d lo hi : ℕ) (z : Node S V) (Ls : Net) (xs : List (Node S V)) → suc d < length Ls → hi < w → length Ls * w + 1 ≤ length xs
       → drop (length Ls * w + 1) (take (d * w) xs ++ joined_second w lo hi (drop (d * w) xs) z) ≡ drop (length Ls * w + 1) xs
   join-tail w d lo hi z Ls xs deep lt le =
@@ -147,12 +131,6 @@ module _ {S V : Type 0} where
       let n = length Ls * w + 1 - d * w in
       later-stays (λ ys. joined_second w lo hi ys z) (d * w) n (length Ls * w + 1) xs (omega arith) (omega arith)
       (second-tail w lo hi n z (drop (d * w) xs) (omega (arith, length-drop (d * w) xs)) lt (omega arith))
-
-  pub join-length : (w d lo hi : ℕ) (z : Node S V) (Ls : Net) (xs : List (Node S V)) → suc d < length Ls → hi < w → length Ls * w + 1 ≤ length xs
-      → length (take (d * w) xs ++ joined_second w lo hi (drop (d * w) xs) z) ≡ length xs
-  join-length w d lo hi z Ls xs deep lt le =
-      let fit = two-fit w d (length Ls) deep in
-      long-stays (λ ys. joined_second w lo hi ys z) (d * w) xs (second-long w lo hi z (drop (d * w) xs) (omega (arith, length-drop (d * w) xs)) lt)
 
   -- ---- the arcs
   layer-arranged : (w lo hi : ℕ) (z : Node S V) (M : Layer) (us : List (Node S V)) → lo < hi → hi < length M → length M ≤ w → z.arcs ≡ arcs_at [] 0 → map arcs_of us ≡ table w (arcs_at M)

@@ -1,6 +1,7 @@
 -- Join, on records that have the shape of a diagram, is join as it is defined.
 use Rattle.std.proofs.Common.{◌≡◌, ℕ, suc, ◌+◌, ◌-◌, ◌*◌, ◌<◌, ◌≤◌, min, max, Bool, true, false, cond, ◌||◌, eqb, ltb, leb, List, [], length, get_or, drop, Ok, Err, is_ok, sym, refl, ap, ◌∙◌, subst, ap₂, ⊎_elim, suc-mul, arith}
 use native.Mathlib.Nat.{min-eq_left, min-eq_right, max-eq_left, max-eq_right}
+use Rattle.std.proofs.lemmas.Bool.Decides.{nat_tests}
 use Rattle.std.proofs.lemmas.Bool.{ltb-false, leb-false, or_parts, cases_lt, cond_both}
 use Rattle.layers.specs.declared.node.Node.{Node}
 use Rattle.layers.specs.declared.refusal.Refusal.{Refusal}
@@ -21,49 +22,19 @@ use Rattle.labels.proofs.Shaped_arranged.{proper-good}
 use Rattle.split.specs.Steps.{node_check, pair_check, and_then, node_count, clash_at, joined_one, join_check, join_steps}
 use Rattle.split.specs.Words.{JoinDone}
 use Rattle.split.proofs.Asking.{join-clear}
-use Rattle.split.proofs.Checks.{else-cond, place_is, same_check, passed}
+use Rattle.split.proofs.Checks.{same_check, passed}
 use Rattle.split.proofs.JoinNet.{join-arranged, join-tail, clash-padded}
 use Rattle.split.proofs.LayerNet.{arranged-at, node-few}
 use Rattle.split.proofs.PartWords.{relaid-same}
-use Rattle.split.proofs.ShapedNet.{known-shaped, count_long, count-layer}
+use Rattle.split.proofs.ShapedNet.{known-shaped, count_long, count-at}
 use Rattle.split.proofs.Stands.{count_most}
 use Rattle.layers.specs.Settings.{Setting}
-
-either-one : (p q : Bool) (k : Refusal) (x : Outcome) → and_then (cond p (Err k) (Ok tt)) (and_then (cond q (Err k) (Ok tt)) x) ≡ cond (p || q) (Err k) x
-either-one true q k x = refl
-either-one false true k x = refl
-either-one false false k x = refl
-
-when-none : (q : Bool) (k x y : Outcome) → (q ≡ false → x ≡ y) → cond q k x ≡ cond q k y
-when-none true k x y f = refl
-when-none false k x y f = f refl
-
-two-within : (a b m : ℕ) → 1 ≤ a → 1 ≤ b → a ≤ m → b ≤ m → (1 ≤ min a b) × (max a b ≤ m) × (min a b ≤ m) × (1 ≤ max a b)
-two-within a b m la lb ha hb = ⊎_elim
-    (λ (lt : a < b). let le : a ≤ b = omega arith in let x = min-eq_left le in let y = max-eq_right le in (omega arith, omega arith, omega arith, omega arith))
-    (λ (le : b ≤ a). let x = min-eq_right le in let y = max-eq_left le in (omega arith, omega arith, omega arith, omega arith))
-    (cases_lt a b)
 
 module _ {S V : Type 0} (by : Setting S V) (i a b : ℕ) (xs : List (Node S V)) where
   abbrev z : Node S V
   z = blank_node by.rule by.tally
 
   module _ (some : 1 ≤ by.width) (few : by.width ≤ 128) (fit : by.round.n * by.width + 1 ≤ length xs) (s : IsShaped by.round.n by.width xs) where
-    count_same : 1 ≤ i → i < by.round.n → node_count ((i - 1) * by.width + by.width) by.width xs ≡ length (layer by.round.n by.width i xs)
-    count_same low high = let back : suc (i - 1) ≡ i = omega arith in count-layer by.round.n by.width xs (i - 1) (omega arith) ∙ ap (λ (k : ℕ). length (layer by.round.n by.width k xs)) back
-
-    node-within : (c : ℕ) → 1 ≤ i → i < by.round.n → bad_node by i c xs ≡ false → (1 ≤ c) × (c ≤ by.width)
-    node-within c low high ok =
-        let n = or_parts (ltb c 1) (ltb (length (layer by.round.n by.width i xs)) c) ok in
-        let le : c ≤ length (layer by.round.n by.width i xs) = ltb-false (length (layer by.round.n by.width i xs)) c n.1 in
-        (ltb-false c 1 n.0, omega (arith, count_same low high, count_most ((i - 1) * by.width + by.width) by.width xs))
-
-    both-within : 1 ≤ i → i < by.round.n → bad_node by i a xs ≡ false → bad_node by i b xs ≡ false → (1 ≤ min a b) × (max a b ≤ by.width) × (min a b ≤ by.width) × (1 ≤ max a b)
-    both-within low high oka okb =
-        let x = node-within a low high oka in
-        let y = node-within b low high okb in
-        two-within a b by.width x.0 y.0 x.1 y.1
-
     -- the targets of a record of the layer
     record-targets : (c : ℕ) → 1 ≤ i → i < by.round.n → 1 ≤ c → c ≤ by.width → targets (get_or xs ((i - 1) * by.width + by.width + (c - 1)) z) ≡ padded_targets (node (get_or (arcs by.round.n by.width xs) i []) (c - 1))
     record-targets c low high one most =
@@ -75,29 +46,18 @@ module _ {S V : Type 0} (by : Setting S V) (i a b : ℕ) (xs : List (Node S V)) 
         ap targets (ap (λ (p : ℕ). get_or xs (p + (c - 1)) z) e ∙ sym (get_d_part (i * by.width) by.width xs (c - 1) z (omega arith)))
         ∙ targets-arranged by.width (get_or Ls i []) (part (i * by.width) by.width xs) (c - 1) z (arranged-at by.width i Ls xs (omega (arith, k.proper.deep)) k.arranged) (omega arith)
 
-    clash-same : 1 ≤ i → i < by.round.n → 1 ≤ min a b → max a b ≤ by.width → min a b ≤ by.width → 1 ≤ max a b
+    clash-same : 1 ≤ i → i < by.round.n → 1 ≤ a → a ≤ by.width → 1 ≤ b → b ≤ by.width
         → clash_at z ((i - 1) * by.width + by.width) a b xs ≡ clash (node (get_or (arcs by.round.n by.width xs) i []) (min a b - 1)) (node (get_or (arcs by.round.n by.width xs) i []) (max a b - 1))
-    clash-same low high lo hi lo' hi' =
+    clash-same low high la ha lb hb =
         let L = get_or (arcs by.round.n by.width xs) i [] in
         let k = known-shaped by xs some fit s (i - 1) (omega arith) in
-        ap₂ clash (record-targets (min a b) low high lo lo') (record-targets (max a b) low high hi' hi)
+        ap₂ clash (record-targets (min a b) low high (omega arith) (omega arith)) (record-targets (max a b) low high (omega arith) (omega arith))
         ∙ clash-padded (node L (min a b - 1)) (node L (max a b - 1)) (node-few by.round by.width i (arcs by.round.n by.width xs) k.proper (min a b - 1))
 
     -- the answer
     pub join-answer : join_check by i a b xs ≡ join_answer by i a b xs
     unfolding join_check join_answer
-    join-answer =
-        let m = node_count ((i - 1) * by.width + by.width) by.width xs in
-        let X : ℕ → Outcome = λ m. and_then (node_check m a) (and_then (node_check m b) (pair_check (eqb a b) (clash_at z ((i - 1) * by.width + by.width) a b xs))) in
-        ap (λ (k : Outcome). and_then k (X m)) (place_is by.round.n by.width (length xs) i some few fit)
-        ∙ else-cond (ltb i 1 || leb by.round.n i) NoLayer (X m) _
-        (λ q.
-        let low = ltb-false i 1 (or_parts _ _ q).0 in
-        let high = leb-false by.round.n i (or_parts _ _ q).1 in
-        ap X (count_same low high)
-        ∙ either-one (bad_node by i a xs) (bad_node by i b xs) NoNode (pair_check (eqb a b) (clash_at z ((i - 1) * by.width + by.width) a b xs))
-        ∙ when-none (bad_node by i a xs || bad_node by i b xs) (Err NoNode) _ _
-        (λ ok. let t = both-within low high (or_parts _ _ ok).0 (or_parts _ _ ok).1 in ap (pair_check (eqb a b)) (clash-same low high t.0 t.1 t.2 t.3)))
+    join-answer = grind (arith, nat_tests, count-at by.round.n by.width xs i, count_most ((i - 1) * by.width + by.width) by.width xs, clash-same)
 
     -- what it does
     abbrev new : Net
@@ -119,18 +79,18 @@ module _ {S V : Type 0} (by : Setting S V) (i a b : ℕ) (xs : List (Node S V)) 
         let m = node_count (d * by.width + by.width) by.width xs in
         let em : m ≡ length (get_or Ls (suc d) []) = count_long by.round.n by.width xs d (omega arith) in
         let top = count_most (d * by.width + by.width) by.width xs in
-        let order : lo < hi = omega (arith, q.low, q.apart) in
-        let inside : hi < length (get_or Ls (suc d) []) = omega (arith, em, q.high, q.low, q.apart) in
+        let order : lo < hi = omega (arith, q.low_a, q.low_b, q.apart) in
+        let inside : hi < length (get_or Ls (suc d) []) = omega (arith, em, q.high_a, q.high_b, q.low_a, q.low_b, q.apart) in
         let long : length Ls * by.width + 1 ≤ length xs = (let same : length Ls * by.width + 1 ≡ by.round.n * by.width + 1 = ap (λ (j : ℕ). j * by.width + 1) k.proper.deep in omega arith) in
         let clear : clash (node (get_or Ls (suc d) []) lo) (node (get_or Ls (suc d) []) hi) ≡ false =
-        sym (clash-same low high q.low (omega (arith, q.high)) (omega (arith, q.high, q.apart)) (omega (arith, q.low, q.apart)) ∙ ap (λ (j : ℕ). clash (node (get_or Ls j []) lo) (node (get_or Ls j []) hi)) back) ∙ q.calm in
+        sym (clash-same low high q.low_a (omega (arith, q.high_a)) q.low_b (omega (arith, q.high_b)) ∙ ap (λ (j : ℕ). clash (node (get_or Ls j []) lo) (node (get_or Ls j []) hi)) back) ∙ q.calm in
         let same : by.round.n * by.width + 1 ≡ length Ls * by.width + 1 = ap (λ (j : ℕ). j * by.width + 1) (sym k.proper.deep) in
         let ys = joined_one by (d * by.width) lo hi xs in
         let p : Proper by.round.n by.width new = proper-join by some d lo hi Ls order inside clear k.proper in
         let made : relabelled by ys ≡ records_with by xs new =
         relaid-same by xs ys new p
         (join-arranged by.width d lo hi z Ls xs (proper-good by.round by.width Ls k.proper) deep order inside refl k.arranged long)
-        (ap (λ (j : ℕ). drop j ys) same ∙ join-tail by.width d lo hi z Ls xs deep (omega (arith, q.high, q.low, q.apart)) long ∙ ap (λ (j : ℕ). drop j xs) (sym same)) in
+        (ap (λ (j : ℕ). drop j ys) same ∙ join-tail by.width d lo hi z Ls xs deep (omega (arith, q.high_a, q.high_b, q.low_a, q.low_b)) long ∙ ap (λ (j : ℕ). drop j xs) (sym same)) in
         (p, made)
 
     pub join-words : join_steps by i a b xs ≡ after_join by i a b xs

@@ -48,31 +48,6 @@ pub both-made : {S V : Type 0} (x y : Node S V) → with_targets x (written (pic
 unfolding joined_node targets
 both-made x y = ap (with_targets x) (both-mapped (λ k. get_or x.arcs.to k 0) (λ k. get_or y.arcs.to k 0) (range_with_len 0 16))
 
--- ---- numbers, which are places and one
-module _ (lo hi j : ℕ) (some : 1 ≤ lo) (lt : lo < hi) where
-  pub moved_same : (t : ℕ) → t ≡ hi → lo ≡ at_door (moved_to (lo - 1) (hi - 1)) j t
-  unfolding moved_to place_after_join
-  moved_same zero e = absurd (omega arith)
-  moved_same (suc b) e =
-      let back : lo ≡ suc (lo - 1) = omega arith in
-      back ∙ ap (λ c. suc (cond c (lo - 1) (cond (ltb (hi - 1) b) (b - 1) b))) (sym (eq-eqb b (hi - 1) (omega arith)))
-
-  pub moved-above : (t : ℕ) → hi < t → t - 1 ≡ at_door (moved_to (lo - 1) (hi - 1)) j t
-  unfolding moved_to place_after_join
-  moved-above zero gt = absurd (omega arith)
-  moved-above (suc b) gt =
-      let back : suc b - 1 ≡ suc (b - 1) = omega arith in
-      back
-      ∙ ap (λ c. suc (cond c (b - 1) b)) (sym (lt-ltb (hi - 1) b (omega arith)))
-      ∙ ap (λ c. suc (cond c (lo - 1) (cond (ltb (hi - 1) b) (b - 1) b))) (sym (ne_eqb b (hi - 1) (omega arith)))
-
-  pub moved-below : (t : ℕ) → t < hi → t ≡ at_door (moved_to (lo - 1) (hi - 1)) j t
-  unfolding moved_to place_after_join
-  moved-below zero less = refl
-  moved-below (suc b) less =
-      ap (λ c. suc (cond c (b - 1) b)) (sym (le-ltb (hi - 1) b (omega arith)))
-      ∙ ap (λ c. suc (cond c (lo - 1) (cond (ltb (hi - 1) b) (b - 1) b))) (sym (ne_eqb b (hi - 1) (omega arith)))
-
 -- ---- taking out one record
 pub dropped : {X : Type 0} (at : ℕ) (xs : List X) → take at xs ++ drop (suc at) xs ≡ without_place at xs
 unfolding without_place

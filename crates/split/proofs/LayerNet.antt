@@ -1,5 +1,6 @@
 -- A layer of the records, in use as far as the net's has nodes: what arrives from it, and the layer after it parted.
 use Rattle.std.proofs.Common.{◌≡◌, ℕ, zero, suc, ◌+◌, ◌*◌, ◌<◌, ◌≤◌, Bool, true, false, cond, not, eqb, List, [], ◌∷◌, map, length, get_or, take, drop, Some, None, Option, sym, refl, ap, ◌∙◌, ap₂, suc-mul, zero-mul, arith}
+use Rattle.std.specs.Prelude.{if◌then◌else◌, ◌==◌}
 use Rattle.std.proofs.lemmas.List.{drop-drop, length-map, length-take-le, get_or-map, get_or-take, get_or_default, same_lists}
 use Rattle.round.specs.declared.table.Round.{Round}
 use Rattle.layers.specs.declared.node.Arcs.{Arcs}
@@ -52,19 +53,16 @@ module _ {S V : Type 0} where
   abbrev pub labelsOf : List (Node S V) → List (Label S V)
   labelsOf = map (λ (x : Node S V). x.label)
 
+  abbrev kept-labels : List (Label S V) → List (Label S V)
+  kept-labels [] = []
+  kept-labels (l ∷ ls) = if not (l.down.lasts == 0) then l ∷ kept-labels ls else []
+
+  labels-kept : (us : List (Node S V)) → labelsOf (nodes_in us) ≡ kept-labels (labelsOf us)
+  labels-kept [] = refl
+  labels-kept (u ∷ us) = grind (arith, labels-kept us)
+
   pub standing-labels : (us vs : List (Node S V)) → labelsOf us ≡ labelsOf vs → labelsOf (nodes_in us) ≡ labelsOf (nodes_in vs)
-  standing-labels [] [] e = refl
-  standing-labels [] (v ∷ vs) e = absurd (omega (arith, ap length e))
-  standing-labels (u ∷ us) [] e = absurd (omega (arith, ap length e))
-  standing-labels (u ∷ us) (v ∷ vs) e =
-      let here : u.label ≡ v.label = ap (λ ls. get_or ls 0 u.label) e in
-      go (is_used u) (is_used v) (ap (λ (l : Label S V). not (eqb l.down.lasts 0)) here) here (standing-labels us vs (ap (drop 1) e))
-    where
-      go : (p q : Bool) → p ≡ q → u.label ≡ v.label → labelsOf (nodes_in us) ≡ labelsOf (nodes_in vs) → labelsOf (cond p (u ∷ nodes_in us) []) ≡ labelsOf (cond q (v ∷ nodes_in vs) [])
-      go true true f here rest = ap₂ (λ (l : Label S V) ls. l ∷ ls) here rest
-      go true false f here rest = absurd (grind arith)
-      go false true f here rest = absurd (grind arith)
-      go false false f here rest = refl
+  standing-labels us vs e = labels-kept us ∙ ap kept-labels e ∙ sym (labels-kept vs)
 
   -- and the labels of those
   downs-labels : (us : List (Node S V)) → downs_in us ≡ map (λ (l : Label S V). Some l.down) (labelsOf us)

@@ -1,6 +1,7 @@
 -- Parting a layer of records that are laid out is parting the layer of the net.
 use Rattle.std.proofs.Common.{◌≡◌, ℕ, zero, suc, ◌+◌, ◌-◌, ◌*◌, ◌<◌, ◌≤◌, Bool, true, false, cond, ltb, leb, List, [], ◌∷◌, ◌++◌, length, get_or, take, drop, Option, Ok, Err, sym, refl, ap, ◌∙◌, subst, ap₂, arith}
 use Rattle.std.proofs.lemmas.List.{length-append}
+use Rattle.std.proofs.lemmas.Bool.Decides.{nat_tests}
 use Rattle.std.proofs.lemmas.Bool.{leb-false, le-ltb, lt-leb, or_from, cond-false}
 use Rattle.layers.specs.declared.node.Node.{Node}
 use Rattle.layers.specs.declared.refusal.Refusal.TheVariants.{NoLayer}
@@ -22,7 +23,6 @@ use Rattle.labels.specs.Passes.{part, relabelled}
 use Rattle.labels.proofs.Laying.{Arranged, arranged-of}
 use Rattle.split.specs.Steps.{place_check, node_count, alike, parted_one, parts_from, layer_steps}
 use Rattle.split.specs.Words.{LayerDone}
-use Rattle.split.proofs.Checks.{place_is, clear-done}
 use Rattle.split.proofs.LayerNet.{Known, labs, downs-same, stands_same, known_alike, known-parted, known-tail, known-length, known-labels}
 use Rattle.split.proofs.PartWords.{relaid-same}
 use Rattle.split.proofs.ShapedNet.{count-layer}
@@ -127,13 +127,7 @@ module _ {S V : Type 0} (by : Setting S V) (self : (s : S) → by.rule.same s s 
   pub parts-net : (k a m : ℕ) (Ls : Net) (xs : List (Node S V)) → State Ls xs → m ≡ count by i Ls → Done by.round.n by.width xs (parted by k i a Ls) (parts_from by ((i - 1) * by.width) k a m xs)
   unfolding parted parts_from
   parts-net zero a m Ls xs s em = record { answer = refl; arranged = s.known.arranged; tail = refl; long = refl }
-  parts-net (suc k) a m Ls xs s em =
-      let G : Bool → Bool → Bool → Bool × Net = λ x y z. elim x [ true ↦ (false, Ls) | false ↦ elim y [ true ↦ parted by k i (suc a) Ls | false ↦ elim z [ true ↦ (true, Ls) | false ↦ parted by k i (suc a) P ] ] ] in
-      let same : G (leb m a) (alike by ((i - 1) * by.width) (suc a) xs) (leb by.width m) ≡ G (leb (count by i Ls) a) (one_group by (i - 1) a (first_labels by.rule by.tally) Ls) (leb by.width (count by i Ls)) =
-      ap (λ (c : ℕ). G (leb c a) (alike by ((i - 1) * by.width) (suc a) xs) (leb by.width c)) em ∙ ap (λ y. G (leb (count by i Ls) a) y (leb by.width (count by i Ls))) (group-same Ls xs s a m em) in
-      subst (λ p. Done by.round.n by.width xs p (parts_from by ((i - 1) * by.width) (suc k) a m xs)) same
-      (go (leb m a) refl (alike by ((i - 1) * by.width) (suc a) xs) refl (leb by.width m) refl (parts-net k (suc a) m Ls xs s em)
-      (λ t. parts-net k (suc a) (suc m) P ys t (next-count Ls xs s a m em)))
+  parts-net (suc k) a m Ls xs s em = go (leb m a) refl (alike by ((i - 1) * by.width) (suc a) xs) refl (leb by.width m) refl (parts-net k (suc a) m Ls xs s em) (λ t. parts-net k (suc a) (suc m) P ys t (next-count Ls xs s a m em))
     where
       P : Net
       P = part_at by (i - 1) a (first_labels by.rule by.tally) Ls
@@ -144,20 +138,19 @@ module _ {S V : Type 0} (by : Setting S V) (self : (s : S) → by.rule.same s s 
       go : (x : Bool) → leb m a ≡ x → (y : Bool) → alike by ((i - 1) * by.width) (suc a) xs ≡ y → (z : Bool) → leb by.width m ≡ z
           → Done by.round.n by.width xs (parted by k i (suc a) Ls) (parts_from by ((i - 1) * by.width) k (suc a) m xs)
           → (State P ys → Done by.round.n by.width ys (parted by k i (suc a) P) (parts_from by ((i - 1) * by.width) k (suc a) (suc m) ys))
-          → Done by.round.n by.width xs (elim x [ true ↦ (false, Ls) | false ↦ elim y [ true ↦ parted by k i (suc a) Ls | false ↦ elim z [ true ↦ (true, Ls) | false ↦ parted by k i (suc a) P ] ] ])
-          (cond x (false, xs) (cond y (parts_from by ((i - 1) * by.width) k (suc a) m xs) (cond z (true, xs) (parts_from by ((i - 1) * by.width) k (suc a) (suc m) ys))))
-      go true e y f z g on next = record { answer = refl; arranged = s.known.arranged; tail = refl; long = refl }
-      go false e true f z g on next = on
-      go false e false f true g on next = record { answer = refl; arranged = s.known.arranged; tail = refl; long = refl }
+          → Done by.round.n by.width xs (parted by (suc k) i a Ls) (parts_from by ((i - 1) * by.width) (suc k) a m xs)
+      go true e y f z g on next = rw (parted, parts_from, ← em, e) (record { answer = refl; arranged = s.known.arranged; tail = refl; long = refl })
+      go false e true f z g on next = rw (parted, parts_from, ← em, e, ← group-same Ls xs s a m em, f) on
+      go false e false f true g on next = rw (parted, parts_from, ← em, e, ← group-same Ls xs s a m em, f, ← em, g) (record { answer = refl; arranged = s.known.arranged; tail = refl; long = refl })
       go false e false f false g on next =
           let ml = leb-false by.width m g in
           let t = next (next-state Ls xs s a m em (leb-false m a e) ml (sym (group-same Ls xs s a m em) ∙ f)) in
-          record {
+          rw (parted, parts_from, ← em, e, ← group-same Ls xs s a m em, f, ← em, g) (record {
             answer = t.answer;
             arranged = t.arranged;
             tail = t.tail ∙ known-tail by (i - 1) Ls xs s.known a m ml;
             long = t.long ∙ known-length by (i - 1) Ls xs a m;
-          }
+          })
 
 -- ---- records that are laid out
 module _ {S V : Type 0} (by : Setting S V) (self : (s : S) → by.rule.same s s ≡ true) (w : 1 ≤ by.width) (later : List (Node S V)) (Ls : Net) (p : Proper by.round.n by.width Ls) where
@@ -200,9 +193,8 @@ module _ {S V : Type 0} (by : Setting S V) (self : (s : S) → by.rule.same s s 
     pub layer-words : by.width ≤ 128 → Done by.round.n by.width xs (parted by by.width i 0 Ls) (layer_steps by i xs)
     unfolding layer_steps
     layer-words few =
-        let clear : place_check by.round.n by.width (length xs) i ≡ Ok tt = place_is by.round.n by.width (length xs) i w few laid-fit ∙ cond-false _ (Err NoLayer) (Ok tt) (or_from (ltb i 1) (leb by.round.n i) (le-ltb i 1 low) (lt-leb by.round.n i high)) in
-        subst (Done by.round.n by.width xs (parted by by.width i 0 Ls)) (sym (clear-done (place_check by.round.n by.width (length xs) i) _ (false, xs) clear))
-        (parts-net by self w i low by.width 0 (node_count ((i - 1) * by.width + by.width) by.width xs) Ls xs laid-state laid-count)
+        let clear : place_check by.round.n by.width (length xs) i ≡ Ok tt = grind (arith, nat_tests, w, few, laid-fit, low, high) in
+        rw clear (parts-net by self w i low by.width 0 (node_count ((i - 1) * by.width + by.width) by.width xs) Ls xs laid-state laid-count)
 
 -- the same of an answer and records that are what `layer_steps` says
 pub layer-net : {S V : Type 0} (by : Setting S V) (self : (s : S) → by.rule.same s s ≡ true) (i : ℕ) (later : List (Node S V)) (Ls : Net) (xs ys : List (Node S V)) (b : Bool)

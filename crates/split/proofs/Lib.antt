@@ -13,7 +13,6 @@ pub mod LayerWords
 mod Meets
 pub mod PartNet
 pub mod PartWords
-mod Parts
 pub mod ShapedNet
 mod Shifts
 mod Stands

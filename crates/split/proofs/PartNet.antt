@@ -1,7 +1,7 @@
 -- Parting a node of the records comes to parting the node of the net.
-use Rattle.std.proofs.Common.{◌≡◌, ℕ, suc, ◌+◌, ◌-◌, ◌*◌, ◌<◌, ◌≤◌, Bool, cond, not, ◌&&◌, eqb, ◌≢◌, List, [], ◌∷◌, ◌++◌, map, length, get_or, take, drop, set, None, Option, sym, refl, ap, ◌∙◌, subst, ap₂, ⊎_elim, arith}
+use Rattle.std.proofs.Common.{◌≡◌, ℕ, zero, suc, ◌+◌, ◌-◌, ◌*◌, ◌<◌, ◌≤◌, Bool, cond, not, ◌&&◌, eqb, ◌≢◌, List, [], ◌∷◌, ◌++◌, map, length, get_or, take, drop, set, None, Option, sym, refl, ap, ◌∙◌, subst, ap₂, ⊎_elim, arith}
 use lib.Seq.{take-set-lt}
-use Rattle.std.proofs.lemmas.List.{get_or_append_left, get_or_push, take_at, drop_at, drop-drop, drop-set-lt, map-set, length-set, length-map, length-append, length_push, length-take-le, length-drop, take-append-drop, get_or-take, get_or-drop, get_or_past, get_or-set_same, get_or-set_other}
+use Rattle.std.proofs.lemmas.List.{get_or_append_left, get_or_push, take_at, drop_at, drop-drop, drop-set-lt, map-set, length-set, length-map, length-append, length_push, length-take, length-take-le, length-drop, take-append-drop, get_or-take, get_or-drop, get_or_past, get_or-set_same, get_or-set_other}
 use Rattle.std.proofs.lemmas.Bool.{cases_lt, cases_eq}
 use Rattle.layers.specs.declared.node.Arcs.{Arcs}
 use Rattle.layers.specs.declared.node.Node.{Node}
@@ -22,41 +22,25 @@ use Rattle.split.proofs.DepthNet.{good-drop, two-fit, at-depth, later-stays, lon
 use Rattle.layers.specs.Settings.{Setting}
 
 -- ---- a node more at the end of a layer
-push-node : (M : Layer) (nd : Outs) (k : ℕ) → k ≢ length M → node M k ≡ node (M ++ (nd ∷ [])) k
-push-node M nd k ne = ⊎_elim
-    (λ (lt : k < length M). sym (get_or_append_left M (nd ∷ []) [] k lt))
-    (λ (ge : length M ≤ k). get_or_past M k [] ge ∙ sym (get_or_past (M ++ (nd ∷ [])) k [] (omega (arith, length_push M nd))))
-    (cases_lt k (length M))
-
-push-table : (w m : ℕ) (M : Layer) (nd : Outs) → m ≡ length M → m < w → set (table w (arcs_at M)) m (record { to = padded_targets nd }) ≡ table w (arcs_at (M ++ (nd ∷ [])))
-push-table w m M nd em lt = table-list w (arcs_at M') (set (table w (arcs_at M)) m new) (length-set (table w (arcs_at M)) m new ∙ table-long w (arcs_at M)) (λ k d k<w. ⊎_elim
-    (λ (e : k ≡ m). ap (λ (i : ℕ). get_or (set (table w (arcs_at M)) m new) i d) e ∙ get_or-set_same (table w (arcs_at M)) m new d (omega (arith, table-long w (arcs_at M)))
-    ∙ ap (λ (x : Outs). record { to = padded_targets x }) (sym (ap (node M') (e ∙ em) ∙ get_or_push M nd [] (length M) refl)))
-    (λ (ne : k ≢ m). get_or-set_other (table w (arcs_at M)) m k new d ne ∙ table_at w k (arcs_at M) d k<w ∙ ap (λ (x : Outs). record { to = padded_targets x }) (push-node M nd k (λ e. ne (e ∙ sym em))))
-    (cases_eq k m))
-  where
-    M' : Layer
-    M' = M ++ (nd ∷ [])
-
-    new : Arcs
-    new = record { to = padded_targets nd }
+push-table : (w : ℕ) (M : Layer) (nd : Outs) → length M < w → set (table w (arcs_at M)) (length M) (record { to = padded_targets nd }) ≡ table w (arcs_at (M ++ (nd ∷ [])))
+push-table zero M nd lt = absurd (omega arith)
+push-table (suc w) [] nd lt = refl
+push-table (suc w) (x ∷ M) nd lt = ap (λ xs. arcs_at (x ∷ M) 0 ∷ xs) (push-table w M nd (omega arith))
 
 push-arranged : {S V : Type 0} (w m : ℕ) (M : Layer) (nd : Outs) (vs : List (Node S V)) (y : Node S V) → map arcs_of vs ≡ table w (arcs_at M) → m ≡ length M → m < w → y.arcs ≡ record { to = padded_targets nd }
     → map arcs_of (set vs m y) ≡ table w (arcs_at (M ++ (nd ∷ [])))
 push-arranged w m M nd vs y e em lt is =
-    map-set arcs_of vs m y ∙ ap₂ (λ (xs : List Arcs) (x : Arcs). set xs m x) e is ∙ push-table w m M nd em lt
+    map-set arcs_of vs m y ∙ ap₂ (λ (xs : List Arcs) (x : Arcs). set xs m x) e is ∙ ap (λ (k : ℕ). set (table w (arcs_at M)) k (record { to = padded_targets nd })) em ∙ push-table w M nd (omega arith)
 
 module _ {S V : Type 0} (stays : Label S V → ℕ → Bool) where
   -- ---- the records that stay, and the labels
   pub part_length : (w d a m : ℕ) (z : Node S V) (xs : List (Node S V)) → length (take (d * w) xs ++ parted_second stays w a m (drop (d * w) xs) z) ≡ length xs
   unfolding parted_second
-  part_length w d a m z xs = long-stays (λ ys. parted_second stays w a m ys z) (d * w) xs (one (drop (d * w) xs))
-    where
-      one : (ys : List (Node S V)) → length (map (parted_node stays a m) (take w ys) ++ set (drop w ys) m (get_or (drop w ys) a z)) ≡ length ys
-      one ys =
-          length-append (map (parted_node stays a m) (take w ys)) (set (drop w ys) m (get_or (drop w ys) a z))
-          ∙ ap₂ (λ (i j : ℕ). i + j) (length-map (take w ys) (parted_node stays a m)) (length-set (drop w ys) m (get_or (drop w ys) a z))
-          ∙ sym (length-append (take w ys) (drop w ys)) ∙ ap length (take-append-drop w ys)
+  part_length w d a m z xs =
+      let one : (ys : List (Node S V)) → length (map (parted_node stays a m) (take w ys) ++ set (drop w ys) m (get_or (drop w ys) a z)) ≡ length ys =
+      λ ys. let A = map (parted_node stays a m) (take w ys) in let B = set (drop w ys) m (get_or (drop w ys) a z) in
+      omega (arith, length-append A B, length-map (take w ys) (parted_node stays a m), length-set (drop w ys) m (get_or (drop w ys) a z), length-take w ys, length-drop w ys) in
+      long-stays (λ ys. parted_second stays w a m ys z) (d * w) xs (one (drop (d * w) xs))
 
   second-tail : (w a m n : ℕ) (z : Node S V) (ys : List (Node S V)) → w ≤ length ys → m < w → w + w ≤ n → drop n (parted_second stays w a m ys z) ≡ drop n ys
   unfolding parted_second

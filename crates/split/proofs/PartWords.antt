@@ -1,5 +1,6 @@
 -- Part, on records that have the shape of a diagram, is part as it is defined.
 use Rattle.std.proofs.Common.{◌≡◌, ℕ, suc, ◌+◌, ◌-◌, ◌*◌, ◌<◌, ◌≤◌, true, false, ◌||◌, Bool, ltb, leb, List, [], ◌++◌, length, get_or, drop, Ok, is_ok, sym, ap, ◌∙◌, subst, arith}
+use Rattle.std.proofs.lemmas.Bool.Decides.{nat_tests}
 use Rattle.std.proofs.lemmas.Bool.{ltb-false, leb-false, or_parts, cond_both}
 use Rattle.layers.specs.declared.node.Node.{Node}
 use Rattle.layers.specs.declared.refusal.Refusal.TheVariants.{NoLayer, NoNode}
@@ -17,9 +18,9 @@ use Rattle.labels.proofs.Laying.{Arranged, relabelled-lawful}
 use Rattle.split.specs.Steps.{node_check, group_check, and_then, node_count, alike, parted_one, part_check, part_steps}
 use Rattle.split.specs.Asked.{Placed}
 use Rattle.split.specs.Words.{PartDone}
-use Rattle.split.proofs.Checks.{else-parts, else-cond, place_is, place-clear, node-clear, group-clear, same_check, passed}
+use Rattle.split.proofs.Checks.{place-clear, same_check, passed}
 use Rattle.split.proofs.LayerNet.{known-standing, known_alike, known-parted, known-tail}
-use Rattle.split.proofs.ShapedNet.{known-shaped, count_long, count-layer}
+use Rattle.split.proofs.ShapedNet.{known-shaped, count_long, count-at}
 use Rattle.layers.specs.Settings.{Setting}
 
 -- labels worked out anew from the arcs of a net, in a list of which the places after the end stay
@@ -32,13 +33,7 @@ module _ {S V : Type 0} (by : Setting S V) (i a : ℕ) (xs : List (Node S V)) wh
   -- what no refusal tells
   part-clear : part_check by i a xs ≡ Ok tt → Placed by.round.n by.width (length xs) i × (1 ≤ a) × (a ≤ node_count ((i - 1) * by.width + by.width) by.width xs) × (alike by ((i - 1) * by.width) a xs ≡ false) × (node_count ((i - 1) * by.width + by.width) by.width xs < by.width)
   unfolding part_check
-  part-clear e =
-      let m = node_count ((i - 1) * by.width + by.width) by.width xs in
-      let p = else-parts _ _ e in
-      let q = else-parts _ _ p.1 in
-      let b = node-clear m a q.0 in
-      let c = group-clear _ _ q.1 in
-      (place-clear by.round.n by.width (length xs) i p.0, b.0, b.1, c.0, leb-false by.width m c.1)
+  part-clear e = (place-clear by.round.n by.width (length xs) i by.round.most (grind (arith, nat_tests)), grind (arith, nat_tests), grind (arith, nat_tests), grind (arith, nat_tests), grind (arith, nat_tests))
 
   module _ (some : 1 ≤ by.width) (few : by.width ≤ 128) (fit : by.round.n * by.width + 1 ≤ length xs) (s : IsShaped by.round.n by.width xs) where
     -- the in-arcs of a node agree
@@ -51,23 +46,10 @@ module _ {S V : Type 0} (by : Setting S V) (i a : ℕ) (xs : List (Node S V)) wh
         ∙ ap (all_agree by.rule) (known-standing by (i - 1) (arcs by.round.n by.width xs) xs k (a - 1))
         ∙ ap (λ (N : List (Node S V)). all_agree by.rule (arrivalsIn by (downs_in N) (arcs_in by.round.n N) (a - 1))) (sym (layer-at by.width by.round.n (i - 1) xs (omega arith)))
 
-    count_same : 1 ≤ i → i < by.round.n → node_count ((i - 1) * by.width + by.width) by.width xs ≡ length (layer by.round.n by.width i xs)
-    count_same low high = let back : suc (i - 1) ≡ i = omega arith in count-layer by.round.n by.width xs (i - 1) (omega arith) ∙ ap (λ (k : ℕ). length (layer by.round.n by.width k xs)) back
-
     -- the answer
     pub part-answer : part_check by i a xs ≡ part_answer by i a xs
     unfolding part_check part_answer
-    part-answer =
-        let m = node_count ((i - 1) * by.width + by.width) by.width xs in
-        let X : ℕ → Outcome = λ m. and_then (node_check m a) (group_check (alike by ((i - 1) * by.width) a xs) (leb by.width m)) in
-        ap (λ (k : Outcome). and_then k (X m)) (place_is by.round.n by.width (length xs) i some few fit)
-        ∙ else-cond (ltb i 1 || leb by.round.n i) NoLayer (X m) _
-        (λ q.
-        let low = ltb-false i 1 (or_parts _ _ q).0 in
-        let high = leb-false by.round.n i (or_parts _ _ q).1 in
-        ap X (count_same low high)
-        ∙ else-cond (bad_node by i a xs) NoNode (group_check (alike by ((i - 1) * by.width) a xs) (is_full by i xs)) _
-        (λ b. ap (λ (p : Bool). group_check p (is_full by i xs)) (group-same low high (ltb-false a 1 (or_parts _ _ b).0))))
+    part-answer = grind (arith, nat_tests, count-at by.round.n by.width xs i, group-same)
 
     -- what it does
     abbrev new : List (Node S V) → Net

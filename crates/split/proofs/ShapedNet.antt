@@ -1,5 +1,5 @@
 -- What is known of the layers of records that have the shape of a diagram.
-use Rattle.std.proofs.Common.{◌≡◌, ℕ, zero, suc, ◌+◌, ◌*◌, ◌<◌, ◌≤◌, List, [], length, get_or, take, drop, sym, refl, ap, ◌∙◌, suc-mul, arith}
+use Rattle.std.proofs.Common.{◌≡◌, ℕ, zero, suc, ◌+◌, ◌-◌, ◌*◌, ◌<◌, ◌≤◌, List, [], length, get_or, take, drop, sym, refl, ap, ◌∙◌, suc-mul, arith}
 use Rattle.std.proofs.lemmas.List.{length-map}
 use Rattle.layers.specs.declared.node.Node.{Node}
 use Rattle.layers.specs.Records.{nodes_in, layers, arcs_in, arcs_of_layers}
@@ -34,6 +34,9 @@ module _ {S V : Type 0} (n W : ℕ) (xs : List (Node S V)) where
 
   pub count-layer : (d : ℕ) → suc d < n → node_count (d * W + W) W xs ≡ length (layer n W (suc d) xs)
   count-layer d lt = let e : d * W + W ≡ suc d * W = omega (arith, suc-mul d W) in ap (λ (k : ℕ). node_count k W xs) e ∙ sym (ap (λ (N : List (Node S V)). length N) (layer-at W n (suc d) xs lt))
+
+  pub count-at : (i : ℕ) → 1 ≤ i → i < n → node_count ((i - 1) * W + W) W xs ≡ length (layer n W i xs)
+  count-at i low high = let back : suc (i - 1) ≡ i = omega arith in count-layer (i - 1) (omega arith) ∙ ap (λ (k : ℕ). length (layer n W k xs)) back
 
 module _ {S V : Type 0} (by : Setting S V) (xs : List (Node S V)) (some : 1 ≤ by.width) (fit : by.round.n * by.width + 1 ≤ length xs) (s : IsShaped by.round.n by.width xs) where
   pub known-shaped : (d : ℕ) → suc d < by.round.n → Known by d (arcs by.round.n by.width xs) xs

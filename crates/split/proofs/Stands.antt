@@ -7,13 +7,9 @@ use Rattle.layers.specs.Records.{nodes_in}
 use Rattle.layers.proofs.Shaped.{standing-short}
 use Rattle.split.specs.Steps.{node_count}
 
-one-more : {X : Type 0} (b : Bool) (x : X) (n : ℕ) (ys : List X) → n ≡ length ys → cond b (1 + n) 0 ≡ length (cond b (x ∷ ys) [])
-one-more true x n ys e = omega (arith, e)
-one-more false x n ys e = refl
-
 pub standing-counted : {S V : Type 0} (us : List (Node S V)) → prefix_len (λ (u : Node S V). not (eqb u.label.down.lasts 0)) us ≡ length (nodes_in us)
 standing-counted [] = refl
-standing-counted (x ∷ xs) = one-more (not (eqb x.label.down.lasts 0)) x _ (nodes_in xs) (standing-counted xs)
+standing-counted (x ∷ xs) = grind (arith, standing-counted xs)
 
 -- at most w
 pub count_most : {S V : Type 0} (at w : ℕ) (xs : List (Node S V)) → node_count at w xs ≤ w

@@ -23,9 +23,13 @@ joined_node x y = with_targets x (both_out (targets x) (targets y))
 -- of their layer: both at lo, hi taken out, and the place that is left at the end as z
 unfoldable pub joined_layer : {S V : Type 0} → ℕ → ℕ → List (Node S V) → Node S V → List (Node S V)
 unfolding joined_node without_place
-joined_layer lo hi us z = without_place hi (slice_set us lo (joined_node (slice_index_or us lo z) (slice_index_or us hi z))) ++ z ∷ []
+joined_layer lo hi us z =
+    let both = joined_node (slice_index_or us lo z) (slice_index_or us hi z) in
+    without_place hi (slice_set us lo both) ++ z ∷ []
 
 -- of the list from the layer before theirs on: that layer has the in-arcs
 unfoldable pub joined_second : {S V : Type 0} → ℕ → ℕ → ℕ → List (Node S V) → Node S V → List (Node S V)
 unfolding moved_node joined_layer
-joined_second w lo hi xs z = map (moved_node lo hi) (take w xs) ++ (joined_layer lo hi (take w (drop w xs)) z ++ drop w (drop w xs))
+joined_second w lo hi xs z =
+    let rest = drop w xs in
+    map (moved_node lo hi) (take w xs) ++ (joined_layer lo hi (take w rest) z ++ drop w rest)

@@ -19,4 +19,6 @@ module _ {S V : Type 0} (stays : Label S V → ℕ → Bool) where
   -- of the list from the layer before theirs on, w records to a layer: that layer has the in-arcs
   unfoldable pub parted_second : ℕ → ℕ → ℕ → List (Node S V) → Node S V → List (Node S V)
   unfolding parted_node
-  parted_second w a m xs z = map (parted_node a m) (take w xs) ++ slice_set (drop w xs) m (slice_index_or (drop w xs) a z)
+  parted_second w a m xs z =
+      let rest = drop w xs in
+      map (parted_node a m) (take w xs) ++ slice_set rest m (slice_index_or rest a z)

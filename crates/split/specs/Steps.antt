@@ -57,7 +57,8 @@ record_at z at a xs = slice_index_or xs (at + (a - 1)) z
 
 -- nodes a and b have arcs by one door to two nodes
 abbrev pub clash_at : {S V : Type 0} → Node S V → ℕ → ℕ → ℕ → List (Node S V) → Bool
-clash_at z at a b xs = clash (targets (record_at z at (min a b) xs)) (targets (record_at z at (max a b) xs))
+clash_at z at a b xs =
+    clash (targets (record_at z at (min a b) xs)) (targets (record_at z at (max a b) xs))
 
 module _ {S V : Type 0} (by : Setting S V) where
   -- the list of records
@@ -79,11 +80,15 @@ module _ {S V : Type 0} (by : Setting S V) where
   unfolding parted_second arrival_over agree
   parted_one at a m xs =
       let x = first_arrival (arrivals by (suc a) (part at by.width xs)) in
-      take at xs ++ parted_second (kept_first x) by.width a m (drop at xs) (blank_node by.rule by.tally)
+      take at xs
+      ++ parted_second (kept_first x) by.width a m (drop at xs) (blank_node by.rule by.tally)
 
   -- the same, unless its in-arcs agree or the layer is full
   abbrev pub next_records : ℕ → ℕ → ℕ → Recs → Recs
-  next_records at a m xs = if alike at (suc a) xs then xs else if nat_le by.width m then xs else parted_one at a m xs
+  next_records at a m xs =
+      if alike at (suc a) xs then xs
+      else if nat_le by.width m then xs
+      else parted_one at a m xs
 
   -- part node a of layer i
   unfoldable pub part_check : ℕ → ℕ → Recs → Outcome
@@ -91,13 +96,15 @@ module _ {S V : Type 0} (by : Setting S V) where
   part_check i a xs =
       let at = (i - 1) * by.width in
       let m = node_count (at + by.width) by.width xs in
-      and_then (place_check by.round.n by.width (length xs) i) (and_then (node_check m a) (group_check (alike at a xs) (nat_le by.width m)))
+      and_then (place_check by.round.n by.width (length xs) i)
+      (and_then (node_check m a) (group_check (alike at a xs) (nat_le by.width m)))
 
   unfoldable pub part_steps : ℕ → ℕ → Recs → Recs
   unfolding part_check parted_one relabelled
   part_steps i a xs =
       let at = (i - 1) * by.width in
-      if is_ok (part_check i a xs) then relabelled by (parted_one at (a - 1) (node_count (at + by.width) by.width xs) xs) else xs
+      let m = node_count (at + by.width) by.width xs in
+      if is_ok (part_check i a xs) then relabelled by (parted_one at (a - 1) m xs) else xs
 
   -- part the nodes at the places a, a + 1, .. of the layer after that at `at`, k at most, of the m that it has: whether one is
   -- left since the layer is full
@@ -115,7 +122,9 @@ module _ {S V : Type 0} (by : Setting S V) where
   unfolding parts_from
   layer_steps i xs =
       let at = (i - 1) * by.width in
-      if is_ok (place_check by.round.n by.width (length xs) i) then parts_from at by.width 0 (node_count (at + by.width) by.width xs) xs else (false, xs)
+      let m = node_count (at + by.width) by.width xs in
+      if is_ok (place_check by.round.n by.width (length xs) i) then parts_from at by.width 0 m xs
+      else (false, xs)
 
   -- ---- join
   -- nodes a and b of layer i
@@ -124,16 +133,22 @@ module _ {S V : Type 0} (by : Setting S V) where
   join_check i a b xs =
       let at = (i - 1) * by.width + by.width in
       let m = node_count at by.width xs in
-      and_then (place_check by.round.n by.width (length xs) i) (and_then (node_check m a) (and_then (node_check m b) (pair_check (a == b) (clash_at (blank_node by.rule by.tally) at a b xs))))
+      let apart = clash_at (blank_node by.rule by.tally) at a b xs in
+      and_then (place_check by.round.n by.width (length xs) i)
+      (and_then (node_check m a) (and_then (node_check m b) (pair_check (a == b) apart)))
 
   -- the nodes at the places lo and hi of the layer after that at `at`, joined
   unfoldable pub joined_one : ℕ → ℕ → ℕ → Recs → Recs
   unfolding joined_second
-  joined_one at lo hi xs = take at xs ++ joined_second by.width lo hi (drop at xs) (blank_node by.rule by.tally)
+  joined_one at lo hi xs =
+      take at xs ++ joined_second by.width lo hi (drop at xs) (blank_node by.rule by.tally)
 
   unfoldable pub join_steps : ℕ → ℕ → ℕ → Recs → Recs
   unfolding join_check joined_one relabelled
-  join_steps i a b xs = if is_ok (join_check i a b xs) then relabelled by (joined_one ((i - 1) * by.width) (min a b - 1) (max a b - 1) xs) else xs
+  join_steps i a b xs =
+      let at = (i - 1) * by.width in
+      if is_ok (join_check i a b xs) then relabelled by (joined_one at (min a b - 1) (max a b - 1) xs)
+      else xs
 
   -- ---- agreed: of the nodes 1 to b of the layer after the records us, and of the layers 1 to k
   unfoldable pub agreed_to : ℕ → Recs → Bool
@@ -151,4 +166,5 @@ module _ {S V : Type 0} (by : Setting S V) where
   -- no, of a list that does not fit
   unfoldable pub agreed_steps : Recs → Bool
   unfolding agreed_layers
-  agreed_steps xs = if fits by.round.n by.width (length xs) then agreed_layers (by.round.n - 1) xs else false
+  agreed_steps xs =
+      if fits by.round.n by.width (length xs) then agreed_layers (by.round.n - 1) xs else false

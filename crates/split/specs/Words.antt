@@ -14,20 +14,28 @@ pub record Sound {S V : Type 0} (n w : ℕ) (xs : List (Node S V)) : Type 0 wher
   pub shaped : IsShaped n w xs
 
 module _ {S V : Type 0} (by : Setting S V) (xs : List (Node S V)) where
+  -- the list has room for a diagram of this round and width, and that shape
+  abbrev pub SoundHere : Type 0
+  SoundHere = Sound by.round.n by.width xs
+
   -- part node a of layer i, answered by o
   abbrev pub PartDone : ℕ → ℕ → Outcome → List (Node S V) → Type 0
-  PartDone i a o ys = Sound by.round.n by.width xs → (o ≡ part_answer by i a xs) × (ys ≡ after_part by i a xs)
+  PartDone i a o ys = SoundHere → (o ≡ part_answer by i a xs) × (ys ≡ after_part by i a xs)
 
   -- join nodes a and b of layer i
   abbrev pub JoinDone : ℕ → ℕ → ℕ → Outcome → List (Node S V) → Type 0
-  JoinDone i a b o ys = Sound by.round.n by.width xs → (o ≡ join_answer by i a b xs) × (ys ≡ after_join by i a b xs)
+  JoinDone i a b o ys = SoundHere → (o ≡ join_answer by i a b xs) × (ys ≡ after_join by i a b xs)
 
   -- agreed
   abbrev pub AgreedDone : Bool → Type 0
-  AgreedDone b = Sound by.round.n by.width xs → b ≡ in_arcs_agree by (arcs by.round.n by.width xs) (labels by.round.n by.width xs)
+  AgreedDone b =
+      let n = by.round.n in
+      SoundHere → b ≡ in_arcs_agree by (arcs n by.width xs) (labels n by.width xs)
 
   -- the parts of layer i, of records with labels that are those worked out anew: with labels worked out anew again, what refine
   -- does in one layer
   abbrev pub LayerDone : ℕ → Bool → List (Node S V) → Type 0
-  LayerDone i b ys = Sound by.round.n by.width xs → records_with by xs (arcs by.round.n by.width xs) ≡ xs
-      → 1 ≤ i → i < by.round.n → (b, relabelled by ys) ≡ parts_of_layer by by.width i 1 xs
+  LayerDone i b ys =
+      let n = by.round.n in
+      SoundHere → records_with by xs (arcs n by.width xs) ≡ xs → 1 ≤ i → i < n
+      → (b, relabelled by ys) ≡ parts_of_layer by by.width i 1 xs

@@ -15,6 +15,7 @@ use round::table::Round;
 use rules::rule::Rule;
 
 /// Whether the in-arcs of each node agree of the layer after that at `at`.
+#[tactic(auto, using(crate::proofs::Stands::count_most), unfolding(crate::specs::Steps::agreed_to))]
 fn layer_agreed<R: Rule, T, V: Copy>(
     by: &Setting<'_, R, T>,
     nodes: &[Node<R::State, V>],
@@ -37,6 +38,7 @@ fn layer_agreed<R: Rule, T, V: Copy>(
 }
 
 /// Whether the in-arcs of each node of the layers 1 to n - 1 agree. No for a list that has no room for the round's diagram.
+#[tactic(auto, unfolding(crate::specs::Steps::agreed_layers, crate::specs::Steps::agreed_steps))]
 pub fn agreed<R: Rule, V: Copy>(
     round: &Round,
     rule: &R,

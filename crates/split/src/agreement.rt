@@ -69,6 +69,7 @@ fn meet<R: Rule, T, V: Copy>(
 }
 
 /// All arcs of u that lead to node t.
+#[tactic(auto, unfolding(labels::specs::Passes::from_node, labels::specs::Passes::by_door, crate::specs::Agreed::brought))]
 fn meet_node<R: Rule, T, V: Copy>(
     by: &Setting<'_, R, T>,
     got: Arrived<R::State, V>,

@@ -25,6 +25,7 @@ impl<'a, R: Rule, T: Tally> Test for ByFirst<'a, R, T, R::State, T::Value> {
     ghost keeps = { λ b. let s = b.by.now in
         kept_by (lent_setting s (R.sense s.rule.now) (T.sense s.tally.now)) b.first };
 
+    #[tactic(auto, unfolding(crate::specs::Agreed::brought))]
     fn stays(&self, u: &Label<R::State, T::Value>, j: usize) -> bool {
         let y = Source {
             label: u.down,

@@ -22,6 +22,7 @@ pub(crate) trait Test {
 }
 
 /// The target of the arc by the door k + 1, once those into a that do not stay go to `new`.
+#[tactic(auto, unfolding(crate::specs::Parted::parted_to))]
 fn divided_target<K: Test>(test: &K, u: &Node<K::State, K::Value>, k: usize, a: u8, new: u8) -> u8
     requires k_bound { k < 16 }
     requires one_le_a { 1 ≤ a }
@@ -67,6 +68,7 @@ fn divide_layer<K: Test>(test: &K, us: &mut [Node<K::State, K::Value>], a: u8, n
 }
 
 /// Parts node a of the second of the layers of w records, which has `count` nodes and room for one more.
+#[tactic(auto, unfolding(crate::specs::Parted::parted_second))]
 pub(crate) fn divide<K: Test>(
     test: &K,
     nodes: &mut [Node<K::State, K::Value>],

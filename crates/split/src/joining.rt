@@ -1,8 +1,9 @@
 //! Joining two nodes of a layer: one node with the in-arcs and the out-arcs of both.
-ghost use Rattle.std.specs.Prelude.{◌≡◌, ◌+◌, ◌-◌, ◌<◌, ◌≤◌, max, length, ◌==◌};
+ghost use Rattle.std.specs.Prelude.{◌≡◌, ◌+◌, ◌-◌, ◌<◌, ◌≤◌, max, length, Err, MatchResult, ◌==◌};
 ghost use Rattle.layers.specs.declared.node.Node.{Node as ANode};
 ghost use Rattle.layers.specs.Settings.{lent_setting};
 ghost use Rattle.split.specs.Steps.{pair_check, clash_at, join_check, joined_one, join_steps};
+ghost use Rattle.split.specs.Asked.{MayJoin};
 ghost use Rattle.split.specs.Words.{JoinDone};
 
 use crate::check::{check_node, check_place};
@@ -40,6 +41,7 @@ fn check_pair<S: Copy, V: Copy>(
 }
 
 /// Whether nodes a and b of the layer can be joined.
+#[tactic(auto, using(crate::proofs::Stands::count_most), unfolding(crate::specs::Steps::join_check))]
 fn check_join<R: Rule, T: Tally>(
     by: &Setting<'_, R, T>,
     nodes: &[Node<R::State, T::Value>],
@@ -48,7 +50,8 @@ fn check_join<R: Rule, T: Tally>(
     b: usize,
 ) -> Result<(), Refusal>
     ensures { let by = lent_setting by.now (R.sense by.now.rule.now) (T.sense by.now.tally.now) in
-        result ≡ join_check by layer a b nodes.now }
+        MatchResult result (λ _. MayJoin by layer a b nodes.now)
+        (λ e. join_check by layer a b nodes.now ≡ Err e) }
 {
     check_place(by.round.n, by.width, nodes.len(), layer)?;
     let at = (layer - 1) * by.width + by.width;
@@ -80,6 +83,7 @@ fn join_nodes<R: Rule, T: Tally>(
 
 /// Joins nodes a and b of the layer: a node with the out-arcs of both stands at the lower of the two places, the nodes after
 /// the other move down, and all labels are worked out anew. A refusal alters nothing.
+#[tactic(auto, using(crate::proofs::Stands::count_most), unfolding(crate::specs::Steps::join_steps))]
 pub fn join<R: Rule, T: Tally>(
     by: &Setting<'_, R, T>,
     nodes: &mut [Node<R::State, T::Value>],

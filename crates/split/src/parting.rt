@@ -60,6 +60,7 @@ fn check_into<R: Rule, T: Tally>(
 }
 
 /// Whether the node of the layer can be parted, and its first in-arc.
+#[tactic(auto, using(crate::proofs::Stands::count_most), unfolding(crate::specs::Steps::part_check))]
 fn check_part<R: Rule, T: Tally>(
     by: &Setting<'_, R, T>,
     nodes: &[Node<R::State, T::Value>],
@@ -104,6 +105,7 @@ fn part_node<R: Rule, T: Tally>(
 
 /// Parts node `node` of the layer: the in-arcs that differ from the first go to a new last node, with the same out-arcs, and
 /// all labels are worked out anew. A refusal alters nothing.
+#[tactic(auto, unfolding(crate::specs::Steps::part_steps))]
 pub fn part<R: Rule, T: Tally>(
     by: &Setting<'_, R, T>,
     nodes: &mut [Node<R::State, T::Value>],
@@ -190,6 +192,7 @@ fn part_from<R: Rule, T: Tally>(
 /// Parts each node of the layer whose in-arcs do not agree, one after another, the new ones too, by their arcs alone: no label
 /// is worked out anew. Yes if one is left since the layer is full. No, and nothing altered, for a list that has no room for the
 /// round's diagram, and for a layer that is not 1 to n - 1.
+#[tactic(auto, unfolding(crate::specs::Steps::layer_steps))]
 pub fn part_layer<R: Rule, T: Tally>(
     by: &Setting<'_, R, T>,
     nodes: &mut [Node<R::State, T::Value>],
@@ -200,8 +203,8 @@ pub fn part_layer<R: Rule, T: Tally>(
     ensures words { let by = lent_setting by.now (R.sense by.now.rule.now)
         (T.sense by.now.tally.now) in LayerDone by nodes.old layer result nodes.new }
 {
-    if check_place(by.round.n, by.width, nodes.len(), layer).is_err() {
-        return false;
+    match check_place(by.round.n, by.width, nodes.len(), layer) {
+        Err(_) => false,
+        Ok(()) => part_from(by, nodes, (layer - 1) * by.width),
     }
-    part_from(by, nodes, (layer - 1) * by.width)
 }

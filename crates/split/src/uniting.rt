@@ -50,6 +50,7 @@ fn unite_layer<S: Copy, V: Copy>(us: &mut [Node<S, V>], lo: usize, hi: usize, bl
 }
 
 /// Joins the nodes lo and hi of the second of the layers of w records: their in-arcs are those of the first.
+#[tactic(auto, unfolding(crate::specs::Joined::joined_second))]
 pub(crate) fn unite<S: Copy, V: Copy>(
     nodes: &mut [Node<S, V>],
     w: usize,

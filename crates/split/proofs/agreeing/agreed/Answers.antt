@@ -4,24 +4,11 @@ use Rattle.tallies.specs.Tallies.{TallySense}
 use Rattle.layers.specs.Settings.{Setting, setting}
 use Rattle.labels.specs.Passes.{fits}
 use Rattle.labels.proofs.Rooms.{room-facts}
+use Rattle.std.proofs.Math.Bool.{and_comm}
 use Rattle.split.specs.Steps.{agreed_layers, agreed_steps}
 use Rattle.split.proofs.AgreedWords.{agreed-said}
 use Rattle.split.proofs.Doing.{layer-small, layer-within}
-use Rattle.split.proofs.Turns.{and-swap}
 use Rattle.split.proofs.agreeing.agreed.Goals as goal
-
-pub returns-then-not-has_room : goal.returns-then-not-has_room
-unfolding agreed_steps
-returns-then-not-has_room g c =
-    let r = c.args.round.now in
-    let By : TallySense g.row.V.Denot → Setting g.row.R-State.Denot g.row.V.Denot = λ s. setting r (g.R.Rule.sense c.args.rule.now) s c.args.width in
-    let xs = c.args.nodes.now in
-    let no : (s : TallySense g.row.V.Denot) → false ≡ agreed_steps (By s) xs = λ s. sym (cond-false (fits r.n c.args.width (length xs)) _ _ (sym c.if-not-has_room.ensures)) in
-    record { steps = no; words = λ s. agreed-said (By s) xs false (no s) }
-
-pub loop-k-init : goal.loop-k-init
-unfolding agreed_layers
-loop-k-init g c s = refl
 
 pub overflow_mul-k : goal.overflow_mul-k
 overflow_mul-k g c =
@@ -40,7 +27,7 @@ layer_agreed-all-requires g c =
 pub loop-k-preserved : goal.loop-k-preserved
 unfolding agreed_layers
 loop-k-preserved g c s =
-    and-swap c.loop-k.all c.layer_agreed-all.result
+    and_comm c.loop-k.all c.layer_agreed-all.result
     ∙ ap₂ ◌&&◌ (c.layer_agreed-all.ensures s) (c.loop-k.invariant s)
     ∙ ap (λ (k : ℕ). agreed_layers (setting c.args.round.now (g.R.Rule.sense c.args.rule.now) s c.args.width) k c.args.nodes.now) (sym (add-one c.loop-k.k))
 

@@ -1,20 +1,11 @@
 use Rattle.std.proofs.Common.{◌≡◌, ℕ, ◌+◌, ◌&&◌, sym, refl, ap, ◌∙◌, ap₂, add-one, arith}
 use Rattle.layers.specs.Settings.{lent_setting}
 use Rattle.labels.specs.Passes.{part}
+use Rattle.std.proofs.Math.Bool.{and_comm}
 use Rattle.split.specs.Steps.{node_count, agreed_to}
-use Rattle.split.proofs.Turns.{and-swap, said}
+use Rattle.split.proofs.Turns.{said}
 use Rattle.split.proofs.Stands.{count_most}
 use Rattle.split.proofs.agreeing.layer_agreed.Goals as goal
-
-pub loop-b-init : goal.loop-b-init
-unfolding agreed_to
-loop-b-init g c s = refl
-
-pub overflow_cast-b : goal.overflow_cast-b
-overflow_cast-b g c = let most = count_most (c.args.at + c.args.by.now.width) c.args.by.now.width c.args.nodes.now in omega (arith, c.count_in-count.ensures, c.loop-b-test.true, c.requires.width_bound)
-
-pub overflow_add-b : goal.overflow_add-b
-overflow_add-b g c = let most = count_most (c.args.at + c.args.by.now.width) c.args.by.now.width c.args.nodes.now in omega (arith, c.count_in-count.ensures, c.loop-b-test.true, c.requires.width_bound)
 
 pub loop-b-preserved : goal.loop-b-preserved
 unfolding agreed_to
@@ -22,12 +13,6 @@ loop-b-preserved g c s =
     let by = lent_setting c.args.by.now (g.R.Rule.sense c.args.by.now.rule.now) s in
     let us = part c.args.at c.args.by.now.width c.args.nodes.now in
     let b = c.loop-b.b in
-    and-swap c.loop-b.all c.look_in-got.result.agreed
+    and_comm c.loop-b.all c.look_in-got.result.agreed
     ∙ ap₂ ◌&&◌ (sym (said by c.args.at b c.args.nodes.now (c.look_in-got.ensures.agreed s) refl)) (c.loop-b.invariant s)
     ∙ ap (λ (k : ℕ). agreed_to by k us) (sym (add-one b))
-
-pub returns : goal.returns
-returns g c s =
-    let by = lent_setting c.args.by.now (g.R.Rule.sense c.args.by.now.rule.now) s in
-    let all : c.loop-b.b ≡ node_count (c.args.at + c.args.by.now.width) c.args.by.now.width c.args.nodes.now = omega (arith, c.count_in-count.ensures) in
-    c.loop-b.invariant s ∙ ap (λ (k : ℕ). agreed_to by k (part c.args.at c.args.by.now.width c.args.nodes.now)) all

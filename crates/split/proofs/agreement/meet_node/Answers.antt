@@ -9,13 +9,6 @@ use Rattle.split.specs.Agreed.{brought, seen, met}
 use Rattle.split.proofs.agreement.meet_node.Goals as goal
 use Rattle.split.proofs.agreement.meet_node.Goals.{then-u-k, else-u-k}
 
-pub returns-then-u-eq0 : goal.returns-then-u-eq0
-unfolding from_node
-returns-then-u-eq0 g c s =
-    let by = lent_setting c.args.by.now (g.R.Rule.sense c.args.by.now.rule.now) s in
-    let u = c.args.u.now in
-    ap (λ b. fold (met by) (seen by c.args.got) (cond b [] (flat_map (by_door by c.args.t u) (range_with_len 0 16)))) (sym (eq-eqb u.label.down.lasts 0 c.if-u-eq0.true))
-
 pub loop-k-preserved : goal.loop-k-preserved
 unfolding by_door brought
 loop-k-preserved g c s =

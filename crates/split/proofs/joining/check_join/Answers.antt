@@ -1,63 +1,16 @@
-use Rattle.std.proofs.Common.{◌≡◌, ◌+◌, ◌-◌, ◌*◌, ◌≤◌, max, length, Ok, sym, ap, ◌∙◌, arith}
-use native.Mathlib.Nat.{max-le}
-use Rattle.std.proofs.lemmas.Result.{err_from_is_err_and}
+use Rattle.std.proofs.Common.{◌≡◌, ◌+◌, ◌-◌, ◌*◌, Ok, ap, ◌∙◌, sym}
 use Rattle.layers.specs.Settings.{lent_setting}
-use Rattle.split.specs.Steps.{node_check}
-use Rattle.split.proofs.Asking.{join-place, join_one, join-other, join-pair}
-use Rattle.split.proofs.Checks.{place-clear, node-clear, placed-fits, placed-small}
-use Rattle.split.proofs.Stands.{count_most}
+use Rattle.labels.specs.Passes.{blank_node}
+use Rattle.split.specs.Steps.{node_check, node_count, join_check}
+use Rattle.split.proofs.Asking.{join-found}
 use Rattle.split.proofs.joining.check_join.Goals as goal
 
-pub returns-in_err-check_place : goal.returns-in_err-check_place
-returns-in_err-check_place g c =
-    let p = err_from_is_err_and c.from_residual.result c.from_residual.ensures.1 in
-    rw (p.1, p.2) (sym (join-place (lent_setting c.args.by.now (g.R.Rule.sense c.args.by.now.rule.now) (g.T.Tally.sense c.args.by.now.tally.now)) c.args.layer c.args.a c.args.b c.args.nodes.now _ (sym c.in_err-check_place.ensures)))
-
-pub overflow_mul-at : goal.overflow_mul-at
-overflow_mul-at g c =
-    let small = placed-small c.args.by.now.round.now.n c.args.by.now.width (length c.args.nodes.now) c.args.layer c.args.by.now.round.now.most (place-clear _ _ _ _ (sym c.in_ok-check_place.ensures)) in
-    omega arith
-
-pub overflow_add-at : goal.overflow_add-at
-overflow_add-at g c =
-    let small = placed-small c.args.by.now.round.now.n c.args.by.now.width (length c.args.nodes.now) c.args.layer c.args.by.now.round.now.most (place-clear _ _ _ _ (sym c.in_ok-check_place.ensures)) in
-    omega arith
-
-pub count_in-count-requires : goal.count_in-count-requires
-count_in-count-requires g c =
-    let fits = placed-fits c.args.by.now.round.now.n c.args.by.now.width (length c.args.nodes.now) c.args.layer (place-clear _ _ _ _ (sym c.in_ok-check_place.ensures)) in
-    omega arith
-
-pub returns-in_err-check_node : goal.returns-in_err-check_node
-returns-in_err-check_node g c =
-    let p = err_from_is_err_and c.from_residual-in_err-check_node.result c.from_residual-in_err-check_node.ensures.1 in
-    rw (p.1, p.2) (sym (join_one (lent_setting c.args.by.now (g.R.Rule.sense c.args.by.now.rule.now) (g.T.Tally.sense c.args.by.now.tally.now)) c.args.layer c.args.a c.args.b c.args.nodes.now _
-    (sym c.in_ok-check_place.ensures) (ap (λ m. node_check m c.args.a) (sym c.count_in-count.ensures) ∙ sym c.in_err-check_node.ensures)))
-
-pub returns-in_err-check_node-2 : goal.returns-in_err-check_node-2
-returns-in_err-check_node-2 g c =
-    let p = err_from_is_err_and c.from_residual-in_err-check_node-2.result c.from_residual-in_err-check_node-2.ensures.1 in
-    rw (p.1, p.2) (sym (join-other (lent_setting c.args.by.now (g.R.Rule.sense c.args.by.now.rule.now) (g.T.Tally.sense c.args.by.now.tally.now)) c.args.layer c.args.a c.args.b c.args.nodes.now _
-    (sym c.in_ok-check_place.ensures) (ap (λ m. node_check m c.args.a) (sym c.count_in-count.ensures) ∙ sym c.in_ok-check_node.ensures)
-    (ap (λ m. node_check m c.args.b) (sym c.count_in-count.ensures) ∙ sym c.in_err-check_node-2.ensures)))
-
-pub check_pair-requires : goal.check_pair-requires
-check_pair-requires g c =
-    let w = c.args.by.now.width in
-    let at = (c.args.layer - 1) * w + w in
-    let m = c.count_in-count.result in
-    let a = node-clear m c.args.a (sym c.in_ok-check_node.ensures) in
-    let b = node-clear m c.args.b (sym c.in_ok-check_node-2.ensures) in
-    let fits = placed-fits c.args.by.now.round.now.n w (length c.args.nodes.now) c.args.layer (place-clear _ _ _ _ (sym c.in_ok-check_place.ensures)) in
-    let top : max c.args.a c.args.b ≤ m = max-le a.1 b.1 in
-    record {
-      one_le_a = a.0;
-      one_le_b = b.0;
-      b_in_bounds = omega (arith, c.count_in-count.ensures, count_most at w c.args.nodes.now);
-    }
-
 pub returns : goal.returns
+unfolding join_check
 returns g c =
-    let a : node_check _ c.args.a ≡ Ok tt = ap (λ m. node_check m c.args.a) (sym c.count_in-count.ensures) ∙ sym c.in_ok-check_node.ensures in
-    let b : node_check _ c.args.b ≡ Ok tt = ap (λ m. node_check m c.args.b) (sym c.count_in-count.ensures) ∙ sym c.in_ok-check_node-2.ensures in
-    sym (join-pair (lent_setting c.args.by.now (g.R.Rule.sense c.args.by.now.rule.now) (g.T.Tally.sense c.args.by.now.tally.now)) c.args.layer c.args.a c.args.b c.args.nodes.now _ (sym c.in_ok-check_place.ensures) a b (sym (c.check_pair.ensures _)))
+    let by = lent_setting c.args.by.now (g.R.Rule.sense c.args.by.now.rule.now) (g.T.Tally.sense c.args.by.now.tally.now) in
+    let at = (c.args.layer - 1) * by.width + by.width in
+    let m = node_count at by.width c.args.nodes.now in
+    let a : node_check m c.args.a ≡ Ok tt = ap (λ m. node_check m c.args.a) (sym c.count_in-count.ensures) ∙ c.in_ok-check_node.ensures.clear in
+    let b : node_check m c.args.b ≡ Ok tt = ap (λ m. node_check m c.args.b) (sym c.count_in-count.ensures) ∙ c.in_ok-check_node-2.ensures.clear in
+    join-found by c.args.layer c.args.a c.args.b c.args.nodes.now c.check_pair.result (rw (c.in_ok-check_place.ensures.clear, a, b) (c.check_pair.ensures (blank_node by.rule by.tally)))

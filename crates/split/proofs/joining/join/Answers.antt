@@ -1,59 +1,19 @@
-use Rattle.std.proofs.Common.{◌≡◌, ℕ, ◌+◌, ◌-◌, ◌*◌, min, max, length, Ok, Err, sym, ◌∙◌, ap₂, arith}
+use Rattle.std.proofs.Common.{◌≡◌, ℕ, ◌+◌, ◌-◌, ◌*◌, min, max, length, Ok, Err, sym, refl, ◌∙◌, ap₂, arith}
 use Rattle.layers.specs.Settings.{lent_setting}
 use Rattle.std.proofs.lemmas.Result.{err_from_is_err_and}
-use Rattle.split.specs.Steps.{joined_one}
-use Rattle.split.proofs.Asking.{join-clear}
-use Rattle.split.proofs.Checks.{placed-fits, placed-small}
-use Rattle.split.proofs.Doing.{join-refused, join-done}
+use Rattle.split.specs.Steps.{joined_one, join_steps}
+use Rattle.split.proofs.Doing.{join-done}
 use Rattle.split.proofs.JoinWords.{join-said}
 use Rattle.split.proofs.Stands.{count_most}
 use Rattle.split.proofs.joining.join.Goals as goal
 
-pub returns-in_err-check_join : goal.returns-in_err-check_join
-returns-in_err-check_join g c =
+pub returns-in_err-check_join-clause-words : goal.returns-in_err-check_join-clause-words
+unfolding join_steps
+returns-in_err-check_join-clause-words g c =
     let by = lent_setting c.args.by.now (g.R.Rule.sense c.args.by.now.rule.now) (g.T.Tally.sense c.args.by.now.tally.now) in
     let p = err_from_is_err_and c.from_residual.result c.from_residual.ensures.1 in
     let no = c.in_err-check_join.ensures in
-    let left = join-refused by c.args.layer c.args.nodes.now c.args.a c.args.b _ (sym no) in
-    rw (p.1, p.2) (record {
-      answer = no;
-      steps = left;
-      words = join-said by c.args.layer c.args.a c.args.b c.args.nodes.now c.args.nodes.now (Err c.in_err-check_join.field-0.0) no left;
-    })
-
-pub overflow_sub-at : goal.overflow_sub-at
-overflow_sub-at g c =
-    let may = join-clear (lent_setting c.args.by.now (g.R.Rule.sense c.args.by.now.rule.now) (g.T.Tally.sense c.args.by.now.tally.now)) c.args.layer c.args.a c.args.b c.args.nodes.now (sym c.in_ok-check_join.ensures) in
-    may.placed.low
-
-pub overflow_mul-at : goal.overflow_mul-at
-overflow_mul-at g c =
-    let may = join-clear (lent_setting c.args.by.now (g.R.Rule.sense c.args.by.now.rule.now) (g.T.Tally.sense c.args.by.now.tally.now)) c.args.layer c.args.a c.args.b c.args.nodes.now (sym c.in_ok-check_join.ensures) in
-    let small = placed-small c.args.by.now.round.now.n c.args.by.now.width (length c.args.nodes.now) c.args.layer c.args.by.now.round.now.most may.placed in
-    omega arith
-
-pub overflow_cast-min : goal.overflow_cast-min
-overflow_cast-min g c =
-    let may = join-clear (lent_setting c.args.by.now (g.R.Rule.sense c.args.by.now.rule.now) (g.T.Tally.sense c.args.by.now.tally.now)) c.args.layer c.args.a c.args.b c.args.nodes.now (sym c.in_ok-check_join.ensures) in
-    let most = count_most ((c.args.layer - 1) * c.args.by.now.width + c.args.by.now.width) c.args.by.now.width c.args.nodes.now in
-    omega (arith, may.apart, may.high, may.placed.few)
-
-pub overflow_cast-max : goal.overflow_cast-max
-overflow_cast-max g c =
-    let may = join-clear (lent_setting c.args.by.now (g.R.Rule.sense c.args.by.now.rule.now) (g.T.Tally.sense c.args.by.now.tally.now)) c.args.layer c.args.a c.args.b c.args.nodes.now (sym c.in_ok-check_join.ensures) in
-    let most = count_most ((c.args.layer - 1) * c.args.by.now.width + c.args.by.now.width) c.args.by.now.width c.args.nodes.now in
-    omega (arith, may.high, may.placed.few)
-
-pub join_nodes-requires : goal.join_nodes-requires
-join_nodes-requires g c =
-    let may = join-clear (lent_setting c.args.by.now (g.R.Rule.sense c.args.by.now.rule.now) (g.T.Tally.sense c.args.by.now.tally.now)) c.args.layer c.args.a c.args.b c.args.nodes.now (sym c.in_ok-check_join.ensures) in
-    let most = count_most ((c.args.layer - 1) * c.args.by.now.width + c.args.by.now.width) c.args.by.now.width c.args.nodes.now in
-    record {
-      two_in_bounds = placed-fits c.args.by.now.round.now.n c.args.by.now.width (length c.args.nodes.now) c.args.layer may.placed;
-      one_le_lo = omega (arith, may.low);
-      lo_lt_hi = omega (arith, may.apart);
-      hi_le_width = omega (arith, may.high);
-    }
+    rw (p.1, p.2) (join-said by c.args.layer c.args.a c.args.b c.args.nodes.now c.args.nodes.now (Err c.in_err-check_join.field-0.0) (sym no) (rw no refl))
 
 pub returns : goal.returns
 returns g c =
@@ -64,8 +24,8 @@ returns g c =
     let xs = c.args.nodes.now in
     let at = (i - 1) * by.width in
     let ys = c.join_nodes.new.nodes in
-    let clear = c.in_ok-check_join.ensures in
+    let may = c.in_ok-check_join.ensures in
     let long : length ys ≡ length xs = omega arith in
     let made : ys ≡ joined_one by at (min a b - 1) (max a b - 1) xs = c.join_nodes.ensures ∙ ap₂ (λ (lo hi : ℕ). joined_one by at (lo - 1) (hi - 1) xs) c.min.ensures c.max.ensures in
-    let steps = join-done by i xs a b ys c.relabel.new.nodes (join-clear by i a b xs (sym clear)).placed (sym clear) long made c.relabel.ensures.passes in
-    record { answer = clear; steps = steps; words = join-said by i a b xs c.relabel.new.nodes (Ok tt) clear steps }
+    let steps = join-done by i xs a b ys c.relabel.new.nodes may.placed may.clear long made c.relabel.ensures.passes in
+    record { answer = sym may.clear; steps = steps; words = join-said by i a b xs c.relabel.new.nodes (Ok tt) (sym may.clear) steps }

@@ -1,56 +1,18 @@
-use Rattle.std.proofs.Common.{◌≡◌, ◌+◌, ◌-◌, ◌*◌, ◌<◌, ◌≤◌, length, Ok, Err, sym, ap, ◌∙◌, arith}
+use Rattle.std.proofs.Common.{◌≡◌, ◌+◌, ◌-◌, ◌*◌, ◌<◌, ◌≤◌, length, Ok, Err, sym, refl, ap, ◌∙◌, arith}
 use Rattle.layers.specs.Settings.{lent_setting}
 use Rattle.std.proofs.lemmas.Result.{err_from_is_err_and}
-use Rattle.split.specs.Steps.{node_count, parted_one}
-use Rattle.split.proofs.Checks.{placed-fits, placed-small}
-use Rattle.split.proofs.Doing.{part-refused, part-done}
+use Rattle.split.specs.Steps.{node_count, parted_one, part_steps}
+use Rattle.split.proofs.Doing.{part-done}
 use Rattle.split.proofs.PartWords.{part-said}
 use Rattle.split.proofs.parting.part.Goals as goal
 
-pub returns-in_err-first : goal.returns-in_err-first
-returns-in_err-first g c =
+pub returns-in_err-first-clause-words : goal.returns-in_err-first-clause-words
+unfolding part_steps
+returns-in_err-first-clause-words g c =
     let by = lent_setting c.args.by.now (g.R.Rule.sense c.args.by.now.rule.now) (g.T.Tally.sense c.args.by.now.tally.now) in
     let p = err_from_is_err_and c.from_residual.result c.from_residual.ensures.1 in
     let no = c.in_err-first.ensures in
-    let left = part-refused by c.args.layer c.args.nodes.now c.args.node _ no in
-    rw (p.1, p.2) (record {
-      answer = sym no;
-      steps = left;
-      words = part-said by (g.met.R.Rule.reflexive c.args.by.now.rule.now) c.args.layer c.args.node c.args.nodes.now c.args.nodes.now (Err c.in_err-first.field-0.0) (sym no) left;
-    })
-
-pub overflow_sub-at : goal.overflow_sub-at
-overflow_sub-at g c = c.in_ok-first.ensures.placed.low
-
-pub overflow_mul-at : goal.overflow_mul-at
-overflow_mul-at g c =
-    let small = placed-small c.args.by.now.round.now.n c.args.by.now.width (length c.args.nodes.now) c.args.layer c.args.by.now.round.now.most c.in_ok-first.ensures.placed in
-    omega arith
-
-pub overflow_add-at : goal.overflow_add-at
-overflow_add-at g c =
-    let small = placed-small c.args.by.now.round.now.n c.args.by.now.width (length c.args.nodes.now) c.args.layer c.args.by.now.round.now.most c.in_ok-first.ensures.placed in
-    omega arith
-
-pub count_in-count-requires : goal.count_in-count-requires
-count_in-count-requires g c =
-    let fits = placed-fits c.args.by.now.round.now.n c.args.by.now.width (length c.args.nodes.now) c.args.layer c.in_ok-first.ensures.placed in
-    omega arith
-
-pub part_node-requires : goal.part_node-requires
-part_node-requires g c =
-    let may = c.in_ok-first.ensures in
-    let m = node_count ((c.args.layer - 1) * c.args.by.now.width + c.args.by.now.width) c.args.by.now.width c.args.nodes.now in
-    let count : c.count_in-count.result ≡ m = c.count_in-count.ensures in
-    let high : c.args.node ≤ m = may.high in
-    let room : m < c.args.by.now.width = may.into.room in record {
-      two_in_bounds = placed-fits c.args.by.now.round.now.n c.args.by.now.width (length c.args.nodes.now) c.args.layer may.placed;
-      width_bound = may.placed.few;
-      one_le_a = may.low;
-      a_le_count = omega arith;
-      count_lt_width = omega arith;
-      is_first = may.into.first;
-    }
+    rw (p.1, p.2) (part-said by (g.met.R.Rule.reflexive c.args.by.now.rule.now) c.args.layer c.args.node c.args.nodes.now c.args.nodes.now (Err c.in_err-first.field-0.0) (sym no) (rw no refl))
 
 pub returns : goal.returns
 returns g c =
