@@ -7,7 +7,7 @@ ghost use Rattle.split.specs.Joined.{moved_to, moved_node};
 use layers::node::{Arcs, Node};
 
 /// The number that has taken the place of t: hi became lo, and what came after hi has moved down.
-#[tactic(auto, unfolding(crate::specs::Joined::moved_to, layers::specs::Flow::place_after_join))]
+#[tactic(auto, unfolding(crate::specs::Joined::moved_to, layers::specs::Join::place_after_join))]
 fn moved_to(lo: u8, hi: u8, t: u8) -> u8
     requires one_le_lo { 1 ≤ lo }
     requires lo_lt_hi { lo < hi }
