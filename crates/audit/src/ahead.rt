@@ -1,41 +1,55 @@
-//! Which doors come after which, in at least one of some lists of doors.
-use doors::{DoorSet, contains, with};
+//! Which doors stand ahead of which.
+use doors::{DoorSet, with};
 
-/// The doors that come after each door, by its number.
-#[derive(Clone, Copy)]
+/// For each door, by number, the doors that it stands ahead of.
+#[derive(Clone, Copy, PartialEq)]
 pub(crate) struct Ahead {
-    after: [DoorSet; 32],
+    behind: [DoorSet; 17],
 }
 
 impl Ahead {
     pub(crate) fn none() -> Ahead {
-        Ahead { after: [0; 32] }
+        Ahead { behind: [0; 17] }
     }
 
-    /// With one more list.
-    pub(crate) fn add(&mut self, doors: &[usize]) {
+    /// Each of n doors ahead of each other one.
+    pub(crate) fn all(n: usize) -> Ahead {
+        let mut ahead = Ahead::none();
+        for i in 1..=n {
+            for j in 1..=n {
+                if i != j {
+                    ahead.add(i, j);
+                }
+            }
+        }
+        ahead
+    }
+
+    /// As the doors of the list stand.
+    pub(crate) fn of(doors: &[usize]) -> Ahead {
+        let mut ahead = Ahead::none();
         let mut later = 0;
         for j in doors.iter().rev() {
-            self.put(*j, later);
+            if let Some(behind) = ahead.behind.get_mut(*j) {
+                *behind = later;
+            }
             later = with(later, *j);
         }
+        ahead
     }
 
-    fn put(&mut self, j: usize, later: DoorSet) {
-        if j < 32 {
-            self.after[j] |= later;
+    /// Door i ahead of door j too.
+    pub(crate) fn add(&mut self, i: usize, j: usize) {
+        if let Some(behind) = self.behind.get_mut(i) {
+            *behind = with(*behind, j);
         }
     }
 
-    /// With door j after door i.
-    pub(crate) fn add_one(&mut self, i: usize, j: usize) {
-        if i < 32 {
-            self.after[i] = with(self.after[i], j);
+    /// What both say.
+    pub(crate) fn both(mut self, other: Ahead) -> Ahead {
+        for (behind, others) in self.behind.iter_mut().zip(other.behind.iter()) {
+            *behind &= *others;
         }
-    }
-
-    /// Whether a list has door i at an earlier place than door j.
-    pub(crate) fn has(&self, i: usize, j: usize) -> bool {
-        i < 32 && contains(self.after[i], j)
+        self
     }
 }

@@ -1,116 +1,134 @@
-//! How often what happened.
-use crate::case::{Answer, Call};
+//! How often what happened, over all rounds.
+use layers::call::{Answer, Call};
+use layers::refined::Refined;
+use layers::refusal::Refusal;
+use std::fmt;
 
-/// What sort of call it was.
-#[derive(Clone, Copy)]
-pub(crate) enum Sort {
-    Cut,
-    Join,
-    Other,
-}
-
-pub(crate) fn sort_of<V: Copy>(call: Call<V>) -> Sort {
-    match call {
-        Call::Cut(_) => Sort::Cut,
-        Call::Join(_, _, _) => Sort::Join,
-        _ => Sort::Other,
-    }
-}
-
-#[derive(Clone, Copy)]
+/// What is counted; the lines at the end, below, say what each count is.
+#[derive(Clone, Copy, Default)]
 pub(crate) struct Counts {
-    pub(crate) calls: usize,
+    pub(crate) rounds: usize,
+    /// by the number of doors
+    pub(crate) doors: [usize; 7],
+    pub(crate) ring: usize,
+    pub(crate) pairs: usize,
+    pub(crate) tight: usize,
+    pub(crate) loose: usize,
+    pub(crate) load: usize,
+    pub(crate) equal: usize,
+    pub(crate) none: usize,
+    pub(crate) one: usize,
+    pub(crate) many: usize,
+    pub(crate) between: usize,
+    pub(crate) telling: usize,
     pub(crate) sweeps: usize,
     pub(crate) cuts: usize,
+    pub(crate) repeated: usize,
+    pub(crate) equalled: usize,
     pub(crate) parted: usize,
     pub(crate) joined: usize,
     pub(crate) whole: usize,
     pub(crate) full: usize,
+    /// by number: those to open, of a must and on a short list too
+    pub(crate) refusals: [usize; 32],
+    pub(crate) calls: usize,
     pub(crate) refused: usize,
-    /// calls that are the call before once more
-    pub(crate) repeated: usize,
-    /// cuts whose ceiling is the cost of an allowed order
-    pub(crate) equalled: usize,
-    /// all refusals by their number, those to open, to answer must, and of a short list too
-    pub(crate) numbers: [usize; 32],
+    pub(crate) allowed: usize,
+    pub(crate) settled: usize,
+    pub(crate) faults: usize,
 }
 
-pub(crate) fn more(count: usize, yes: bool) -> usize {
-    if yes { count.saturating_add(1) } else { count }
+/// Counts one more if it is so.
+pub(crate) fn note(count: &mut usize, is_so: bool) {
+    *count = count.saturating_add(usize::from(is_so));
 }
 
 impl Counts {
-    pub(crate) fn none() -> Counts {
-        Counts {
-            calls: 0,
-            sweeps: 0,
-            cuts: 0,
-            parted: 0,
-            joined: 0,
-            whole: 0,
-            full: 0,
-            refused: 0,
-            repeated: 0,
-            equalled: 0,
-            numbers: [0; 32],
+    pub(crate) fn refuse(&mut self, refusal: Refusal) {
+        if let Some(count) = self.refusals.get_mut(usize::from(refusal.number())) {
+            note(count, true);
         }
     }
 
-    /// One more refusal, if there is one: 10 or above, since must answers 0 or 1.
-    pub(crate) fn refuse(&mut self, number: u8) {
-        let k = usize::from(number);
-        if 10 <= k && k < 32 {
-            self.numbers[k] = self.numbers[k].saturating_add(1);
-        }
-    }
-
-    fn take_out(&mut self, sort: Sort, gone: bool) {
-        match sort {
-            Sort::Cut => self.cuts = more(self.cuts, gone),
-            _ => self.sweeps = more(self.sweeps, gone),
-        }
-    }
-
-    fn do_it(&mut self, sort: Sort) {
-        match sort {
-            Sort::Join => self.joined = more(self.joined, true),
-            _ => self.parted = more(self.parted, true),
-        }
-    }
-
-    /// One more call. A sweep or a cut counts if it took out an arc.
-    pub(crate) fn note(&mut self, sort: Sort, answer: Answer) {
-        self.calls = self.calls.saturating_add(1);
-        match answer {
-            Answer::Gone(gone) => self.take_out(sort, gone > 0),
-            Answer::Done => self.do_it(sort),
-            Answer::Refused(number) => {
-                self.refused = self.refused.saturating_add(1);
-                self.refuse(number);
+    /// One more call, with its answer.
+    pub(crate) fn note_call<V: Copy>(&mut self, call: Call<V>, answer: Answer) {
+        note(&mut self.calls, true);
+        match (answer, call) {
+            (Answer::Removed(arcs), Call::Cut { .. }) => note(&mut self.cuts, arcs > 0),
+            (Answer::Removed(arcs), _) => note(&mut self.sweeps, arcs > 0),
+            (Answer::Done(Ok(())), Call::Join { .. }) => note(&mut self.joined, true),
+            (Answer::Done(Ok(())), _) => note(&mut self.parted, true),
+            (Answer::Refined(Refined::Whole), _) => note(&mut self.whole, true),
+            (Answer::Refined(Refined::Full(_)), _) => note(&mut self.full, true),
+            (Answer::Done(Err(refusal)), _) => {
+                note(&mut self.refused, true);
+                self.refuse(refusal);
             }
-            Answer::Whole => self.whole = more(self.whole, true),
-            Answer::Full(_) => self.full = more(self.full, true),
         }
     }
+}
 
-    fn add_numbers(&mut self, more: &Counts) {
-        for k in 0..32 {
-            self.numbers[k] = self.numbers[k].saturating_add(more.numbers[k]);
-        }
+/// A count, with what stands ahead of it and after it.
+type Row = (&'static str, usize, char);
+
+fn write_rows<W: fmt::Write>(f: &mut fmt::Formatter<W>, rows: &[Row]) -> fmt::Result {
+    for (label, count, end) in rows {
+        write!(f, "{label}\t{count}{end}")?;
+    }
+    Ok(())
+}
+
+impl Counts {
+    fn kind_rows(&self) -> [Row; 11] {
+        [
+            ("pairs that close a ring", self.ring, '\t'),
+            ("pairs that rule out an order", self.pairs, '\n'),
+            ("hours that rule out an order", self.tight, '\t'),
+            ("loose hours", self.loose, '\n'),
+            ("a load that rules out an order", self.load, '\t'),
+            ("two orders of the least cost", self.equal, '\n'),
+            ("rounds with no allowed order", self.none, '\t'),
+            ("with one", self.one, '\t'),
+            ("with more", self.many, '\n'),
+            ("some ruled out by a ceiling", self.between, '\t'),
+            ("settled with more than one wanted", self.telling, '\n'),
+        ]
     }
 
-    /// With those of another round.
-    pub(crate) fn add(&mut self, more: &Counts) {
-        self.calls = self.calls.saturating_add(more.calls);
-        self.sweeps = self.sweeps.saturating_add(more.sweeps);
-        self.cuts = self.cuts.saturating_add(more.cuts);
-        self.parted = self.parted.saturating_add(more.parted);
-        self.joined = self.joined.saturating_add(more.joined);
-        self.whole = self.whole.saturating_add(more.whole);
-        self.full = self.full.saturating_add(more.full);
-        self.refused = self.refused.saturating_add(more.refused);
-        self.repeated = self.repeated.saturating_add(more.repeated);
-        self.equalled = self.equalled.saturating_add(more.equalled);
-        self.add_numbers(more);
+    fn call_rows(&self) -> [Row; 8] {
+        [
+            ("sweeps that took out arcs", self.sweeps, '\t'),
+            ("cuts that did", self.cuts, '\n'),
+            ("the call before again", self.repeated, '\t'),
+            ("cuts at the cost of an order", self.equalled, '\n'),
+            ("parted", self.parted, '\t'),
+            ("joined", self.joined, '\t'),
+            ("refined whole", self.whole, '\t'),
+            ("refined full", self.full, '\n'),
+        ]
+    }
+}
+
+impl fmt::Display for Counts {
+    fn fmt<W: fmt::Write>(&self, f: &mut fmt::Formatter<W>) -> fmt::Result {
+        for (n, rounds) in self.doors.iter().enumerate().skip(1) {
+            write!(f, "rounds of {n} doors\t{rounds}\n")?;
+        }
+        write_rows(f, &self.kind_rows())?;
+        write_rows(f, &self.call_rows())?;
+        for (number, count) in self.refusals.iter().enumerate() {
+            if *count > 0 {
+                write!(f, "refusal\t{number}\t{count}\n")?;
+            }
+        }
+        let sums = [
+            ("rounds", self.rounds, '\t'),
+            ("calls", self.calls, '\t'),
+            ("refused", self.refused, '\t'),
+            ("allowed", self.allowed, '\t'),
+            ("settled", self.settled, '\t'),
+            ("faults", self.faults, '\n'),
+        ];
+        write_rows(f, &sums)
     }
 }

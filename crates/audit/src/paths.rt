@@ -2,16 +2,15 @@
 use crate::ahead::Ahead;
 use crate::case::Case;
 use crate::fault::Fault;
-use crate::walk::{advance, first_gap};
-use layers::node::Node;
+use layers::node::Arcs;
 use lister::list::cost_if_allowed;
 use rules::rule::Rule;
 use tallies::tally::Tally;
 
 /// How many lists are looked at, at most: more than 6 doors have.
-pub(crate) const MOST: usize = 100_000;
+const MOST: usize = 100_000;
 
-/// What was met: how many paths, the least of their costs, and which doors come after which.
+/// What was met: how many paths, the least of their costs, and which doors stand ahead of which in all of them.
 #[derive(Clone, Copy)]
 pub(crate) struct Paths<V> {
     pub(crate) count: usize,
@@ -19,58 +18,73 @@ pub(crate) struct Paths<V> {
     pub(crate) ahead: Ahead,
 }
 
-fn lesser_of<T: Tally>(tally: &T, least: Option<T::Value>, cost: T::Value) -> Option<T::Value> {
-    match least {
-        Some(other) => Some(tally.lesser(other, cost)),
-        None => Some(cost),
+/// The node of the next layer, counted from 0, to which the arc by a door leads from a place.
+fn target(arcs: &[Arcs], place: usize, door: usize) -> Option<usize> {
+    let to = arcs.get(place)?.to.get(door.checked_sub(1)?)?;
+    usize::from(*to).checked_sub(1)
+}
+
+/// The first place of the list whose door has no arc, walking from the first node; none if the list is a path.
+pub(crate) fn first_gap(arcs: &[Arcs], width: usize, doors: &[usize]) -> Option<usize> {
+    let mut node = 0;
+    for (layer, door) in doors.iter().enumerate() {
+        let place = layer.saturating_mul(width).saturating_add(node);
+        let Some(next) = target(arcs, place, *door) else {
+            return Some(layer);
+        };
+        node = next;
     }
+    None
 }
 
-/// One more path.
-fn meet<R: Rule, T: Tally>(
-    case: &Case<'_, R, T, T::Value>,
-    doors: &[usize],
-    paths: &mut Paths<T::Value>,
-) -> Result<(), Fault> {
-    let Some(cost) = cost_if_allowed(case.round, case.rule, case.tally, doors) else {
-        return Err(Fault::PathNotAllowed);
-    };
-    paths.least = lesser_of(case.tally, paths.least, cost);
-    paths.count = paths.count.saturating_add(1);
-    paths.ahead.add(doors);
-    Ok(())
-}
-
-/// Meets the list if it is a path, and goes on to the next one.
-fn go_on<R: Rule, T: Tally>(
-    case: &Case<'_, R, T, T::Value>,
-    nodes: &[Node<R::State, T::Value>],
-    doors: &mut [usize; 16],
-    paths: &mut Paths<T::Value>,
-) -> Result<bool, Fault> {
-    let n = case.round.n;
-    let gap = first_gap(nodes, case.width, &doors[0..n]);
-    if gap >= n {
-        meet(case, &doors[0..n], paths)?;
-    }
-    Ok(advance(doors, n, gap))
-}
-
-/// All paths, if each is an allowed order.
-pub(crate) fn all_paths<R: Rule, T: Tally>(
-    case: &Case<'_, R, T, T::Value>,
-    nodes: &[Node<R::State, T::Value>],
-) -> Result<Paths<T::Value>, Fault> {
-    let mut doors = [1; 16];
-    let mut paths = Paths {
-        count: 0,
-        least: None,
-        ahead: Ahead::none(),
-    };
-    for _ in 0..MOST {
-        if !go_on(case, nodes, &mut doors, &mut paths)? {
-            return Ok(paths);
+/// The next list of doors 1 to n in dictionary order, if there is one.
+fn advance(doors: &mut [usize], n: usize) -> bool {
+    for door in doors.iter_mut().rev() {
+        if *door < n {
+            *door += 1;
+            return true;
         }
+        *door = 1;
     }
-    Err(Fault::TooManyPaths)
+    false
+}
+
+impl<'a, R: Rule, T: Tally> Case<'a, R, T, T::Value> {
+    /// With one more path.
+    fn met(&self, paths: Paths<T::Value>, doors: &[usize]) -> Result<Paths<T::Value>, Fault> {
+        let Some(cost) = cost_if_allowed(self.round, self.rule, self.tally, doors) else {
+            return Err(Fault::PathNotAllowed);
+        };
+        let least = match paths.least {
+            Some(other) => self.tally.lesser(other, cost),
+            None => cost,
+        };
+        Ok(Paths {
+            count: paths.count.saturating_add(1),
+            least: Some(least),
+            ahead: paths.ahead.both(Ahead::of(doors)),
+        })
+    }
+
+    /// All paths, if each is an allowed order. Where a list ends at a gap, all that begin like it are passed over.
+    pub(crate) fn all_paths(&self, arcs: &[Arcs]) -> Result<Paths<T::Value>, Fault> {
+        let n = self.round.n;
+        let mut doors = [1; 16];
+        let mut paths = Paths {
+            count: 0,
+            least: None,
+            ahead: Ahead::all(n),
+        };
+        for _ in 0..MOST {
+            let gap = first_gap(arcs, self.width, &doors[..n]);
+            if gap.is_none() {
+                paths = self.met(paths, &doors[..n])?;
+            }
+            let end = gap.map_or(n, |layer| layer.saturating_add(1).min(n));
+            if !advance(&mut doors[..end], n) {
+                return Ok(paths);
+            }
+        }
+        Err(Fault::TooManyPaths)
+    }
 }
