@@ -1,13 +1,10 @@
 -- Checks, one after another
-use Rattle.std.proofs.Common.{◌≡◌, ℕ, ◌+◌, ◌-◌, ◌*◌, ◌<◌, ◌≤◌, Bool, true, false, cond, ◌||◌, ltb, leb, is_err, is_ok, Ok, Err, sym, refl, ◌∙◌, ap₂, mul-le-mul, arith}
+use Rattle.std.proofs.Common.{◌≡◌, ℕ, ◌+◌, ◌-◌, ◌*◌, ◌<◌, ◌≤◌, Bool, true, false, is_ok, Ok, Err, refl, mul-le-mul, arith}
 use Rattle.std.specs.Prelude.{if◌then◌else◌}
 use Rattle.std.proofs.lemmas.Bool.Decides.{nat_tests}
-use Rattle.std.proofs.lemmas.Bool.{ltb-false, leb-false, le-ltb, or_parts, or_from, both_ways}
 use Rattle.layers.specs.Calls.{Outcome}
-use Rattle.layers.specs.declared.refusal.Refusal.{Refusal}
-use Rattle.layers.specs.declared.refusal.Refusal.TheVariants.{Width, Short, NoLayer, NoNode, OneGroup, LayerFull, SameNode, Clash}
 use Rattle.split.specs.Steps.{and_then, place_check, node_check, pair_check}
-use Rattle.split.specs.Asked.{Placed, Numbered}
+use Rattle.split.specs.Asked.{Placed}
 use Rattle.split.proofs.DepthNet.{two-fit}
 
 -- a layer that passes, and the one before it, lie within the list

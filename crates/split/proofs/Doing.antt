@@ -1,9 +1,8 @@
 -- A call that is not refused, and one that is
-use Rattle.std.proofs.Common.{◌≡◌, ℕ, suc, ◌+◌, ◌-◌, ◌*◌, ◌<◌, ◌≤◌, min, max, true, cond, List, length, Ok, Err, refl, ◌∙◌, mul-le-mul, arith}
+use Rattle.std.proofs.Common.{◌≡◌, ℕ, suc, ◌+◌, ◌-◌, ◌*◌, ◌<◌, ◌≤◌, min, max, true, List, length, Ok, refl, ◌∙◌, mul-le-mul, arith}
 use Rattle.std.specs.Prelude.{if◌then◌else◌}
-use Rattle.std.proofs.lemmas.Bool.{cond-true, and_from, le-leb}
+use Rattle.std.proofs.lemmas.Bool.{and_from, le-leb}
 use Rattle.layers.specs.declared.node.Node.{Node}
-use Rattle.layers.specs.declared.refusal.Refusal.{Refusal}
 use Rattle.labels.specs.Passes.{fits, relabelled}
 use Rattle.split.specs.Steps.{node_count, parted_one, part_check, part_steps, join_check, joined_one, join_steps}
 use Rattle.split.specs.Asked.{Placed}

@@ -1,19 +1,18 @@
 -- Joining two nodes of the records comes to joining the nodes of the net.
-use Rattle.std.proofs.Common.{◌≡◌, ℕ, zero, suc, ◌+◌, ◌-◌, ◌*◌, ◌<◌, ◌≤◌, Bool, false, ◌||◌, ◌≢◌, List, [], ◌∷◌, ◌++◌, map, length, get_or, take, drop, set, sym, refl, ap, ◌∙◌, subst, ap₂, ⊎_elim, arith}
-use Rattle.std.proofs.lemmas.List.{take_at, drop_at, drop-drop, map-set, map_push, length-set, length-map, length-append, length_push, length-take-le, length-drop, get_or-drop, get_or_past, get_or-set_same, get_or-set_other}
-use Rattle.std.proofs.lemmas.Bool.{cases_eq}
+use Rattle.std.proofs.Common.{◌≡◌, ℕ, zero, suc, ◌+◌, ◌-◌, ◌*◌, ◌<◌, ◌≤◌, false, ◌||◌, List, [], ◌∷◌, ◌++◌, map, length, get_or, take, drop, set, sym, refl, ap, ◌∙◌, subst, ap₂, arith}
+use Rattle.std.proofs.lemmas.List.{take_at, drop_at, drop-drop, map-set, map_push, length-set, length-map, length_push, length-take-le, length-drop, get_or-drop, get_or_past}
+use Rattle.std.proofs.lemmas.Bool.Decides.{nat_tests}
 use Rattle.layers.specs.declared.node.Arcs.{Arcs}
 use Rattle.layers.specs.declared.node.Node.{Node}
 use Rattle.layers.specs.Net.{table, Outs, Layer, Net, node}
 use Rattle.layers.specs.Join.{either_target, both_out, targets_differ, clash, without_place, place_after_join, joined_arcs}
 use Rattle.layers.specs.Records.{padded_targets, arcs_at}
-use Rattle.layers.proofs.Bridge.{table-long, table-ext}
-use Rattle.layers.proofs.Flows.{table_at}
+use Rattle.layers.proofs.Bridge.{table-ext}
 use Rattle.labels.proofs.Laying.{arcs_of, Arranged, Good}
 use Rattle.layers.specs.Targets.{targets}
 use Rattle.split.specs.Joined.{moved_to, moved_node, joined_node, joined_layer, joined_second}
-use Rattle.labels.proofs.RedirectNet.{table-list, arranged-long, targets-arranged, redirect-arranged}
-use Rattle.split.proofs.DepthNet.{good-drop, two-fit, at-depth, later-stays, long-stays}
+use Rattle.labels.proofs.RedirectNet.{arranged-long, targets-arranged, redirect-arranged}
+use Rattle.split.proofs.DepthNet.{good-drop, two-fit, at-depth, later-stays}
 
 -- ---- two nodes by sixteen doors
 both_at : (x y : Outs) (k : ℕ) → get_or (both_out x y) k 0 ≡ either_target (get_or x k 0) (get_or y k 0)
@@ -42,14 +41,14 @@ unfolding clash
 no-clash-left zero g = refl
 no-clash-left (suc n) g = no-clash-left n (λ k. g (suc k))
 
+differs-none : (s : ℕ) → targets_differ s 0 ≡ false
+differs-none zero = refl
+differs-none (suc s) = refl
+
 no-clash-right : (n : ℕ) (f : ℕ → ℕ) → clash (table n f) (table n (λ k. 0)) ≡ false
 unfolding clash
 no-clash-right zero f = refl
-no-clash-right (suc n) f = here (f 0) (no-clash-right n (λ k. f (suc k)))
-  where
-    here : (s : ℕ) {q : Bool} → q ≡ false → (targets_differ s 0 || q) ≡ false
-    here zero e = e
-    here (suc s) e = e
+no-clash-right (suc n) f = grind (arith, nat_tests, no-clash-right n (λ k. f (suc k)), differs-none (f 0))
 
 clash-table : (n : ℕ) (x y : Outs) → length x ≤ n → clash (table n (λ k. get_or x k 0)) (table n (λ k. get_or y k 0)) ≡ clash x y
 unfolding clash

@@ -1,15 +1,12 @@
 -- Join, on records that have the shape of a diagram, is join as it is defined.
-use Rattle.std.proofs.Common.{◌≡◌, ℕ, suc, ◌+◌, ◌-◌, ◌*◌, ◌<◌, ◌≤◌, min, max, Bool, true, false, cond, ◌||◌, eqb, ltb, leb, List, [], length, get_or, drop, Ok, Err, is_ok, sym, refl, ap, ◌∙◌, subst, ap₂, ⊎_elim, suc-mul, arith}
-use native.Mathlib.Nat.{min-eq_left, min-eq_right, max-eq_left, max-eq_right}
+use Rattle.std.proofs.Common.{◌≡◌, ℕ, suc, ◌+◌, ◌-◌, ◌*◌, ◌<◌, ◌≤◌, min, max, false, List, [], length, get_or, drop, Ok, is_ok, sym, refl, ap, ◌∙◌, subst, ap₂, suc-mul, arith}
 use Rattle.std.proofs.lemmas.Bool.Decides.{nat_tests}
-use Rattle.std.proofs.lemmas.Bool.{ltb-false, leb-false, or_parts, cases_lt, cond_both}
+use Rattle.std.proofs.lemmas.Bool.{cond_both}
 use Rattle.layers.specs.declared.node.Node.{Node}
-use Rattle.layers.specs.declared.refusal.Refusal.{Refusal}
-use Rattle.layers.specs.declared.refusal.Refusal.TheVariants.{NoLayer, NoNode}
 use Rattle.layers.specs.Net.{Net, node}
 use Rattle.layers.specs.Join.{clash, joined_arcs}
 use Rattle.layers.specs.Records.{padded_targets}
-use Rattle.layers.specs.Calls.{Outcome, arcs, layer, records_with, bad_node, join_answer, after_join}
+use Rattle.layers.specs.Calls.{Outcome, arcs, records_with, join_answer, after_join}
 use Rattle.layers.specs.Shape.{IsShaped, IsTimely}
 use Rattle.layers.specs.Targets.{targets}
 use Rattle.layers.proofs.Shaped.{relaid-shaped}
@@ -19,7 +16,7 @@ use Rattle.labels.specs.Passes.{part, blank_node, relabelled}
 use Rattle.labels.proofs.Overs.{get_d_part}
 use Rattle.labels.proofs.RedirectNet.{targets-arranged}
 use Rattle.labels.proofs.Shaped_arranged.{proper-good}
-use Rattle.split.specs.Steps.{node_check, pair_check, and_then, node_count, clash_at, joined_one, join_check, join_steps}
+use Rattle.split.specs.Steps.{node_count, clash_at, joined_one, join_check, join_steps}
 use Rattle.split.specs.Words.{JoinDone}
 use Rattle.split.proofs.Asking.{join-clear}
 use Rattle.split.proofs.Checks.{same_check, passed}

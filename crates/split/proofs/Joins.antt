@@ -1,13 +1,12 @@
 -- Two nodes' arcs, door by door, and the numbers after a join
-use Rattle.std.proofs.Common.{◌≡◌, ℕ, zero, suc, ◌-◌, ◌<◌, ◌≤◌, Bool, cond, not, ◌&&◌, ◌||◌, eqb, ltb, ◌≢◌, List, [], ◌∷◌, ◌++◌, map, length, get_or, take, drop, sym, refl, ap, ◌∙◌, ap₂, arith}
-use lib.Dec.{eqb-suc-suc}
+use Rattle.std.proofs.Common.{◌≡◌, ℕ, zero, suc, Bool, not, ◌&&◌, ◌||◌, eqb, ◌≢◌, List, [], ◌∷◌, ◌++◌, map, length, get_or, take, drop, refl, ap, ap₂, arith}
+use Rattle.std.proofs.lemmas.Bool.Decides.{nat_tests}
 use Rattle.std.specs.List.{range_with_len, list_any, zip}
 use Rattle.std.proofs.lemmas.List.FromFn.{fill_by_all}
-use Rattle.std.proofs.lemmas.Bool.{eq-eqb, ne_eqb, lt-ltb, le-ltb}
 use Rattle.layers.specs.declared.node.Node.{Node}
-use Rattle.layers.specs.Join.{targets_differ, clash, either_target, both_out, place_after_join, without_place}
-use Rattle.layers.specs.Targets.{targets, with_targets, at_door}
-use Rattle.split.specs.Joined.{moved_to, joined_node}
+use Rattle.layers.specs.Join.{targets_differ, clash, either_target, both_out, without_place}
+use Rattle.layers.specs.Targets.{targets, with_targets}
+use Rattle.split.specs.Joined.{joined_node}
 use Rattle.labels.proofs.Redirects.{written}
 
 -- ---- one door
@@ -16,10 +15,9 @@ abbrev pub apartPair : ℕ × ℕ → Bool
 apartPair p = not (eqb p.0 0) && (not (eqb p.1 0) && not (eqb p.0 p.1))
 
 apart-tested : (s t : ℕ) → apartPair (s, t) ≡ targets_differ s t
-apart-tested zero t = ap (λ a. not a && (not (eqb t 0) && not (eqb 0 t))) (eq-eqb 0 0 refl)
-apart-tested (suc s) zero = ap₂ (λ a b. not a && (not b && not a)) (ne_eqb (suc s) 0 (omega arith)) (eq-eqb 0 0 refl)
-apart-tested (suc s) (suc t) =
-    ap₂ (λ a b. not a && (not b && not (eqb (suc s) (suc t)))) (ne_eqb (suc s) 0 (omega arith)) (ne_eqb (suc t) 0 (omega arith)) ∙ ap not (eqb-suc-suc s t)
+apart-tested zero t = grind (arith, nat_tests)
+apart-tested (suc s) zero = grind (arith, nat_tests)
+apart-tested (suc s) (suc t) = grind (arith, nat_tests)
 
 pub pick_some : (s t : ℕ) → s ≢ 0 → s ≡ either_target s t
 pick_some zero t some = absurd (some refl)

@@ -1,5 +1,5 @@
 -- A layer of the records, in use as far as the net's has nodes: what arrives from it, and the layer after it parted.
-use Rattle.std.proofs.Common.{◌≡◌, ℕ, zero, suc, ◌+◌, ◌*◌, ◌<◌, ◌≤◌, Bool, true, false, cond, not, eqb, List, [], ◌∷◌, map, length, get_or, take, drop, Some, None, Option, sym, refl, ap, ◌∙◌, ap₂, suc-mul, zero-mul, arith}
+use Rattle.std.proofs.Common.{◌≡◌, ℕ, zero, suc, ◌+◌, ◌*◌, ◌<◌, ◌≤◌, not, List, [], ◌∷◌, map, length, get_or, take, drop, Some, None, Option, sym, refl, ap, ◌∙◌, suc-mul, zero-mul, arith}
 use Rattle.std.specs.Prelude.{if◌then◌else◌, ◌==◌}
 use Rattle.std.proofs.lemmas.List.{drop-drop, length-map, length-take-le, get_or-map, get_or-take, get_or_default, same_lists}
 use Rattle.round.specs.declared.table.Round.{Round}
@@ -10,7 +10,7 @@ use Rattle.layers.specs.declared.node.Label.{Label}
 use Rattle.layers.specs.Net.{table, Outs, Layer, Net, node}
 use Rattle.layers.specs.Lawful.{IsEven}
 use Rattle.layers.specs.Labels.{all_agree, first_arrival, differs_from_first}
-use Rattle.layers.specs.Records.{is_used, nodes_in, arcs_in, downs_in, padded_targets, arcs_at}
+use Rattle.layers.specs.Records.{nodes_in, arcs_in, downs_in, padded_targets, arcs_at}
 use Rattle.layers.specs.Calls.{parted_arcs, arrivals as arrivalsIn}
 use Rattle.layers.proofs.Bridge.{table-long}
 use Rattle.layers.proofs.Flows.{table_at}

@@ -1,10 +1,9 @@
 -- Parting a layer of records that are laid out is parting the layer of the net.
-use Rattle.std.proofs.Common.{◌≡◌, ℕ, zero, suc, ◌+◌, ◌-◌, ◌*◌, ◌<◌, ◌≤◌, Bool, true, false, cond, ltb, leb, List, [], ◌∷◌, ◌++◌, length, get_or, take, drop, Option, Ok, Err, sym, refl, ap, ◌∙◌, subst, ap₂, arith}
+use Rattle.std.proofs.Common.{◌≡◌, ℕ, zero, suc, ◌+◌, ◌-◌, ◌*◌, ◌<◌, ◌≤◌, Bool, true, false, leb, List, [], ◌∷◌, ◌++◌, length, get_or, take, drop, Option, Ok, sym, refl, ap, ◌∙◌, subst, ap₂, arith}
 use Rattle.std.proofs.lemmas.List.{length-append}
 use Rattle.std.proofs.lemmas.Bool.Decides.{nat_tests}
-use Rattle.std.proofs.lemmas.Bool.{leb-false, le-ltb, lt-leb, or_from, cond-false}
+use Rattle.std.proofs.lemmas.Bool.{leb-false}
 use Rattle.layers.specs.declared.node.Node.{Node}
-use Rattle.layers.specs.declared.refusal.Refusal.TheVariants.{NoLayer}
 use Rattle.layers.specs.Net.{Net, node, width}
 use Rattle.layers.specs.Flow.{arrivals_at}
 use Rattle.layers.specs.Labels.{first_labels, labels_next, all_agree, arrival_over}

@@ -1,20 +1,10 @@
 -- Arrivals looked at one after another
-use Rattle.std.proofs.Common.{◌≡◌, ℕ, ◌+◌, ◌<◌, Bool, true, false, ◌&&◌, List, [], ◌∷◌, length, get_or, take, Some, None, fold, Option, sym, refl, ap, ◌∙◌}
-use Rattle.std.specs.List.{flat_map}
+use Rattle.std.proofs.Common.{◌≡◌, Bool, true, ◌&&◌, List, [], ◌∷◌, Some, None, fold, Option, sym, refl, ap, ◌∙◌}
 use Rattle.std.proofs.Math.Bool.{and_assoc, and-true}
-use Rattle.std.proofs.lemmas.List.{flat_map_more, take_more}
 use Rattle.layers.specs.declared.node.Down.{Down}
 use Rattle.layers.specs.Labels.{agree, agrees_with_all, all_agree, first_arrival}
-use Rattle.labels.proofs.Folds.{folded-append}
 use Rattle.split.specs.Agreed.{met}
 use Rattle.layers.specs.Settings.{Setting}
-
--- a fold over what each record brings, one record on
-pub folded-take-more : {A B X : Type 0} (f : B → A → B) (F : X → List A) (b : B) (xs : List X) (k : ℕ) (d : X) → k < length xs → fold f b (flat_map F (take (k + 1) xs)) ≡ fold f (fold f b (flat_map F (take k xs))) (F (get_or xs k d))
-folded-take-more f F b xs k d lt =
-    ap (λ ys. fold f b (flat_map F ys)) (take_more xs k d lt)
-    ∙ ap (fold f b) (sym (flat_map_more F [] (take k xs) (get_or xs k d)))
-    ∙ folded-append f b (flat_map F (take k xs)) (F (get_or xs k d))
 
 module _ {S V : Type 0} (by : Setting S V) where
   abbrev pub Seen : Type 0

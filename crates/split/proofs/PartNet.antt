@@ -1,8 +1,7 @@
 -- Parting a node of the records comes to parting the node of the net.
-use Rattle.std.proofs.Common.{◌≡◌, ℕ, zero, suc, ◌+◌, ◌-◌, ◌*◌, ◌<◌, ◌≤◌, Bool, cond, not, ◌&&◌, eqb, ◌≢◌, List, [], ◌∷◌, ◌++◌, map, length, get_or, take, drop, set, None, Option, sym, refl, ap, ◌∙◌, subst, ap₂, ⊎_elim, arith}
+use Rattle.std.proofs.Common.{◌≡◌, ℕ, zero, suc, ◌+◌, ◌-◌, ◌*◌, ◌<◌, ◌≤◌, Bool, cond, not, ◌&&◌, eqb, List, [], ◌∷◌, ◌++◌, map, length, get_or, take, drop, set, None, Option, sym, refl, ap, ◌∙◌, subst, ap₂, arith}
 use lib.Seq.{take-set-lt}
-use Rattle.std.proofs.lemmas.List.{get_or_append_left, get_or_push, take_at, drop_at, drop-drop, drop-set-lt, map-set, length-set, length-map, length-append, length_push, length-take, length-take-le, length-drop, take-append-drop, get_or-take, get_or-drop, get_or_past, get_or-set_same, get_or-set_other}
-use Rattle.std.proofs.lemmas.Bool.{cases_lt, cases_eq}
+use Rattle.std.proofs.lemmas.List.{take_at, drop_at, drop-drop, drop-set-lt, map-set, length-set, length-map, length-append, length-take, length-take-le, length-drop, get_or-take, get_or-drop}
 use Rattle.layers.specs.declared.node.Arcs.{Arcs}
 use Rattle.layers.specs.declared.node.Node.{Node}
 use Rattle.layers.specs.declared.node.Label.{Label}
@@ -12,12 +11,10 @@ use Rattle.layers.specs.Flow.{arrivals_at}
 use Rattle.layers.specs.Labels.{arrival_over, first_arrival, differs_from_first}
 use Rattle.layers.specs.Records.{padded_targets, arcs_at}
 use Rattle.layers.specs.Calls.{parted_arcs}
-use Rattle.layers.proofs.Bridge.{table-long}
-use Rattle.layers.proofs.Flows.{table_at}
 use Rattle.labels.proofs.Laying.{arcs_of, Arranged, Good}
 use Rattle.layers.specs.Targets.{redirected}
 use Rattle.split.specs.Parted.{parted_to, parted_node, parted_second}
-use Rattle.labels.proofs.RedirectNet.{table-list, arranged-long, arcs-arranged, redirect-arranged}
+use Rattle.labels.proofs.RedirectNet.{arranged-long, arcs-arranged, redirect-arranged}
 use Rattle.split.proofs.DepthNet.{good-drop, two-fit, at-depth, later-stays, long-stays}
 use Rattle.layers.specs.Settings.{Setting}
 

@@ -1,13 +1,12 @@
 -- Part, on records that have the shape of a diagram, is part as it is defined.
-use Rattle.std.proofs.Common.{◌≡◌, ℕ, suc, ◌+◌, ◌-◌, ◌*◌, ◌<◌, ◌≤◌, true, false, ◌||◌, Bool, ltb, leb, List, [], ◌++◌, length, get_or, drop, Ok, is_ok, sym, ap, ◌∙◌, subst, arith}
+use Rattle.std.proofs.Common.{◌≡◌, ℕ, suc, ◌+◌, ◌-◌, ◌*◌, ◌<◌, ◌≤◌, true, false, List, [], ◌++◌, length, get_or, drop, Ok, is_ok, sym, ap, ◌∙◌, subst, arith}
 use Rattle.std.proofs.lemmas.Bool.Decides.{nat_tests}
-use Rattle.std.proofs.lemmas.Bool.{ltb-false, leb-false, or_parts, cond_both}
+use Rattle.std.proofs.lemmas.Bool.{cond_both}
 use Rattle.layers.specs.declared.node.Node.{Node}
-use Rattle.layers.specs.declared.refusal.Refusal.TheVariants.{NoLayer, NoNode}
 use Rattle.layers.specs.Net.{Net}
 use Rattle.layers.specs.Labels.{all_agree}
 use Rattle.layers.specs.Records.{nodes_in, arcs_in, downs_in, labelled_records}
-use Rattle.layers.specs.Calls.{Outcome, arcs, layer, parted_arcs, records_with, one_group, is_full, bad_node, part_answer, parted_records, after_part, arrivals as arrivalsIn}
+use Rattle.layers.specs.Calls.{Outcome, arcs, layer, parted_arcs, records_with, one_group, part_answer, parted_records, after_part, arrivals as arrivalsIn}
 use Rattle.layers.specs.Shape.{IsShaped, IsTimely}
 use Rattle.layers.proofs.Places.{layer-at}
 use Rattle.layers.proofs.Shaped.{relaid-shaped}
@@ -15,7 +14,7 @@ use Rattle.layers.proofs.Timely.{relaid-timely}
 use Rattle.layers.proofs.Proper.{Proper, lawful, proper-parted-at}
 use Rattle.labels.specs.Passes.{part, relabelled}
 use Rattle.labels.proofs.Laying.{Arranged, relabelled-lawful}
-use Rattle.split.specs.Steps.{node_check, group_check, and_then, node_count, alike, parted_one, part_check, part_steps}
+use Rattle.split.specs.Steps.{node_count, alike, parted_one, part_check, part_steps}
 use Rattle.split.specs.Asked.{Placed}
 use Rattle.split.specs.Words.{PartDone}
 use Rattle.split.proofs.Checks.{place-clear, same_check, passed}

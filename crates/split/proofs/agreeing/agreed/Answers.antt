@@ -1,5 +1,5 @@
-use Rattle.std.proofs.Common.{◌≡◌, ℕ, ◌-◌, false, ◌&&◌, length, sym, refl, ap, ◌∙◌, ap₂, add-one, arith}
-use Rattle.std.proofs.lemmas.Bool.{cond-true, cond-false}
+use Rattle.std.proofs.Common.{◌≡◌, ℕ, ◌-◌, ◌&&◌, length, sym, ap, ◌∙◌, ap₂, add-one, arith}
+use Rattle.std.proofs.lemmas.Bool.{cond-true}
 use Rattle.tallies.specs.Tallies.{TallySense}
 use Rattle.layers.specs.Settings.{Setting, setting}
 use Rattle.labels.specs.Passes.{fits}

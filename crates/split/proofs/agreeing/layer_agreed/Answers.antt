@@ -1,10 +1,9 @@
-use Rattle.std.proofs.Common.{◌≡◌, ℕ, ◌+◌, ◌&&◌, sym, refl, ap, ◌∙◌, ap₂, add-one, arith}
+use Rattle.std.proofs.Common.{ℕ, ◌&&◌, sym, refl, ap, ◌∙◌, ap₂, add-one}
 use Rattle.layers.specs.Settings.{lent_setting}
 use Rattle.labels.specs.Passes.{part}
 use Rattle.std.proofs.Math.Bool.{and_comm}
-use Rattle.split.specs.Steps.{node_count, agreed_to}
+use Rattle.split.specs.Steps.{agreed_to}
 use Rattle.split.proofs.Turns.{said}
-use Rattle.split.proofs.Stands.{count_most}
 use Rattle.split.proofs.agreeing.layer_agreed.Goals as goal
 
 pub loop-b-preserved : goal.loop-b-preserved

@@ -1,4 +1,4 @@
-use Rattle.std.proofs.Common.{◌≡◌, ◌+◌, ◌-◌, ◌*◌, ◌<◌, ◌≤◌, length, Ok, Err, sym, refl, ap, ◌∙◌, arith}
+use Rattle.std.proofs.Common.{◌≡◌, ◌+◌, ◌-◌, ◌*◌, length, Ok, Err, sym, refl, ap, ◌∙◌, arith}
 use Rattle.layers.specs.Settings.{lent_setting}
 use Rattle.std.proofs.lemmas.Result.{err_from_is_err_and}
 use Rattle.split.specs.Steps.{node_count, parted_one, part_steps}
