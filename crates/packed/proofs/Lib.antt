@@ -1,4 +1,5 @@
 mod Bytes
+mod Inner
 mod Lists
 mod Long
 mod Musts

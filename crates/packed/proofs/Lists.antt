@@ -1,14 +1,11 @@
 -- Calls one by one, and their answers.
-use Rattle.std.proofs.Common.{◌≡◌, ℕ, zero, suc, ◌+◌, ◌-◌, ◌*◌, ◌/◌, ◌%◌, ◌≤◌, ◌<◌, ◌==◌, if◌then◌else◌, Bool, true, false, List, [], ◌∷◌, ◌++◌, length, Option, Some, None, IsSome, IsNone, refl, ap, ◌∙◌, add-one, arith, length-append, option_map}
+use Rattle.std.proofs.Common.{◌≡◌, ℕ, zero, suc, ◌+◌, ◌-◌, ◌*◌, ◌/◌, ◌%◌, ◌≤◌, ◌<◌, ◌==◌, if◌then◌else◌, Bool, true, false, List, [], ◌∷◌, ◌++◌, length, Option, Some, None, IsSome, IsNone, refl, ap, ◌∙◌, add-one, arith, length-append}
 use Rattle.std.proofs.lemmas.Grind.{common_steps}
-use Rattle.round.specs.declared.table.Round.{Round}
 use Rattle.rules.specs.declared.load.Interval.{Interval}
-use Rattle.rules.specs.Rules.{RuleSense}
-use Rattle.tallies.specs.Tallies.{TallySense}
-use Rattle.layers.specs.Calls.{after_call, after_calls}
-use Rattle.packed.specs.declared.call.Call.{Call as PackedCall}
-use Rattle.packed.specs.Answers.{answer, answers}
-use Rattle.packed.specs.Requests.{Request, request_at, request_of, with_last, first_requests, requests_of}
+use Rattle.layers.specs.Settings.{Setting}
+use Rattle.layers.specs.Calls.{answer_of, after_call, after_calls}
+use Rattle.packed.specs.Answers.{word_of, answers}
+use Rattle.packed.specs.Requests.{Request, request_at, with_last, first_requests, requests_of}
 use Rattle.packed.specs.Senses.{Recs}
 
 pub first-more : (bs : List ℕ) (k : ℕ) → first_requests bs (k + 1) ≡ with_last (first_requests bs k) (request_at bs (k * 16))
@@ -94,37 +91,28 @@ taken bs k there h =
         go true o e = e
         go false o e = refl
 
+pub is-none : (o : Option Request) → IsNone o → o ≡ None
+is-none None h = refl
+is-none (Some c) h = cc
+
 -- bytes that are calls up to a place, and a call there
 pub some-last : (o : Option (List Request)) (c : Option Request) → IsSome o → IsSome c → IsSome (with_last o c)
 some-last None c a b = cc
 some-last (Some cs) None a b = cc
 some-last (Some cs) (Some c) a b = refl
 
-pub none-read : (o : Option PackedCall) → IsNone o → option_map request_of o ≡ None
-none-read None h = refl
-none-read (Some c) h = cc
-
-pub some-read : (o : Option PackedCall) → IsSome o → IsSome (option_map request_of o)
-some-read None h = cc
-some-read (Some c) h = refl
-
--- what is read where a call stands
-pub not-none : (o : Option PackedCall) (q : Request) → option_map request_of o ≡ Some q → ((x : PackedCall) → o ≡ Some x → ⊥) → ⊥
-not-none None q e h = cc
-not-none (Some x) q e h = h x refl
-
-module _ (r : Round) (rule : RuleSense (ℕ × Interval)) (tally : TallySense (ℕ × ℕ)) (W : ℕ) where
-  pub run-more : (cs : List Request) (c : Request) (xs : Recs) → after_calls r rule tally W (cs ++ c ∷ []) xs ≡ after_call r rule tally W c (after_calls r rule tally W cs xs)
+module _ (by : Setting (ℕ × Interval) (ℕ × ℕ)) where
+  pub run-more : (cs : List Request) (c : Request) (xs : Recs) → after_calls by (cs ++ c ∷ []) xs ≡ after_call by c (after_calls by cs xs)
   run-more [] c xs = refl
-  run-more (b ∷ cs) c xs = run-more cs c (after_call r rule tally W b xs)
+  run-more (b ∷ cs) c xs = run-more cs c (after_call by b xs)
 
   pub answers-more : (cs : List Request) (c : Request) (xs : Recs)
-      → answers r rule tally W (cs ++ c ∷ []) xs ≡ answers r rule tally W cs xs ++ answer r rule tally W c (after_calls r rule tally W cs xs) ∷ []
+      → answers by (cs ++ c ∷ []) xs ≡ answers by cs xs ++ word_of (answer_of by c (after_calls by cs xs)) ∷ []
   unfolding answers
   answers-more [] c xs = refl
-  answers-more (b ∷ cs) c xs = ap (λ ws. answer r rule tally W b xs ∷ ws) (answers-more cs c (after_call r rule tally W b xs))
+  answers-more (b ∷ cs) c xs = ap (λ ws. word_of (answer_of by b xs) ∷ ws) (answers-more cs c (after_call by b xs))
 
-  pub length-answers : (cs : List Request) (xs : Recs) → length (answers r rule tally W cs xs) ≡ length cs
+  pub length-answers : (cs : List Request) (xs : Recs) → length (answers by cs xs) ≡ length cs
   unfolding answers
   length-answers [] xs = refl
-  length-answers (c ∷ cs) xs = grind (arith, length-answers cs (after_call r rule tally W c xs))
+  length-answers (c ∷ cs) xs = grind (arith, length-answers cs (after_call by c xs))

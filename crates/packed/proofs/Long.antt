@@ -8,8 +8,7 @@ use Rattle.layers.specs.Calls.{bound, after_calls, is_settled}
 use Rattle.packed.specs.declared.refusal.Refusal.TheVariants.{Short}
 use Rattle.packed.specs.Answers.{answers}
 use Rattle.packed.specs.Requests.{Request, first_requests, requests_of, requests_in}
-use Rattle.allowed.specs.Senses.{side_of, late_of}
-use Rattle.packed.specs.Senses.{Recs}
+use Rattle.packed.specs.Senses.{Recs, setting_for}
 use Rattle.packed.specs.Sheets.{behind, must_words, bound_words, first_words, head_words, opened_diagram, sheet_words, sheet_after}
 use Rattle.packed.specs.Words.{count_word}
 use Rattle.packed.proofs.Lists.{length-first, length-answers}
@@ -25,7 +24,7 @@ length-bound_words (Some v) = refl
 pub length-first_words : (r : Round) (W k : ℕ) (xs : Recs) → length (first_words r W k xs) ≡ 6
 unfolding first_words
 length-first_words r W k xs =
-    let h = r.n ∷ k ∷ from_bool (is_settled r (side_of r) (late_of r) W xs) ∷ [] in
+    let h = r.n ∷ k ∷ from_bool (is_settled (setting_for r W) xs) ∷ [] in
     let three : length h ≡ 3 = refl in
     omega (arith, length-append h (bound_words (bound r.n W xs)), length-bound_words (bound r.n W xs), three)
 
@@ -38,9 +37,9 @@ length-sheet_words : (r : Round) (W : ℕ) (cs : List Request) → length (sheet
 unfolding sheet_words
 length-sheet_words r W cs =
     let D = opened_diagram r W in
-    let h = head_words r W (count_word (length cs)) (after_calls r (side_of r) (late_of r) W cs D) in
-    let t = answers r (side_of r) (late_of r) W cs D in
-    omega (arith, length-append h t, length-head_words r W (count_word (length cs)) (after_calls r (side_of r) (late_of r) W cs D), length-answers r (side_of r) (late_of r) W cs D)
+    let h = head_words r W (count_word (length cs)) (after_calls (setting_for r W) cs D) in
+    let t = answers (setting_for r W) cs D in
+    omega (arith, length-append h t, length-head_words r W (count_word (length cs)) (after_calls (setting_for r W) cs D), length-answers (setting_for r W) cs D)
 
 -- the calls are 16 bytes each
 pub length-requests : (bs : List ℕ) (cs : List Request) → requests_of bs ≡ Some cs → (length bs % 16 ≡ 0) × (length cs ≡ length bs / 16)

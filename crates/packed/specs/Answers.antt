@@ -1,12 +1,12 @@
 -- The answers of calls as words.
 use Rattle.std.specs.Prelude.{ℕ, List, [], ◌∷◌, Ok, Err}
-use Rattle.round.specs.declared.table.Round.{Round}
 use Rattle.rules.specs.declared.load.Interval.{Interval}
-use Rattle.rules.specs.Rules.{RuleSense}
-use Rattle.tallies.specs.Tallies.{TallySense}
+use Rattle.layers.specs.declared.call.Answer.{Answer}
+use Rattle.layers.specs.declared.call.Answer.TheVariants.{Removed, Done, Refined as RefineDone}
 use Rattle.layers.specs.declared.refined.Refined.{Refined}
 use Rattle.layers.specs.declared.refined.Refined.TheVariants.{Whole, Full}
-use Rattle.layers.specs.Calls.{Outcome, Sweep, Part, Join, Cut, Refine, sweep_answer, part_answer, join_answer, cut_answer, refinement, after_call}
+use Rattle.layers.specs.Settings.{Setting}
+use Rattle.layers.specs.Calls.{Outcome, answer_of, after_call}
 use Rattle.layers.specs.Refusals.{number_of}
 use Rattle.packed.specs.Requests.{Request}
 use Rattle.packed.specs.Senses.{Recs}
@@ -22,18 +22,14 @@ abbrev pub word_of_refined : Refined → ℕ
 word_of_refined Whole = 0
 word_of_refined (Full i) = i
 
-module _ (r : Round) (rule : RuleSense (ℕ × Interval)) (tally : TallySense (ℕ × ℕ)) (W : ℕ) where
-  -- the answer of a call on the diagram in the records xs
-  unfoldable pub answer : Request → Recs → ℕ
-  unfolding part_answer join_answer refinement
-  answer Sweep xs = count_word (sweep_answer r rule tally W xs)
-  answer (Part i a) xs = word_of_refusal (part_answer r rule tally W i a xs)
-  answer (Join i a b) xs = word_of_refusal (join_answer r rule tally W i a b xs)
-  answer (Cut c) xs = count_word (cut_answer r rule tally W c xs)
-  answer Refine xs = word_of_refined (refinement r rule tally W xs).0
+-- the word of an answer; of a sweep or a cut it is how many arcs it took out
+abbrev pub word_of : Answer → ℕ
+word_of (Removed count) = count_word count
+word_of (Done done) = word_of_refusal done
+word_of (RefineDone refined) = word_of_refined refined
 
-  -- the answers of calls in turn, each on what the earlier ones leave
-  unfoldable pub answers : List Request → Recs → List ℕ
-  unfolding answer after_call
-  answers [] xs = []
-  answers (c ∷ cs) xs = answer c xs ∷ answers cs (after_call r rule tally W c xs)
+-- the words of the answers of calls in turn, each on what the earlier ones leave
+unfoldable pub answers : Setting (ℕ × Interval) (ℕ × ℕ) → List Request → Recs → List ℕ
+unfolding answer_of after_call
+answers by [] xs = []
+answers by (c ∷ cs) xs = word_of (answer_of by c xs) ∷ answers by cs (after_call by c xs)

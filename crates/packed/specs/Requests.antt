@@ -1,8 +1,7 @@
 -- The calls that bytes are: 16 bytes each, one call after the other.
 use Rattle.std.specs.Prelude.{ℕ, zero, suc, ◌+◌, ◌*◌, ◌/◌, ◌%◌, List, [], ◌∷◌, ◌++◌, length, Some, None, Option, ◌==◌, unwrap_or, if◌then◌else◌}
-use Rattle.layers.specs.Calls.{Call, Sweep, Part, Join, Cut, Refine}
-use Rattle.packed.specs.declared.call.Call.{Call as PackedCall}
-use Rattle.packed.specs.declared.call.Call.TheVariants.{Sweep as PackedSweep, Part as PackedPart, Join as PackedJoin, Cut as PackedCut, Refine as PackedRefine}
+use Rattle.layers.specs.declared.call.Call.{Call}
+use Rattle.layers.specs.declared.call.Call.TheVariants.{Sweep, Part, Join, Cut, Refine}
 use Rattle.packed.specs.Words.{word_at}
 
 -- a call on a diagram; a ceiling is late doors and late minutes
@@ -41,11 +40,3 @@ requests_of bs = if length bs % 16 == 0 then first_requests bs (length bs / 16) 
 -- the same, where they are calls
 abbrev pub requests_in : List ℕ → List Request
 requests_in bs = unwrap_or (requests_of bs) []
-
--- the call that a call of the code is
-abbrev pub request_of : PackedCall → Request
-request_of PackedSweep = Sweep
-request_of (PackedPart layer node) = Part layer node
-request_of (PackedJoin layer a b) = Join layer a b
-request_of (PackedCut doors minutes) = Cut (doors, minutes)
-request_of PackedRefine = Refine

@@ -16,7 +16,7 @@ use Rattle.packed.specs.Answers.{answers}
 use Rattle.packed.specs.Refusals.{number_of}
 use Rattle.packed.specs.Requests.{Request, requests_of}
 use Rattle.allowed.specs.Senses.{side_of, late_of}
-use Rattle.packed.specs.Senses.{Recs}
+use Rattle.packed.specs.Senses.{Recs, setting_for}
 use Rattle.packed.specs.Words.{count_word, begun_with}
 
 -- ---- what a diagram of n doors and width W is asked, in the records xs
@@ -47,7 +47,7 @@ bound_words (Some v) = 1 ∷ v.0 ∷ v.1 ∷ []
 unfoldable pub first_words : Round → ℕ → ℕ → Recs → List ℕ
 unfolding bound is_settled
 first_words r W k xs =
-    (r.n ∷ k ∷ from_bool (is_settled r (side_of r) (late_of r) W xs) ∷ []) ++ bound_words (bound r.n W xs)
+    (r.n ∷ k ∷ from_bool (is_settled (setting_for r W) xs) ∷ []) ++ bound_words (bound r.n W xs)
 
 -- what the diagram is asked after its calls
 unfoldable pub head_words : Round → ℕ → ℕ → Recs → List ℕ
@@ -57,19 +57,19 @@ head_words r W k xs = first_words r W k xs ++ must_words r.n W xs
 -- ---- the sheet of a round
 -- the records on which the diagram is opened: as many as the widest diagram of the most doors has, all blank
 unfoldable pub blank_records : Round → Recs
-blank_records r = replicate 2049 (blank_node r (side_of r) (late_of r))
+blank_records r = replicate 2049 (blank_node (side_of r) (late_of r))
 
 -- the round's diagram at the width W, just opened
 unfoldable pub opened_diagram : Round → ℕ → Recs
 unfolding after_open blank_records
-opened_diagram r W = after_open r (side_of r) (late_of r) W (blank_records r)
+opened_diagram r W = after_open (setting_for r W) (blank_records r)
 
 -- the words of the sheet: what the diagram is asked after the calls, then the answer of each call
 unfoldable pub sheet_words : Round → ℕ → List Request → List ℕ
 unfolding head_words answers opened_diagram
 sheet_words r W cs =
-    head_words r W (count_word (length cs)) (after_calls r (side_of r) (late_of r) W cs (opened_diagram r W))
-    ++ answers r (side_of r) (late_of r) W cs (opened_diagram r W)
+    head_words r W (count_word (length cs)) (after_calls (setting_for r W) cs (opened_diagram r W))
+    ++ answers (setting_for r W) cs (opened_diagram r W)
 
 -- ---- what is refused
 -- the words, if `room` bytes are enough for them

@@ -2,6 +2,7 @@
 ghost use Rattle.std.specs.Prelude.{◌≡◌, ℕ, ◌≤◌, length};
 ghost use Rattle.packed.specs.Sheets.{behind, must_words, first_words, head_words};
 ghost use Rattle.allowed.specs.Senses.{side_of};
+ghost use Rattle.diagram.specs.Words.{room_of, round_of, width_of, records_of};
 ghost use Rattle.packed.specs.Senses.{side_sense};
 ghost use Rattle.packed.specs.Words.{count_word, begun_with};
 
@@ -16,8 +17,8 @@ const MUSTS: usize = 24;
 
 /// The doors that come behind door i in every wanted order, as a set.
 fn behind(diagram: &Diagram<'_, '_, Held, Cost>, i: usize) -> DoorSet
-    ensures { result
-        ≡ behind diagram.now.room.round.now.n diagram.now.room.width diagram.now.nodes.now i }
+    ensures { let n = (round_of diagram.now).n in
+        result ≡ behind n (width_of diagram.now) (records_of diagram.now) i }
 {
     let mut set = 0;
     for j in 1..17 {
@@ -30,8 +31,8 @@ fn behind(diagram: &Diagram<'_, '_, Held, Cost>, i: usize) -> DoorSet
 
 /// For each door, the doors behind it.
 fn musts(diagram: &Diagram<'_, '_, Held, Cost>) -> [DoorSet; 16]
-    ensures { result
-        ≡ must_words diagram.now.room.round.now.n diagram.now.room.width diagram.now.nodes.now }
+    ensures { let n = (round_of diagram.now).n in
+        result ≡ must_words n (width_of diagram.now) (records_of diagram.now) }
 {
     let mut sets = [0; 16];
     for k in 0..16 {
@@ -47,11 +48,11 @@ fn first_words(
     rule: &Side<'_>,
     calls: usize,
 ) -> [u32; 6]
-    requires room { diagram.now.room ≡ room }
+    requires room { room_of diagram.now ≡ room }
     requires rule { side_sense rule.now ≡ side_of room.round.now }
     ensures { result
         ≡ first_words room.entry.round.now room.entry.width (count_word calls)
-        diagram.now.nodes.now }
+        (records_of diagram.now) }
 {
     let n = count_word(room.round.n);
     let calls = count_word(calls);
@@ -70,12 +71,12 @@ pub(crate) fn put_head(
     calls: usize,
     out: &mut [u8],
 )
-    requires room { diagram.now.room ≡ room }
+    requires room { room_of diagram.now ≡ room }
     requires rule { side_sense rule.now ≡ side_of room.round.now }
     requires fits { 88 ≤ length out.old }
     ensures { out.new
         ≡ begun_with (head_words room.entry.round.now room.entry.width (count_word calls)
-        diagram.now.nodes.now) out.old }
+        (records_of diagram.now)) out.old }
 {
     put_words(&mut out[MUSTS..], &musts(diagram));
     put_words(out, &first_words(room, diagram, rule, calls));

@@ -1,6 +1,7 @@
 //! Refining one diagram over and over, for measuring.
 ghost use Rattle.std.specs.Prelude.{◌≡◌, ◌+◌, ◌*◌, ◌≤◌, Ok, length};
-ghost use Rattle.layers.specs.Calls.{after_open, refinement};
+ghost use Rattle.layers.specs.Calls.{after_open, after_refine, refine_answer};
+ghost use Rattle.layers.specs.Settings.{setting};
 ghost use Rattle.packed.specs.Answers.{word_of_refined};
 ghost use Rattle.packed.specs.Often.{turns, often_of};
 ghost use Rattle.packed.specs.Senses.{side_sense, doors_sense};
@@ -19,14 +20,12 @@ use text::reading::read_bounded;
 /// Opens a diagram and refines it, and gives refine's answer as a word.
 fn refine_once(room: Room<'_>, rule: &Side<'_>, tally: &LateDoors<'_>, records: &mut [Place]) -> u32
     requires { room.round.now.n * room.width + 1 ≤ length records.old }
-    ensures answer { result
-        ≡ word_of_refined (refinement room.entry.round.now (side_sense rule.now)
-        (doors_sense tally.now) room.entry.width (after_open room.entry.round.now
-        (side_sense rule.now) (doors_sense tally.now) room.entry.width records.old)).0 }
-    ensures records { records.new
-        ≡ (refinement room.entry.round.now (side_sense rule.now) (doors_sense tally.now)
-        room.entry.width (after_open room.entry.round.now (side_sense rule.now)
-        (doors_sense tally.now) room.entry.width records.old)).1 }
+    ensures answer { let by = setting room.entry.round.now (side_sense rule.now)
+        (doors_sense tally.now) room.entry.width in
+        result ≡ word_of_refined (refine_answer by (after_open by records.old)) }
+    ensures records { let by = setting room.entry.round.now (side_sense rule.now)
+        (doors_sense tally.now) room.entry.width in
+        records.new ≡ after_refine by (after_open by records.old) }
 {
     let mut diagram = Diagram::open(room, rule, tally, records);
     layer_of(diagram.refine(rule, tally))

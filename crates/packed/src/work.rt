@@ -1,17 +1,19 @@
 //! The diagram of a round's pairs, load and late doors, put to work by packed calls.
 ghost use Rattle.std.specs.Prelude.{◌≡◌, ◌*◌, ◌/◌, ◌≤◌, IsSome, length};
-ghost use Rattle.layers.specs.Calls.{after_call, after_calls};
+ghost use Rattle.layers.specs.Calls.{after_call, answer_of, after_calls};
 ghost use Rattle.refine.specs.Answers.{IsInnerIfFull};
-ghost use Rattle.packed.specs.Answers.{word_of_refusal, word_of_refined, answer, answers};
-ghost use Rattle.packed.specs.Requests.{request_of, requests_of, requests_in};
 ghost use Rattle.allowed.specs.Senses.{side_of};
-ghost use Rattle.packed.specs.Senses.{side_sense, doors_sense};
+ghost use Rattle.diagram.specs.Words.{room_of, records_of};
+ghost use Rattle.packed.specs.Answers.{word_of_refusal, word_of_refined, word_of, answers};
+ghost use Rattle.packed.specs.Requests.{requests_of, requests_in};
+ghost use Rattle.packed.specs.Senses.{side_sense, setting_by};
 ghost use Rattle.packed.specs.Words.{begun_with};
 
-use crate::call::{CALL, Call};
+use crate::call::{CALL, call_at};
 use crate::words::{count_word, put_word};
 use diagram::diagram::Diagram;
 use doors::DoorSet;
+use layers::call::{Answer, Call};
 use layers::node::Node;
 use layers::refined::Refined;
 use layers::refusal::Refusal;
@@ -58,31 +60,22 @@ pub(crate) fn layer_of(refined: Refined) -> u32
 }
 
 /// Makes one call, and gives its answer as a word.
-#[tactic(auto, unfolding(layers::specs::Calls::after_call, crate::specs::Answers::answer))]
 fn make(
     diagram: &mut Diagram<'_, '_, Held, Cost>,
     rule: &Side<'_>,
     tally: &LateDoors<'_>,
-    call: Call,
+    call: Call<Cost>,
 ) -> u32
-    ensures room { diagram.new.room ≡ diagram.old.room }
-    ensures records { diagram.new.nodes.now
-        ≡ after_call diagram.old.room.round.now (side_sense rule.now) (doors_sense tally.now)
-        diagram.old.room.width (request_of call) diagram.old.nodes.now }
-    ensures answer { result
-        ≡ answer diagram.old.room.round.now (side_sense rule.now) (doors_sense tally.now)
-        diagram.old.room.width (request_of call) diagram.old.nodes.now }
+    ensures room { room_of diagram.new ≡ room_of diagram.old }
+    ensures records { let by = setting_by diagram.old rule.now tally.now in
+        records_of diagram.new ≡ after_call by call (records_of diagram.old) }
+    ensures answer { let by = setting_by diagram.old rule.now tally.now in
+        result ≡ word_of (answer_of by call (records_of diagram.old)) }
 {
-    match call {
-        Call::Sweep => count_word(diagram.sweep(rule, tally)),
-        Call::Part { layer, node } => {
-            done(diagram.part(rule, tally, layer as usize, node as usize))
-        }
-        Call::Join { layer, a, b } => {
-            done(diagram.join(rule, tally, layer as usize, a as usize, b as usize))
-        }
-        Call::Cut { doors, minutes } => count_word(diagram.cut(rule, tally, (doors, minutes))),
-        Call::Refine => layer_of(diagram.refine(rule, tally)),
+    match diagram.call(rule, tally, call) {
+        Answer::Removed(arcs) => count_word(arcs),
+        Answer::Done(outcome) => done(outcome),
+        Answer::Refined(refined) => layer_of(refined),
     }
 }
 
@@ -96,17 +89,15 @@ pub(crate) fn make_all(
 )
     requires calls { IsSome (requests_of calls.now) }
     requires fits { length calls.now / 4 ≤ length out.old }
-    ensures room { diagram.new.room ≡ diagram.old.room }
-    ensures records { diagram.new.nodes.now
-        ≡ after_calls diagram.old.room.round.now (side_sense rule.now) (doors_sense tally.now)
-        diagram.old.room.width (requests_in calls.now) diagram.old.nodes.now }
-    ensures answers { out.new
-        ≡ begun_with
-        (answers diagram.old.room.round.now (side_sense rule.now) (doors_sense tally.now)
-        diagram.old.room.width (requests_in calls.now) diagram.old.nodes.now) out.old }
+    ensures room { room_of diagram.new ≡ room_of diagram.old }
+    ensures records { let by = setting_by diagram.old rule.now tally.now in
+        records_of diagram.new ≡ after_calls by (requests_in calls.now) (records_of diagram.old) }
+    ensures answers { let by = setting_by diagram.old rule.now tally.now in
+        out.new
+        ≡ begun_with (answers by (requests_in calls.now) (records_of diagram.old)) out.old }
 {
     for k in 0..calls.len() / CALL {
-        if let Some(call) = Call::read(calls, k * CALL) {
+        if let Some(call) = call_at(calls, k * CALL) {
             put_word(out, 4 * k, make(diagram, rule, tally, call));
         }
     }

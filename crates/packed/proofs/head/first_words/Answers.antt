@@ -1,7 +1,8 @@
-use Rattle.std.proofs.Common.{◌≡◌, ℕ, Some, None, Option, arith, ap, ◌∙◌}
+use Rattle.std.proofs.Common.{◌≡◌, ℕ, Some, None, Option, arith, ap, ap₂, ◌∙◌}
+use Rattle.layers.specs.Settings.{setting}
 use Rattle.layers.specs.Calls.{bound, is_settled}
 use Rattle.allowed.specs.Senses.{late_of}
-use Rattle.packed.specs.Senses.{Recs, side_sense}
+use Rattle.packed.specs.Senses.{Recs}
 use Rattle.std.specs.Int.{from_bool}
 use Rattle.packed.specs.Words.{count_word}
 use Rattle.packed.proofs.Parts.{first-words}
@@ -14,7 +15,7 @@ returns-in-Some c =
     let xs : Recs = c.args.diagram.now.nodes.now in
     let most = r.most in
     let small : count_word r.n ≡ r.n = omega arith in
-    let still = ap (λ m. is_settled m.round.now (side_sense c.args.rule.now) (late_of r) m.width xs) c.requires.room ∙ ap (λ Q. is_settled r Q (late_of r) W xs) c.requires.rule in
+    let still = ap₂ (λ m R. is_settled (setting m.round.now R (late_of r) m.width) xs) c.requires.room c.requires.rule in
     let b : Option (ℕ × ℕ) = Some (c.in-Some.doors, c.in-Some.minutes) in
     first-words r W (count_word c.args.calls) xs c.count_word-n.result c.count_word-calls.result c.from-settled.result b
     (c.count_word-n.ensures ∙ small) c.count_word-calls.ensures
@@ -28,7 +29,7 @@ returns-in-None c =
     let xs : Recs = c.args.diagram.now.nodes.now in
     let most = r.most in
     let small : count_word r.n ≡ r.n = omega arith in
-    let still = ap (λ m. is_settled m.round.now (side_sense c.args.rule.now) (late_of r) m.width xs) c.requires.room ∙ ap (λ Q. is_settled r Q (late_of r) W xs) c.requires.rule in
+    let still = ap₂ (λ m R. is_settled (setting m.round.now R (late_of r) m.width) xs) c.requires.room c.requires.rule in
     let b : Option (ℕ × ℕ) = None in
     first-words r W (count_word c.args.calls) xs c.count_word-n.result c.count_word-calls.result c.from-settled.result b
     (c.count_word-n.ensures ∙ small) c.count_word-calls.ensures

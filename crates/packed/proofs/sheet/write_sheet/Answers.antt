@@ -1,11 +1,14 @@
 use Rattle.std.proofs.Common.{◌≡◌, ℕ, ◌*◌, ◌/◌, List, ◌++◌, length, take, replicate, arith, ap, ap₂, ◌∙◌, sym}
 use Rattle.tallies.specs.Late.{late_sense}
 use Rattle.labels.specs.Passes.{blank_node}
+use Rattle.rules.specs.declared.load.Interval.{Interval}
+use Rattle.layers.specs.Settings.{Setting, setting}
 use Rattle.layers.specs.Calls.{after_open, after_calls}
+use Rattle.diagram.specs.Words.{records_of}
 use Rattle.packed.specs.Answers.{answers}
 use Rattle.packed.specs.Requests.{Request, requests_in}
 use Rattle.allowed.specs.Senses.{side_of, late_of}
-use Rattle.packed.specs.Senses.{Recs, side_sense, doors_sense}
+use Rattle.packed.specs.Senses.{Recs, side_sense, doors_sense, setting_for, setting_by}
 use Rattle.packed.specs.Sheets.{head_words, opened_diagram}
 use Rattle.packed.specs.Words.{count_word, begun_with}
 use Rattle.packed.proofs.Bytes.{rest-whole, rest-put, begun-behind}
@@ -21,26 +24,21 @@ returns c =
     let cs : List Request = requests_in c.args.calls.now in
     let out : List ℕ = c.args.out.now in
     let D : Recs = opened_diagram r W in
-    let R = side_sense c.side-rule.result in
-    let T = doors_sense c.of-tally.result in
-    let late : T ≡ late_of r = ap (λ x. late_sense x.now.n x.now.doors) c.of-tally.ensures in
-    let blank : c.blank_node-records.result ≡ blank_node r (side_of r) (late_of r) = c.blank_node-records.ensures r ∙ ap₂ (blank_node r) c.side-rule.ensures late in
+    let late : doors_sense c.of-tally.result ≡ late_of r = ap (λ x. late_sense x.now.n x.now.doors) c.of-tally.ensures in
+    let blank : c.blank_node-records.result ≡ blank_node (side_of r) (late_of r) = c.blank_node-records.ensures ∙ ap₂ blank_node c.side-rule.ensures late in
     let d = c.open-diagram.result in
     let lent : Recs = replicate 2049 c.blank_node-records.result in
-    let opened : d.nodes.now ≡ D = c.open-diagram.ensures.records
-    ∙ ap₂ (λ Q L. after_open r Q L W lent) c.side-rule.ensures late
-    ∙ ap (λ (xs : Recs). after_open r (side_of r) (late_of r) W xs) (blank-records r c.blank_node-records.result blank)
+    let by : Setting (ℕ × Interval) (ℕ × ℕ) = setting_by d c.side-rule.result c.of-tally.result in
+    let is : by ≡ setting_for r W = ap (λ m. setting m.round.now (side_sense c.side-rule.result) (doors_sense c.of-tally.result) m.width) c.open-diagram.ensures.room
+    ∙ ap₂ (λ R T. setting r R T W) c.side-rule.ensures late in
+    let opened : records_of d ≡ D = c.open-diagram.ensures.records
+    ∙ ap₂ (λ by (xs : Recs). after_open by xs) is (blank-records r c.blank_node-records.result blank)
     ∙ opened-diagram r W in
-    let X : Recs = after_calls r (side_of r) (late_of r) W cs D in
+    let X : Recs = after_calls (setting_for r W) cs D in
     let e = c.make_all.ensures in
-    let left : c.make_all.new.diagram.nodes.now ≡ X = e.records
-    ∙ ap (λ m. after_calls m.round.now R T m.width cs d.nodes.now) c.open-diagram.ensures.room
-    ∙ ap₂ (λ Q L. after_calls r Q L W cs d.nodes.now) c.side-rule.ensures late
-    ∙ ap (λ (xs : Recs). after_calls r (side_of r) (late_of r) W cs xs) opened in
-    let A : List ℕ = answers r (side_of r) (late_of r) W cs D in
-    let told = ap (λ m. answers m.round.now R T m.width cs d.nodes.now) c.open-diagram.ensures.room
-    ∙ ap₂ (λ Q L. answers r Q L W cs d.nodes.now) c.side-rule.ensures late
-    ∙ ap (λ (xs : Recs). answers r (side_of r) (late_of r) W cs xs) opened in
+    let left : records_of c.make_all.new.diagram ≡ X = e.records ∙ ap₂ (λ by (xs : Recs). after_calls by cs xs) is opened in
+    let A : List ℕ = answers (setting_for r W) cs D in
+    let told = ap₂ (λ by (xs : Recs). answers by cs xs) is opened in
     let count : length c.args.calls.now / 16 ≡ length cs = sym (length-requests c.args.calls.now cs (some-requests c.args.calls.now c.requires.calls)).1 in
     let H : List ℕ = head_words r W (count_word (length cs)) X in
     let head = ap₂ (λ k (xs : Recs). head_words r W (count_word k) xs) count left in
