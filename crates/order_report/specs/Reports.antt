@@ -12,7 +12,7 @@ use Rattle.order_report.specs.declared.report.Report.{Report}
 pub record Reports (r : Round) (w : List ℕ) (p : Report) : Type 0 where
   pub full : IsFullOrder r w
   pub doors : p.doors.now ≡ w
-  pub finish_minutes : p.finishes.items ≡ finish_minutes r w
+  pub finishes : p.finishes.items ≡ finish_minutes r w
   -- the first fault, or none
   pub verdict : p.verdict ≡ verdict r (side_of r) w
   pub means : VerdictMeans r (KeepsRules r) w p.verdict
