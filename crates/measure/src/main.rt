@@ -8,6 +8,7 @@ use cli::output::refused;
 use labels::blank::blank_node;
 use labels::relabel::relabel;
 use layers::node::{Arcs, Node};
+use layers::setting::Setting;
 use round::table::Round;
 use rules::both::Both;
 use rules::rule::Rule;
@@ -57,14 +58,12 @@ fn sum_with<S: Copy, V: Copy>(sum: u64, nodes: &[Node<S, V>]) -> u64 {
 
 /// The sum over all turns.
 fn relabel_often<R: Rule, T: Tally>(
-    round: &Round,
-    rule: &R,
-    tally: &T,
+    by: &Setting<'_, R, T>,
     nodes: &mut [Node<R::State, T::Value>],
 ) -> u64 {
     let mut sum = 0;
     for turn in 0..TIMES {
-        relabel(round, rule, tally, nodes, 128);
+        relabel(by, nodes);
         sum = sum_with(sum, nodes);
         move_arc(nodes, turn);
     }
@@ -78,7 +77,13 @@ fn measure(rt: &HostRuntime, round: &Round) -> anyhow::Result<()> {
     for (a, node) in nodes.iter_mut().enumerate() {
         node.arcs = arcs_of(a);
     }
-    let sum = relabel_often(round, &rule, &tally, &mut nodes);
+    let by = Setting {
+        round,
+        rule: &rule,
+        tally: &tally,
+        width: 128,
+    };
+    let sum = relabel_often(&by, &mut nodes);
     let last = nodes[2048].label.down.some;
     println!(rt; "relabelled\t{TIMES}\t{last}\t{sum}")?;
     Ok(())
