@@ -12,7 +12,7 @@ use Rattle.seek.proofs.Paths.{Reached, reached-end}
 
 -- ---- members of sets, as tests
 
-has_none : (i : ℕ) → has 0 i ≡ false
+pub has_none : (i : ℕ) → has 0 i ≡ false
 has_none i = grind (arith, nat_tests, bit_at-zero i)
 
 pub has-or : (a b i : ℕ) → has (bit_or a b) i ≡ (has a i || has b i)
