@@ -1,2 +1,3 @@
+pub mod Answers
 pub mod Words
 pub mod Opening
