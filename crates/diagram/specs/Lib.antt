@@ -1,3 +1,4 @@
+pub mod Answers
 pub mod Words
 pub mod Musts
 pub mod Opening
