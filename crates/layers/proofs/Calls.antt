@@ -1,5 +1,5 @@
 -- No call loses an allowed order that no ceiling rules out.
-use Rattle.std.proofs.Common.{◌≡◌, ℕ, zero, suc, ◌<◌, ◌≤◌, Bool, true, false, cond, not, List, [], ◌∷◌, ◌++◌, length, get_or, Some, None, Option, sym, refl, ap, ◌∙◌, subst, append-nil, arith}
+use Rattle.std.proofs.Common.{◌≡◌, ℕ, zero, suc, ◌≤◌, Bool, true, false, cond, not, List, [], ◌∷◌, ◌++◌, length, get_or, Some, None, Option, sym, refl, ap, ◌∙◌, subst, append-nil, arith}
 use Rattle.doors.specs.Orders.{IsDoor, IsPartOrder}
 use Rattle.round.proofs.Clocks.{clock-laws}
 use Rattle.round.specs.Clock.{drive}
@@ -7,7 +7,7 @@ use Rattle.rules.specs.Rules.{RuleLaws}
 use Rattle.tallies.specs.Tallies.{TallyLaws}
 use Rattle.orders.specs.Allowed.{IsAllowed}
 use Rattle.orders.specs.Costs.{Trip, cost, next_trip, trip_after}
-use Rattle.layers.specs.Net.{table, Net, node, target, width, PathFrom}
+use Rattle.layers.specs.Net.{table, Net, target, width, PathFrom}
 use Rattle.layers.specs.Flow.{end_label}
 use Rattle.layers.specs.Labels.{arrival_over, merge, first_labels, labels_next, is_above_ceiling, opening_arcs, all_doors, ups}
 use Rattle.layers.specs.declared.call.Call.{Call}

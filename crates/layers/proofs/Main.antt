@@ -1,6 +1,6 @@
 -- The claim: first on the arcs of the records that a run leaves.
-use Rattle.std.proofs.Common.{◌≡◌, ℕ, ◌≤◌, Bool, true, false, List, [], ◌∷◌, Some, None, Option, sym, ap, ◌∙◌, inl, inr, arith}
-use Rattle.std.proofs.lemmas.Bool.{true≢false, both_ways, not-true, not-false}
+use Rattle.std.proofs.Common.{◌≡◌, ℕ, ◌≤◌, true, List, [], ◌∷◌, Some, sym, ap, ◌∙◌, inl, inr, arith}
+use Rattle.std.proofs.lemmas.Bool.{both_ways, not-true, not-false}
 use Rattle.rules.specs.Rules.{RuleLaws, RuleSense}
 use Rattle.tallies.specs.Tallies.{TallyLaws, TallySense}
 use Rattle.orders.specs.Allowed.{IsAllowed}

@@ -1,5 +1,5 @@
 -- What the labels mean, carried from the arcs to the records that a run leaves.
-use Rattle.std.proofs.Common.{◌≡◌, ℕ, zero, suc, ◌+◌, ◌*◌, ◌<◌, ◌≤◌, Bool, cond, not, List, [], ◌∷◌, length, get_or, drop, Some, None, Option, sym, refl, ap, ◌∙◌, subst, le_of_suc-le-suc, not-suc-le-zero, arith}
+use Rattle.std.proofs.Common.{◌≡◌, ℕ, zero, suc, ◌<◌, ◌≤◌, Bool, cond, not, List, [], ◌∷◌, length, get_or, drop, Some, None, Option, sym, refl, ap, subst, le_of_suc-le-suc, not-suc-le-zero, arith}
 use Rattle.round.specs.Clock.{latest_finish}
 use Rattle.rules.specs.Rules.{RuleLaws, RuleSense}
 use Rattle.tallies.specs.Tallies.{TallyLaws, TallySense}
@@ -7,7 +7,7 @@ use Rattle.layers.specs.declared.node.Node.{Node}
 use Rattle.layers.specs.Net.{Net, width, PathFrom}
 use Rattle.layers.specs.Flow.{up}
 use Rattle.layers.specs.Lawful.{IsTied}
-use Rattle.layers.specs.Labels.{first_labels, labels_next, no_up, ups, opening_arcs}
+use Rattle.layers.specs.Labels.{first_labels, labels_next, no_up, ups}
 use Rattle.layers.specs.Records.{nodes_in, padded_targets, record_of_place}
 use Rattle.layers.specs.Calls.{arcs, layer}
 use Rattle.layers.specs.LabelLaws.{LeadsTo, Labelled, LabelsMean}

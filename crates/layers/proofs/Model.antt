@@ -1,5 +1,5 @@
 -- Short words for the labels that are worked out from arcs, and for what calls and questions make of them. A device of the proofs.
-use Rattle.std.proofs.Common.{ℕ, zero, suc, Bool, ◌&&◌, List, [], ◌∷◌, length, get_or, Some, None, Option, unwrap_or}
+use Rattle.std.proofs.Common.{ℕ, zero, suc, Bool, ◌&&◌, List, [], ◌∷◌, get_or, Some, None, Option, unwrap_or}
 use Rattle.rules.specs.Rules.{RuleSense}
 use Rattle.tallies.specs.Tallies.{TallySense}
 use Rattle.layers.specs.declared.node.Up.{Up}

@@ -1,5 +1,5 @@
 -- What the arcs of every diagram are, and that filters, parting and joining keep it.
-use Rattle.std.proofs.Common.{◌≡◌, ℕ, zero, suc, ◌<◌, ◌≤◌, Bool, true, false, cond, List, [], ◌∷◌, length, get_or, set, Some, None, Option, sym, refl, ap, ◌∙◌, inl, inr, arith}
+use Rattle.std.proofs.Common.{◌≡◌, ℕ, zero, suc, ◌<◌, ◌≤◌, Bool, true, false, cond, List, [], ◌∷◌, length, get_or, set, Some, None, Option, refl, ap, ◌∙◌, inl, inr, arith}
 use Rattle.layers.specs.Net.{table, Outs, Layer, Net, node, width, each_node, redirect}
 use Rattle.layers.specs.Flow.{arrivals_at}
 use Rattle.layers.specs.Tidy.{Mark, marks_next, marks_up, flags, compress, renumber, tidy, tidied_arcs}

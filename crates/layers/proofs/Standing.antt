@@ -10,10 +10,10 @@ use Rattle.layers.specs.Net.{table, Net, node, width, count_arcs}
 use Rattle.layers.specs.Tidy.{tidied_arcs}
 use Rattle.layers.specs.Join.{clash, joined_arcs}
 use Rattle.layers.specs.Labels.{is_barred, is_above_ceiling, first_labels, labels_next, ups, opening_arcs}
-use Rattle.layers.specs.Records.{layers, arcs_in, downs_in, arcs_of_layers, arcs_read, laid_arcs, record_of_place, labelled_from, labelled_records}
+use Rattle.layers.specs.Records.{layers, arcs_in, downs_in, arcs_read, laid_arcs, record_of_place, labelled_from, labelled_records}
 use Rattle.layers.specs.declared.call.Call.{Call}
 use Rattle.layers.specs.declared.call.Call.TheVariants.{Sweep, Part, Join, Cut, Refine}
-use Rattle.layers.specs.Calls.{EachCut, kept_arcs, parted_arcs, nodes, arcs, labels, layer, records_with, after_open, arcs_lost, after_sweep, sweep_answer, after_cut, count_of, part_answer, parted_records, after_part, join_answer, after_join, parts_of_layer, refinement_from, after_sweeps, refinement, after_call, after_calls, bound, is_settled, in_arcs_agree, value_in, one_group as oneGroupIn}
+use Rattle.layers.specs.Calls.{EachCut, kept_arcs, nodes, arcs, labels, layer, records_with, after_open, arcs_lost, after_sweep, sweep_answer, after_cut, count_of, part_answer, parted_records, after_part, join_answer, after_join, parts_of_layer, refinement_from, after_sweeps, refinement, after_call, after_calls, bound, is_settled, in_arcs_agree, value_in, one_group as oneGroupIn}
 use Rattle.layers.proofs.Model.{kept, sweep, cut, one_group, part_at, agrees, settles, bound as boundOf, settled as settled_of, labels_at}
 use Rattle.layers.proofs.Counts.{same_bool, sweep-fewer, settled-yes, settled-if}
 use Rattle.layers.proofs.Bridge.{Full, stood, map-table, full-first, layers-laid, drawn-stood, kept-stood, all-kept-stood, agrees-stood, stood-at, value-stood, laid-long, later-stays}
