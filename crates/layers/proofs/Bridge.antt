@@ -8,12 +8,12 @@ use Rattle.layers.specs.declared.node.Up.{Up}
 use Rattle.layers.specs.Net.{table, Outs, Layer, Net, node, target, width, each_door, each_node, redirect, every_door, every_arc}
 use Rattle.layers.specs.Flow.{arrivals_at, gather, next, up, end_label}
 use Rattle.layers.specs.Lawful.{IsLed, IsTied, IsRoomy}
-use Rattle.layers.specs.Labels.{first_label, first_labels, arrival_over, merge, labels_next, no_up, ups, all_agree}
+use Rattle.layers.specs.Labels.{first_label, first_labels, arrival_over, merge, labels_next, no_up, ups}
 use Rattle.layers.specs.Records.{is_used, nodes_in, layers, arcs_in, downs_in, ups_in, arcs_of_layers, padded_targets, record_of_place, labelled_from, labelled_records}
 use Rattle.layers.specs.Calls.{places_agree, in_arcs_agree, value_in, labels_in, LayerLabels, kept_arcs, keeps_all_arcs}
 use Rattle.layers.proofs.Flows.{ins-from, next-some, next-at, gather-all, table_at, has-arc}
 use Rattle.layers.proofs.Sets.{or_left, one-self, none_has}
-use Rattle.layers.proofs.Model.{kept, labels_from, one_group, agrees, valueO, or_blank, or_no_up, labels_at}
+use Rattle.layers.proofs.Model.{kept, labels_from, agrees, valueO, or_blank, or_no_up, labels_at}
 use Rattle.layers.proofs.Lively.{labels_full, ups-full}
 use Rattle.layers.specs.Settings.{Setting}
 use Rattle.layers.specs.declared.node.Down.{Down}
@@ -281,12 +281,6 @@ module _ {S V : Type 0} (by : Setting S V) (w : 1 ≤ by.width) where
   stood-at d labs [] f h = absurd (not-suc-le-zero h)
   stood-at zero labs (L ∷ Ls) f h = (row-downs labs L Ls f.0, row-arcs labs L Ls f.0, table-long (length L) (record_of_place by L labs (ups (L ∷ Ls))))
   stood-at (suc d) labs (L ∷ Ls) f h = stood-at d (labels_next by labs L (width Ls)) Ls f.1 (le_of_suc-le-suc h)
-
-  pub group_at : (d a : ℕ) (labs : Labs) (Ls : Net) → d < length Ls → one_group by d a labs Ls ≡ all_agree by.rule (arrivals_at (arrival_over by) a (labels_at by d labs Ls) (get_or Ls d []))
-  unfolding one_group
-  group_at d a labs [] h = absurd (not-suc-le-zero h)
-  group_at zero a labs (L ∷ Ls) h = refl
-  group_at (suc d) a labs (L ∷ Ls) h = group_at d a (labels_next by labs L (width Ls)) Ls (le_of_suc-le-suc h)
 
   -- the end's value
   pub value-stood : (labs : Labs) (Ls : Net) → Full labs Ls → value_in (get_or (stood labs Ls) (length Ls) []) ≡ valueO by (end_label (arrival_over by) (merge by.rule by.tally) labs Ls)

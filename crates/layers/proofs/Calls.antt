@@ -1,5 +1,5 @@
 -- No call loses an allowed order that no ceiling rules out.
-use Rattle.std.proofs.Common.{◌≡◌, ℕ, zero, suc, ◌<◌, ◌≤◌, Bool, true, false, cond, not, List, [], ◌∷◌, ◌++◌, length, get_or, Some, None, Option, sym, refl, ap, ◌∙◌, subst, append-nil, arith}
+use Rattle.std.proofs.Common.{◌≡◌, ℕ, zero, suc, ◌≤◌, Bool, true, false, cond, not, List, [], ◌∷◌, ◌++◌, length, get_or, Some, None, Option, sym, refl, ap, ◌∙◌, subst, append-nil, arith}
 use Rattle.doors.specs.Orders.{IsDoor, IsPartOrder}
 use Rattle.round.proofs.Clocks.{clock-laws}
 use Rattle.round.specs.Clock.{drive}
@@ -7,19 +7,19 @@ use Rattle.rules.specs.Rules.{RuleLaws}
 use Rattle.tallies.specs.Tallies.{TallyLaws}
 use Rattle.orders.specs.Allowed.{IsAllowed}
 use Rattle.orders.specs.Costs.{Trip, cost, next_trip, trip_after}
-use Rattle.layers.specs.Net.{table, Net, node, target, width, PathFrom}
+use Rattle.layers.specs.Net.{table, Net, target, width, PathFrom}
 use Rattle.layers.specs.Flow.{end_label}
-use Rattle.layers.specs.Join.{clash, joined_arcs}
 use Rattle.layers.specs.Labels.{arrival_over, merge, first_labels, labels_next, is_above_ceiling, opening_arcs, all_doors, ups}
 use Rattle.layers.specs.declared.call.Call.{Call}
-use Rattle.layers.specs.Calls.{EachCut, kept_arcs}
+use Rattle.layers.specs.declared.node.Node.{Node}
+use Rattle.layers.specs.Calls.{EachCut, kept_arcs, arcs, after_open, after_calls}
 use Rattle.layers.proofs.Flows.{redirect-arc, inside, table_at, tidy-keeps}
 use Rattle.layers.proofs.Ways.{trip-snoc, length-snoc, snoc-assoc}
-use Rattle.layers.proofs.Model.{part_at, one_group, sweep, cuts, cut, after, bound, valueO}
+use Rattle.layers.proofs.Model.{cuts, cut, bound, valueO}
 use Rattle.layers.proofs.Walk.{within, Neat, Going, going_next, Told, told_none, told-next, Good, good-first, good-next, At, at_first, at_next, arrive-fits, going-facts, setting-out, sweep-keeps}
 use Rattle.layers.proofs.Shapes.{part-keeps, join-keeps}
-use Rattle.layers.proofs.Keeping.{safe-after}
-use Rattle.layers.proofs.Proper.{Proper, neat-of, proper-opened, proper-sweep, proper-cut, proper-part, proper-join}
+use Rattle.layers.proofs.Standing.{KeptOnArcs, reached, arcs-of, after_end, opened-reached}
+use Rattle.layers.proofs.Proper.{neat-of}
 use Rattle.layers.specs.Settings.{Setting}
 use Rattle.layers.specs.declared.node.Down.{Down}
 
@@ -93,25 +93,14 @@ module _ {S V : Type 0} {Keeps : List ℕ → Type 0} {Stands : S → List ℕ �
       (x.0.value, ap (valueO by) x.1, x.2)
 
   module _ (w1 : 1 ≤ by.width) (w : List ℕ) (o : IsAllowed by.round Keeps w) where
-    -- a diagram in which w is a path
-    unfoldable pub Safe : Net → Type 0
-    Safe Ls = Proper by.round.n by.width Ls × PathFrom Ls 0 w
-
-    kept-sweep : (Ls : Net) → Safe Ls → Safe (sweep by Ls)
-    unfolding Safe
-    kept-sweep Ls s = (proper-sweep by w1 Ls s.0, sweep-keeps by ruled tallied w Ls o (neat-of by.round.n Ls s.0.even) s.1)
-
-    kept-cut : (c : V) (Ls : Net) → by.tally.not_above (cost by.round by.tally w) c ≡ true → Safe Ls → Safe (cut by c Ls)
-    unfolding Safe
-    kept-cut c Ls u s = (proper-cut by w1 c Ls tt s.0, cut_keeps c w Ls o u (neat-of by.round.n Ls s.0.even) s.1)
-
-    kept-partAt : (d a : ℕ) (Ls : Net) → a < length (get_or Ls (suc d) []) → length (get_or Ls (suc d) []) < by.width → one_group by d a (first_labels by.rule by.tally) Ls ≡ false → Safe Ls → Safe (part_at by d a (first_labels by.rule by.tally) Ls)
-    unfolding Safe
-    kept-partAt d a Ls x y z s = (proper-part by ruled.same_self w1 d a Ls x y z s.0, part-keeps by d a (first_labels by.rule by.tally) Ls 0 w s.1)
-
-    kept-join_at : (d lo hi : ℕ) (Ls : Net) → lo < hi → hi < length (get_or Ls (suc d) []) → clash (node (get_or Ls (suc d) []) lo) (node (get_or Ls (suc d) []) hi) ≡ false → Safe Ls → Safe (joined_arcs d lo hi Ls)
-    unfolding Safe
-    kept-join_at d lo hi Ls a b n s = (proper-join by w1 d lo hi Ls a b n s.0, join-keeps d lo hi Ls 0 w a b n s.1)
+    -- each step keeps the path w
+    path-kept : (later : List (Node S V)) → KeptOnArcs by w1 later (λ Ls. PathFrom Ls 0 w) (λ c. by.tally.not_above (cost by.round by.tally w) c ≡ true)
+    path-kept later = record {
+      sweep = λ Ls p q. sweep-keeps by ruled tallied w Ls o (neat-of by.round.n Ls p.even) q;
+      cut = λ c Ls u p q. cut_keeps c w Ls o u (neat-of by.round.n Ls p.even) q;
+      part = λ d a Ls p q. part-keeps by d a (first_labels by.rule by.tally) Ls 0 w q;
+      join = λ d lo hi Ls a b n p q. join-keeps d lo hi Ls 0 w a b n q;
+    }
 
     open-door : (j : ℕ) → IsDoor by.round.n j → target (all_doors by.round.n) j ≡ 1
     open-door zero d = absurd (omega (arith, d.low))
@@ -123,10 +112,12 @@ module _ {S V : Type 0} {Keeps : List ℕ → Type 0} {Stands : S → List ℕ �
     open-path (suc k) [] d e = absurd (omega arith)
     open-path (suc k) (j ∷ v) d e = (0, open-door j d.0, open-path k v d.2 (omega arith))
 
-    kept-opened : Safe (opening_arcs by.round.n)
-    unfolding Safe opening_arcs
-    kept-opened = (proper-opened by w1, open-path by.round.n w o.part o.whole)
-
-    pub still : (cs : List (Call V)) → EachCut (λ c. by.tally.not_above (cost by.round by.tally w) c ≡ true) cs → PathFrom (after by cs (opening_arcs by.round.n)) 0 w
-    unfolding Safe
-    still cs u = (safe-after by Safe (λ c. by.tally.not_above (cost by.round by.tally w) c ≡ true) kept-sweep kept-cut kept-partAt kept-join_at cs (opening_arcs by.round.n) u kept-opened).1
+    pub still : (lent : List (Node S V)) (cs : List (Call V)) → EachCut (λ c. by.tally.not_above (cost by.round by.tally w) c ≡ true) cs
+        → PathFrom (arcs by.round.n by.width (after_calls by cs (after_open by lent))) 0 w
+    unfolding opening_arcs
+    still lent cs u =
+        let later = after_end by w1 lent in
+        let Path : Net → Type 0 = λ Ls. PathFrom Ls 0 w in
+        let r = reached by w1 later ruled.same_self Path (λ c. by.tally.not_above (cost by.round by.tally w) c ≡ true) (path-kept later) cs (after_open by lent) u
+        (opened-reached by w1 lent Path (open-path by.round.n w o.part o.whole)) in
+        rw (arcs-of by w1 later Path _ r) r.holds

@@ -4,9 +4,7 @@ pub mod Calls
 pub mod Counts
 pub mod Exact
 pub mod Flows
-pub mod Keeping
 pub mod Keys
-pub mod Laid
 pub mod Lively
 pub mod Main
 pub mod Meaning
@@ -19,7 +17,6 @@ pub mod Sets
 pub mod Shaped
 pub mod Shapes
 pub mod Standing
-pub mod Sweeping
 pub mod Tidying
 pub mod Tied
 pub mod Ties

@@ -1,5 +1,5 @@
 -- What the labels mean, carried from the arcs to the records that a run leaves.
-use Rattle.std.proofs.Common.{◌≡◌, ℕ, zero, suc, ◌+◌, ◌*◌, ◌<◌, ◌≤◌, Bool, cond, not, List, [], ◌∷◌, length, get_or, drop, Some, None, Option, sym, refl, ap, ◌∙◌, subst, le_of_suc-le-suc, not-suc-le-zero, arith}
+use Rattle.std.proofs.Common.{◌≡◌, ℕ, zero, suc, ◌<◌, ◌≤◌, Bool, cond, not, List, [], ◌∷◌, length, get_or, drop, Some, None, Option, sym, refl, ap, subst, le_of_suc-le-suc, not-suc-le-zero, arith}
 use Rattle.round.specs.Clock.{latest_finish}
 use Rattle.rules.specs.Rules.{RuleLaws, RuleSense}
 use Rattle.tallies.specs.Tallies.{TallyLaws, TallySense}
@@ -7,17 +7,17 @@ use Rattle.layers.specs.declared.node.Node.{Node}
 use Rattle.layers.specs.Net.{Net, width, PathFrom}
 use Rattle.layers.specs.Flow.{up}
 use Rattle.layers.specs.Lawful.{IsTied}
-use Rattle.layers.specs.Labels.{first_labels, labels_next, no_up, ups, opening_arcs}
+use Rattle.layers.specs.Labels.{first_labels, labels_next, no_up, ups}
 use Rattle.layers.specs.Records.{nodes_in, padded_targets, record_of_place}
 use Rattle.layers.specs.Calls.{arcs, layer}
 use Rattle.layers.specs.LabelLaws.{LeadsTo, Labelled, LabelsMean}
 use Rattle.layers.proofs.Flows.{table_at}
-use Rattle.layers.proofs.Model.{after, or_blank, or_no_up, labels_at}
+use Rattle.layers.proofs.Model.{or_blank, or_no_up, labels_at}
 use Rattle.layers.proofs.Walk.{Neat, Good}
 use Rattle.layers.proofs.Lively.{way_on}
 use Rattle.layers.proofs.Bridge.{Labs, Full, top, stood, table-long}
-use Rattle.layers.proofs.Proper.{neat-of, proper-opened, proper-after}
-use Rattle.layers.proofs.Standing.{Well, X, full, nodes-X, arcs-X, run-opened}
+use Rattle.layers.proofs.Proper.{Proper, neat-of}
+use Rattle.layers.proofs.Standing.{X, full, nodes-X, arcs-X, after_end, run-reached}
 use Rattle.layers.proofs.Means.{Tells, all-exact, some-exact, owed-at, tells_at, good-at, up-exact}
 use Rattle.layers.specs.Settings.{Setting, setting}
 use Rattle.layers.specs.declared.node.Down.{Down}
@@ -76,9 +76,9 @@ module _ {S V : Type 0} {Keeps : List ℕ → Type 0} {Stands : S → List ℕ �
 
   module _ {Allows : ℕ → V → Type 0} (tallied : TallyLaws by.round.n by.tally Allows) where
     -- on the arcs
-    labelled : (later : List (Node S V)) (D : Net) → Well by ruled.same_self w1 later D → Neat by.round.n D → (i a : ℕ) (x : Node S V) → i ≤ length D
+    labelled : (D : Net) → Proper by.round.n by.width D → Neat by.round.n D → (i a : ℕ) (x : Node S V) → i ≤ length D
         → Stands-at (labels_at by i (first_labels by.rule by.tally) D) (drop i D) a x → Labelled Allows D i a x
-    labelled later D p neat i a x h s =
+    labelled D p neat i a x h s =
         let o = owed-at by ruled w1 D i h a s.label s.labelled in
         let t : (w : List ℕ) → LeadsTo D i a w → Tells s.label.all s.label.some w =
         λ w q. let y = tells_at by ruled w1 D p.tied i h a w q in let e : y.0 ≡ s.label = cc (y.1, s.labelled) in rw (← e) y.2 in
@@ -96,23 +96,18 @@ module _ {S V : Type 0} {Keeps : List ℕ → Type 0} {Stands : S → List ℕ �
         }
 
     -- on the records
-    labelled-X : (later : List (Node S V)) (D : Net) → Well by ruled.same_self w1 later D → Neat by.round.n D → (i a : ℕ) (other : Node S V) → i ≤ by.round.n
-        → let Y = X by ruled.same_self w1 later D in a < length (layer by.round.n by.width i Y) → Labelled Allows (arcs by.round.n by.width Y) i a (get_or (layer by.round.n by.width i Y) a other)
-    labelled-X later D p neat i a other h k =
-        let Y = X by ruled.same_self w1 later D in
+    labelled-X : (later : List (Node S V)) (D : Net) → Proper by.round.n by.width D → (i a : ℕ) (other : Node S V) → i ≤ by.round.n
+        → let Y = X by w1 later D in a < length (layer by.round.n by.width i Y) → Labelled Allows (arcs by.round.n by.width Y) i a (get_or (layer by.round.n by.width i Y) a other)
+    labelled-X later D p i a other h k =
         let labs = labels_at by i (first_labels by.rule by.tally) D in
         let h' : i ≤ length D = omega (arith, p.deep) in
-        let e : layer by.round.n by.width i Y ≡ top by w1 labs (drop i D) =
-        ap (λ (N : List (List (Node S V))). get_or N i []) (nodes-X by ruled.same_self w1 later D p) ∙ stood-top i (first_labels by.rule by.tally) D h' in
-        let f = full_at i (first_labels by.rule by.tally) D h' (full by ruled.same_self w1 later D p) in
-        let s = top-at labs (drop i D) a other f (rw (← e) k) in
-        rw ((arcs-X by ruled.same_self w1 later D p), e) (labelled later D p neat i a (get_or (top by w1 labs (drop i D)) a other) h' s)
+        let e : layer by.round.n by.width i (X by w1 later D) ≡ top by w1 labs (drop i D) = rw (nodes-X by w1 later D p) (stood-top i (first_labels by.rule by.tally) D h') in
+        let s = top-at labs (drop i D) a other (full_at i (first_labels by.rule by.tally) D h' (full by w1 later D p)) (rw (← e) k) in
+        rw (arcs-X by w1 later D p, e) (labelled D p (neat-of by.round.n D p.even) i a (get_or (top by w1 labs (drop i D)) a other) h' s)
 
 pub labels-mean : {S V : Type 0} {Keeps : List ℕ → Type 0} {Stands : S → List ℕ → Type 0} {Allows : ℕ → V → Type 0} (A B : ℕ → Type 0) (rule : RuleSense S) (tally : TallySense V)
     → ((n : ℕ) → A n → RuleLaws n rule Keeps Stands) → ((n : ℕ) → B n → TallyLaws n tally Allows) → LabelsMean A rule B tally Allows
 labels-mean {S} {V} {Allows} A B rule tally ruled tallied r e f W lo hi lent cs =
     let by = setting r rule tally W in
-    let x = ruled r.n e in let y = tallied r.n f in let l = drop (r.n * W + 1) lent in
-    let D = after by cs (opening_arcs r.n) in
-    let p = proper-after by x.same_self lo cs (opening_arcs r.n) (proper-opened by lo) in
-    rw (run-opened by x.same_self lo lent cs) (labelled-X by x lo y l D p (neat-of r.n D p.even))
+    let q = run-reached by lo lent (ruled r.n e).same_self cs in
+    rw q.is (labelled-X by (ruled r.n e) lo (tallied r.n f) (after_end by lo lent) q.net q.well)

@@ -1,27 +1,45 @@
--- What every diagram is, after every list of calls; and so the calls on records are the calls on arcs.
-use Rattle.std.proofs.Common.{◌≡◌, ℕ, zero, suc, ◌<◌, ◌≤◌, Bool, true, false, cond, List, [], ◌∷◌, length, get_or, set, Some, None, Option, sym, refl, ap, ◌∙◌, inl, inr, arith}
+-- What the arcs of every diagram are, and that filters, parting and joining keep it.
+use Rattle.std.proofs.Common.{◌≡◌, ℕ, zero, suc, ◌<◌, ◌≤◌, Bool, true, false, cond, List, [], ◌∷◌, length, get_or, set, Some, None, Option, refl, ap, ◌∙◌, inl, inr, arith}
 use Rattle.layers.specs.Net.{table, Outs, Layer, Net, node, width, each_node, redirect}
 use Rattle.layers.specs.Flow.{arrivals_at}
 use Rattle.layers.specs.Tidy.{Mark, marks_next, marks_up, flags, compress, renumber, tidy, tidied_arcs}
 use Rattle.layers.specs.Join.{without_place, place_after_join, both_out, clash, joined_arcs}
 use Rattle.layers.specs.Lawful.{IsRanged, IsTied, IsRoomy, IsLawful}
 use Rattle.layers.specs.declared.node.Up.{Up}
-use Rattle.layers.specs.Labels.{is_barred, is_above_ceiling, first_labels, arrival_over, all_agree, opening_arcs, all_doors}
-use Rattle.layers.specs.declared.call.Call.{Call}
+use Rattle.layers.specs.Labels.{first_labels, arrival_over, all_agree, opening_arcs, all_doors}
 use Rattle.layers.specs.Calls.{LayerLabels, parted_arcs, kept_arcs}
 use Rattle.layers.proofs.Ways.{length-snoc}
 use Rattle.layers.proofs.Flows.{Among, among-split}
-use Rattle.layers.proofs.Model.{labels_from, one_group, parted, refines, sweep, cut, part_at, after, labels_at}
+use Rattle.layers.proofs.Model.{one_group, part_at, labels_at}
 use Rattle.layers.proofs.Walk.{node-among, Neat}
 use Rattle.layers.proofs.Shapes.{each_door-length}
-use Rattle.layers.proofs.Keeping.{safe-after, safe-parted, safe-refines, any-cut, tidied-length, join-length}
 use Rattle.layers.proofs.Tied.{redirect-back, redirect-length, tidied-tied}
 use Rattle.layers.proofs.Ties.{opened-tied, parted-tied, join_tied}
 use Rattle.layers.proofs.Lively.{roomy-tidied, roomy-join, roomy-open}
-use Rattle.layers.proofs.Bridge.{IsEven, table-long, group_at}
+use Rattle.layers.proofs.Bridge.{IsEven, table-long}
 use Rattle.layers.specs.Settings.{Setting}
 use Rattle.layers.specs.declared.node.Down.{Down}
 
+-- ---- how many layers
+tidy-length : (fr : List (Option Mark)) (Ls : Net) → length (tidy fr Ls) ≡ length Ls
+unfolding tidy
+tidy-length fr [] = refl
+tidy-length fr (L ∷ Ls) = ap suc (tidy-length (marks_next fr L (width Ls)) Ls)
+
+tidied-length : (Ls : Net) → length (tidied_arcs Ls) ≡ length Ls
+unfolding tidied_arcs
+tidied-length [] = refl
+tidied-length (L ∷ Ls) = ap suc (tidy-length (marks_next (Some tt ∷ []) L (width Ls)) Ls)
+
+join-length : (d lo hi : ℕ) (Ls : Net) → length (joined_arcs d lo hi Ls) ≡ length Ls
+unfolding joined_arcs
+join-length zero lo hi [] = refl
+join-length (suc d) lo hi [] = refl
+join-length zero lo hi (L ∷ []) = refl
+join-length zero lo hi (L ∷ M ∷ Ls) = refl
+join-length (suc d) lo hi (L ∷ Ls) = ap suc (join-length d lo hi Ls)
+
+-- ---- as many targets to each node as there are doors
 abbrev pub EvenLayer : ℕ → Layer → Type 0
 EvenLayer n L = (nd : Outs) → Among nd L → length nd ≡ n
 
@@ -207,14 +225,6 @@ module _ {S V : Type 0} (by : Setting S V) (w : 1 ≤ by.width) where
   pub proper-kept : (goes : ℕ → ℕ → ℕ → Option (Down S V) → Option Up → Bool) (Ls : Net) (labs : List (LayerLabels S V)) → Proper by.round.n by.width Ls → Proper by.round.n by.width (tidied_arcs (kept_arcs goes 0 Ls labs))
   proper-kept goes Ls labs p = proper-less Ls _ (kept-less by.round.n by.width goes 0 Ls labs) p
 
-  pub proper-sweep : (Ls : Net) → Proper by.round.n by.width Ls → Proper by.round.n by.width (sweep by Ls)
-  unfolding sweep
-  proper-sweep Ls p = proper-kept (is_barred by.round by.rule) Ls (labels_from by (first_labels by.rule by.tally) Ls) p
-
-  pub proper-cut : (c : V) (Ls : Net) → Unit {0} → Proper by.round.n by.width Ls → Proper by.round.n by.width (cut by c Ls)
-  unfolding cut
-  proper-cut c Ls u p = proper-kept (is_above_ceiling by.round by.tally c) Ls (labels_from by (first_labels by.rule by.tally) Ls) p
-
   pub proper-join : (d lo hi : ℕ) (Ls : Net) → lo < hi → hi < length (get_or Ls (suc d) []) → clash (node (get_or Ls (suc d) []) lo) (node (get_or Ls (suc d) []) hi) ≡ false → Proper by.round.n by.width Ls → Proper by.round.n by.width (joined_arcs d lo hi Ls)
   proper-join d lo hi Ls x y z p =
       record { deep = join-length d lo hi Ls ∙ p.deep; one_first = first-join d lo hi Ls ∙ p.one_first; even = even-join by.round.n d lo hi Ls x y p.even; roomy = roomy-join by.width d lo hi Ls y p.roomy; tied = join_tied d lo hi Ls x y z p.tied }
@@ -256,24 +266,7 @@ module _ {S V : Type 0} (by : Setting S V) (w : 1 ≤ by.width) where
       let e = parted-even d a labs Ls x p.even in
       record { deep = parted-length d a labs Ls ∙ p.deep; one_first = e.1 ∙ p.one_first; even = e.0; roomy = parted-roomy d a labs Ls y p.roomy; tied = parted-tied by self d a labs Ls x z p.tied }
 
--- parting, and so a list of calls, by the laws of the rule: an arrival agrees with itself
+-- parting, by the laws of the rule: an arrival agrees with itself
 module _ {S V : Type 0} (by : Setting S V) (self : (s : S) → by.rule.same s s ≡ true) (w : 1 ≤ by.width) where
   pub proper-part : (d a : ℕ) (Ls : Net) → a < length (get_or Ls (suc d) []) → length (get_or Ls (suc d) []) < by.width → one_group by d a (first_labels by.rule by.tally) Ls ≡ false → Proper by.round.n by.width Ls → Proper by.round.n by.width (part_at by d a (first_labels by.rule by.tally) Ls)
-  proper-part d a Ls x y z p =
-      let in' = there (suc d) Ls a x in
-      let g = group_at by w d a (first_labels by.rule by.tally) Ls (omega arith) in
-      proper-parted-at by w self d a (labels_at by d (first_labels by.rule by.tally) Ls) Ls x y (sym g ∙ z) p
-    where
-      there : (d : ℕ) (Ls : Net) (a : ℕ) → a < length (get_or Ls d []) → d < length Ls
-      there d [] a h = absurd (omega arith)
-      there zero (L ∷ Ls) a h = omega arith
-      there (suc d) (L ∷ Ls) a h = let k = there d Ls a h in omega arith
-
-  pub proper-after : (cs : List (Call V)) (Ls : Net) → Proper by.round.n by.width Ls → Proper by.round.n by.width (after by cs Ls)
-  proper-after cs Ls p = safe-after by (Proper by.round.n by.width) (λ c. Unit {0}) (proper-sweep by w) (proper-cut by w) proper-part (proper-join by w) cs Ls (any-cut by cs) p
-
-  pub proper-parted : (k i a : ℕ) (Ls : Net) → 1 ≤ i → Proper by.round.n by.width Ls → Proper by.round.n by.width (parted by k i a Ls).1
-  proper-parted = safe-parted by (Proper by.round.n by.width) (λ c. Unit {0}) (proper-sweep by w) (proper-cut by w) proper-part (proper-join by w)
-
-  pub proper-refines : (k i : ℕ) (Ls : Net) → 1 ≤ i → Proper by.round.n by.width Ls → Proper by.round.n by.width (refines by k i Ls).1
-  proper-refines = safe-refines by (Proper by.round.n by.width) (λ c. Unit {0}) (proper-sweep by w) (proper-cut by w) proper-part (proper-join by w)
+  proper-part d a Ls x y z p = proper-parted-at by w self d a (labels_at by d (first_labels by.rule by.tally) Ls) Ls x y z p

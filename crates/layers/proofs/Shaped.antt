@@ -18,7 +18,7 @@ use Rattle.layers.proofs.Bridge.{ups-end, Full, top, stood, table-long}
 use Rattle.layers.proofs.Counts.{tidied-same}
 use Rattle.layers.proofs.Tied.{tidied-tied}
 use Rattle.layers.proofs.Places.{end-at}
-use Rattle.layers.proofs.Laid.{full, nodes-laid, arcs-laid, written}
+use Rattle.layers.proofs.Standing.{full, nodes-X, arcs-X, written}
 use Rattle.layers.proofs.Proper.{EvenLayer, EvenIn, Proper}
 use Rattle.layers.specs.Settings.{Setting}
 use Rattle.layers.specs.declared.node.Down.{Down}
@@ -189,12 +189,12 @@ ended-one n W xs h a j b e =
 module _ {S V : Type 0} (by : Setting S V) (w : 1 ≤ by.width) (xs : List (Node S V)) (Ls : Net) (p : Proper by.round.n by.width Ls) where
   pub arcs-relaid : arcs by.round.n by.width (records_with by xs Ls) ≡ Ls
   unfolding records_with
-  arcs-relaid = arcs-laid by w (drop (by.round.n * by.width + 1) xs) Ls p
+  arcs-relaid = arcs-X by w (drop (by.round.n * by.width + 1) xs) Ls p
 
   stands-at-end : (a j b : ℕ) → target (node (get_or (arcs by.round.n by.width (records_with by xs Ls)) (by.round.n - 1) []) a) j ≡ suc b → length (layer by.round.n by.width by.round.n (records_with by xs Ls)) ≡ 1
   unfolding records_with
   stands-at-end a j b e =
-      rw (nodes-laid by w (drop (by.round.n * by.width + 1) xs) Ls p) (end_of by w Ls by.round.n p.deep by.round.one p.tied (full by w (drop (by.round.n * by.width + 1) xs) Ls p) a j b (rw (← arcs-relaid) e))
+      rw (nodes-X by w (drop (by.round.n * by.width + 1) xs) Ls p) (end_of by w Ls by.round.n p.deep by.round.one p.tied (full by w (drop (by.round.n * by.width + 1) xs) Ls p) a j b (rw (← arcs-relaid) e))
 
   ended' : HasEnd by.round.n by.width (records_with by xs Ls)
   ended' =
