@@ -14,6 +14,7 @@ use Rattle.layers.specs.Calls.{places_agree, in_arcs_agree, value_in, labels_in,
 use Rattle.layers.proofs.Flows.{ins-from, next-some, next-at, gather-all, table_at, has-arc}
 use Rattle.layers.proofs.Sets.{or_left, one-self, none_has}
 use Rattle.layers.proofs.Model.{kept, labels_from, agrees, valueO, or_blank, or_no_up, labels_at}
+use Rattle.layers.proofs.Tied.{redirect-cong}
 use Rattle.layers.proofs.Lively.{labels_full, ups-full}
 use Rattle.layers.specs.Settings.{Setting}
 use Rattle.layers.specs.declared.node.Down.{Down}
@@ -51,43 +52,6 @@ pad-back zero m (t ∷ nd) e h = absurd (omega arith)
 pad-back (suc n) m [] e h = absurd (omega arith)
 pad-back (suc n) zero (t ∷ nd) e h = absurd (not-suc-le-zero h)
 pad-back (suc n) (suc m) (t ∷ nd) e h = ap (λ (x : Outs). t ∷ x) (pad-back n m nd (omega arith) (le_of_suc-le-suc h))
-
--- ---- tests and changes of arcs depend on the arcs that are there
-each_door-cong : (f g : ℕ → ℕ → ℕ) (j : ℕ) (ts : Outs) → ((k b : ℕ) → get_or ts k 0 ≡ suc b → f (j + k) b ≡ g (j + k) b) → each_door f j ts ≡ each_door g j ts
-unfolding each_door
-each_door-cong f g j [] h = refl
-each_door-cong f g j (zero ∷ ts) h = ap (λ (x : Outs). zero ∷ x) (each_door-cong f g (suc j) ts (λ k b e. ap (λ (z : ℕ). f z b) (omega arith) ∙ h (suc k) b e ∙ ap (λ (z : ℕ). g z b) (omega arith)))
-each_door-cong f g j (suc b ∷ ts) h =
-    ap₂ (λ (x : ℕ) (y : Outs). x ∷ y) (ap (λ (z : ℕ). f z b) (omega arith) ∙ h 0 b refl ∙ ap (λ (z : ℕ). g z b) (omega arith))
-    (each_door-cong f g (suc j) ts (λ k c e. ap (λ (z : ℕ). f z c) (omega arith) ∙ h (suc k) c e ∙ ap (λ (z : ℕ). g z c) (omega arith)))
-
-each_node-cong : (f g : ℕ → ℕ → ℕ → ℕ) (i : ℕ) (L : Layer) → ((a j b : ℕ) → target (node L a) j ≡ suc b → f (i + a) j b ≡ g (i + a) j b) → each_node f i L ≡ each_node g i L
-unfolding each_node
-each_node-cong f g i [] h = refl
-each_node-cong f g i (nd ∷ L) h =
-    ap₂ (λ (x : Outs) (y : Layer). x ∷ y)
-    (each_door-cong (f i) (g i) 1 nd (λ k b e. ap (λ (z : ℕ). f i z b) (omega arith) ∙ ap (λ (z : ℕ). f z (suc k) b) (omega arith) ∙ h 0 (suc k) b e ∙ ap (λ (z : ℕ). g z (suc k) b) (omega arith) ∙ ap (λ (z : ℕ). g i z b) (omega arith)))
-    (each_node-cong f g (suc i) L (λ a j b e. ap (λ (z : ℕ). f z j b) (omega arith) ∙ h (suc a) j b e ∙ ap (λ (z : ℕ). g z j b) (omega arith)))
-
-pub redirect-cong : (f g : ℕ → ℕ → ℕ → ℕ) (L : Layer) → ((a j b : ℕ) → target (node L a) j ≡ suc b → f a j b ≡ g a j b) → redirect f L ≡ redirect g L
-unfolding redirect
-redirect-cong f g L h = each_node-cong f g 0 L (λ a j b e. ap (λ (z : ℕ). f z j b) (omega arith) ∙ h a j b e ∙ ap (λ (z : ℕ). g z j b) (omega arith))
-
-every_door-cong : (f g : ℕ → ℕ → Bool) (j : ℕ) (ts : Outs) → ((k b : ℕ) → get_or ts k 0 ≡ suc b → f (j + k) b ≡ g (j + k) b) → every_door f j ts ≡ every_door g j ts
-unfolding every_door
-every_door-cong f g j [] h = refl
-every_door-cong f g j (zero ∷ ts) h = every_door-cong f g (suc j) ts (λ k b e. ap (λ (z : ℕ). f z b) (omega arith) ∙ h (suc k) b e ∙ ap (λ (z : ℕ). g z b) (omega arith))
-every_door-cong f g j (suc b ∷ ts) h =
-    ap₂ ◌&&◌ (ap (λ (z : ℕ). f z b) (omega arith) ∙ h 0 b refl ∙ ap (λ (z : ℕ). g z b) (omega arith))
-    (every_door-cong f g (suc j) ts (λ k c e. ap (λ (z : ℕ). f z c) (omega arith) ∙ h (suc k) c e ∙ ap (λ (z : ℕ). g z c) (omega arith)))
-
-every_arc-cong : (f g : ℕ → ℕ → ℕ → Bool) (i : ℕ) (L : Layer) → ((a j b : ℕ) → target (node L a) j ≡ suc b → f (i + a) j b ≡ g (i + a) j b) → every_arc f i L ≡ every_arc g i L
-unfolding every_arc
-every_arc-cong f g i [] h = refl
-every_arc-cong f g i (nd ∷ L) h =
-    ap₂ ◌&&◌
-    (every_door-cong (f i) (g i) 1 nd (λ k b e. ap (λ (z : ℕ). f i z b) (omega arith) ∙ ap (λ (z : ℕ). f z (suc k) b) (omega arith) ∙ h 0 (suc k) b e ∙ ap (λ (z : ℕ). g z (suc k) b) (omega arith) ∙ ap (λ (z : ℕ). g i z b) (omega arith)))
-    (every_arc-cong f g (suc i) L (λ a j b e. ap (λ (z : ℕ). f z j b) (omega arith) ∙ h (suc a) j b e ∙ ap (λ (z : ℕ). g z j b) (omega arith)))
 
 pub ups-end : (b : ℕ) → b ≡ 0 → get_or (ups []) b None ≡ Some no_up
 unfolding ups up
@@ -256,18 +220,6 @@ module _ {S V : Type 0} (by : Setting S V) (w : 1 ≤ by.width) where
         (ap (λ (x : Labs). redirect (F x (ups_in (top labs' Ls))) L) (row-downs labs L Ls f.0)
         ∙ redirect-cong (F labs (ups_in (top labs' Ls))) (F labs (ups Ls)) L (λ a j b g. ap (λ (u : Option Up). Q labs a j u b) (f.0.tops a j b g)))
         (kept-stood (suc i) labs' Ls f.1)
-
-    pub all-kept-stood : (i : ℕ) (labs : Labs) (Ls : Net) → Full labs Ls → keeps_all_arcs goes i Ls (Standing labs Ls) ≡ keeps_all_arcs goes i Ls (labels_from by labs Ls)
-    unfolding keeps_all_arcs
-    all-kept-stood i labs [] f = refl
-    all-kept-stood i labs (L ∷ Ls) f =
-        let labs' = labels_next by labs L (width Ls) in
-        let Q : Labs → ℕ → ℕ → Option Up → Bool = λ x a j u. not (goes i (suc (length Ls)) j (get_or x a None) u) in
-        let F : Labs → List (Option Up) → ℕ → ℕ → ℕ → Bool = λ x y a j b. Q x a j (get_or y b None) in
-        ap₂ ◌&&◌
-        (ap (λ (x : Labs). every_arc (F x (ups_in (top labs' Ls))) 0 L) (row-downs labs L Ls f.0)
-        ∙ every_arc-cong (F labs (ups_in (top labs' Ls))) (F labs (ups Ls)) 0 L (λ a j b g. ap (λ (u : Option Up). Q labs (0 + a) j u) (f.0.tops a j b g)))
-        (all-kept-stood (suc i) labs' Ls f.1)
 
   pub agrees-stood : (labs : Labs) (Ls : Net) → Full labs Ls → in_arcs_agree by Ls (Standing labs Ls) ≡ agrees by labs Ls
   unfolding in_arcs_agree

@@ -7,6 +7,7 @@ use Rattle.rules.specs.Rules.{RuleLaws}
 use Rattle.tallies.specs.Tallies.{TallyLaws}
 use Rattle.orders.specs.Allowed.{IsAllowed}
 use Rattle.orders.specs.Costs.{Trip, cost, next_trip, trip_after}
+use Rattle.layers.specs.Lawful.{IsEven}
 use Rattle.layers.specs.Net.{table, Net, target, width, PathFrom}
 use Rattle.layers.specs.Flow.{end_label}
 use Rattle.layers.specs.Labels.{arrival_over, merge, first_labels, labels_next, is_above_ceiling, opening_arcs, all_doors, ups}
@@ -16,10 +17,9 @@ use Rattle.layers.specs.Calls.{EachCut, kept_arcs, arcs, after_open, after_calls
 use Rattle.layers.proofs.Flows.{redirect-arc, inside, table_at, tidy-keeps}
 use Rattle.layers.proofs.Ways.{trip-snoc, length-snoc, snoc-assoc}
 use Rattle.layers.proofs.Model.{cuts, cut, bound, valueO}
-use Rattle.layers.proofs.Walk.{within, Neat, Going, going_next, Told, told_none, told-next, Good, good-first, good-next, At, at_first, at_next, arrive-fits, going-facts, setting-out, sweep-keeps}
+use Rattle.layers.proofs.Walk.{within, Going, going_next, Told, told_none, told-next, Good, good-first, good-next, At, at_first, at_next, arrive-fits, going-facts, setting-out, sweep-keeps}
 use Rattle.layers.proofs.Shapes.{part-keeps, join-keeps}
 use Rattle.layers.proofs.Standing.{KeptOnArcs, reached, arcs-of, after_end, opened-reached}
-use Rattle.layers.proofs.Proper.{neat-of}
 use Rattle.layers.specs.Settings.{Setting}
 use Rattle.layers.specs.declared.node.Down.{Down}
 
@@ -38,12 +38,12 @@ module _ {S V : Type 0} {Keeps : List ℕ → Type 0} {Stands : S → List ℕ �
       (subst (λ (q : List ℕ). by.tally.not_above (cost by.round by.tally (p ++ (j ∷ []))) (cost by.round by.tally q) ≡ true) (snoc-assoc p w j) rest)
 
   cuts-keep : (c : V) (i : ℕ) (p w : List ℕ) (labs : List (Option (Down S V))) (Ls : Net) (a : ℕ) → by.tally.not_above (cost by.round by.tally (p ++ w)) c ≡ true → Going by ruled tallied p w → Told by ruled tallied p
-      → At by ruled tallied labs a p → Good by ruled tallied (length p) labs → Neat by.round.n Ls → PathFrom Ls a w → PathFrom (cuts by c i labs Ls) a w
+      → At by ruled tallied labs a p → Good by ruled tallied (length p) labs → IsEven by.round.n Ls → PathFrom Ls a w → PathFrom (cuts by c i labs Ls) a w
   unfolding kept_arcs At arrival_over
-  cuts-keep c i p [] labs [] a u g t at good neat q = q
-  cuts-keep c i p (j ∷ w) labs [] a u g t at good neat q = absurd q
-  cuts-keep c i p [] labs (L ∷ Ls) a u g t at good neat q = absurd q
-  cuts-keep c i p (j ∷ w) labs (L ∷ Ls) a u g t at good neat q =
+  cuts-keep c i p [] labs [] a u g t at good even q = q
+  cuts-keep c i p (j ∷ w) labs [] a u g t at good even q = absurd q
+  cuts-keep c i p [] labs (L ∷ Ls) a u g t at good even q = absurd q
+  cuts-keep c i p (j ∷ w) labs (L ∷ Ls) a u g t at good even q =
       let b = q.0 in
       let facts = going-facts by ruled tallied p w j g in
       let g' = going_next by ruled tallied p w j g in
@@ -54,50 +54,50 @@ module _ {S V : Type 0} {Keeps : List ℕ → Type 0} {Stands : S → List ℕ �
       tallied.order_chain _ (cost by.round by.tally (p ++ (j ∷ []))) c fits.value (tallied.order_chain _ (cost by.round by.tally ((p ++ (j ∷ [])) ++ w)) c (cost-rises (p ++ (j ∷ [])) w g' t') u') in
       let nd : is_above_ceiling by.round by.tally c i (suc (length Ls)) j (get_or labs a None) (get_or (ups Ls) b None) ≡ false = rw at.1 (ap not low) in
       let next' = at_next by ruled tallied labs L (width Ls) a j b p q.1 (inside Ls b w q.2) at t good facts.0 facts.2 facts.1 in
-      let good' = good-next by ruled tallied (length p) labs L (width Ls) facts.2 good neat.0 in (
+      let good' = good-next by ruled tallied (length p) labs L (width Ls) facts.2 good even.0 in (
         b,
         redirect-arc (λ a j b. cond (is_above_ceiling by.round by.tally c i (suc (length Ls)) j (get_or labs a None) (get_or (ups Ls) b None)) 0 (suc b)) L a j b q.1 ∙ ap (λ (z : Bool). cond z 0 (suc b)) nd,
         cuts-keep c (suc i) (p ++ (j ∷ [])) w (labels_next by labs L (width Ls)) Ls b u' g' t' next'
-            (rw (length-snoc p j) good') neat.1 q.2,
+            (rw (length-snoc p j) good') even.1 q.2,
       )
 
-  cut_keeps : (c : V) (w : List ℕ) (Ls : Net) → IsAllowed by.round Keeps w → by.tally.not_above (cost by.round by.tally w) c ≡ true → Neat by.round.n Ls → PathFrom Ls 0 w → PathFrom (cut by c Ls) 0 w
+  cut_keeps : (c : V) (w : List ℕ) (Ls : Net) → IsAllowed by.round Keeps w → by.tally.not_above (cost by.round by.tally w) c ≡ true → IsEven by.round.n Ls → PathFrom Ls 0 w → PathFrom (cut by c Ls) 0 w
   unfolding cut
-  cut_keeps c w Ls o u neat q = tidy-keeps (cuts by c 0 (first_labels by.rule by.tally) Ls) w
-      (cuts-keep c 0 [] w (first_labels by.rule by.tally) Ls 0 u (setting-out by ruled tallied w o) (told_none by ruled tallied) (at_first by ruled tallied) (good-first by ruled tallied) neat q)
+  cut_keeps c w Ls o u even q = tidy-keeps (cuts by c 0 (first_labels by.rule by.tally) Ls) w
+      (cuts-keep c 0 [] w (first_labels by.rule by.tally) Ls 0 u (setting-out by ruled tallied w o) (told_none by ruled tallied) (at_first by ruled tallied) (good-first by ruled tallied) even q)
 
   -- the label at the end fits an allowed order that is a path
   final-fits : (p w : List ℕ) (labs : List (Option (Down S V))) (Ls : Net) (a : ℕ) → Going by ruled tallied p w → Told by ruled tallied p
-      → At by ruled tallied labs a p → Good by ruled tallied (length p) labs → Neat by.round.n Ls → PathFrom Ls a w
+      → At by ruled tallied labs a p → Good by ruled tallied (length p) labs → IsEven by.round.n Ls → PathFrom Ls a w
       → (l : Down S V) × (end_label (arrival_over by) (merge by.rule by.tally) labs Ls ≡ Some l) × (by.tally.not_above l.value (cost by.round by.tally (p ++ w)) ≡ true)
   unfolding end_label At labels_next
-  final-fits p [] labs [] a g t at good neat q =
+  final-fits p [] labs [] a g t at good even q =
       (at.0, rw (← q) at.1, tallied.order_chain _ (cost by.round by.tally p) _ at.2.value (cost-rises p [] g t))
-  final-fits p (j ∷ w) labs [] a g t at good neat q = absurd q
-  final-fits p [] labs (L ∷ Ls) a g t at good neat q = absurd q
-  final-fits p (j ∷ w) labs (L ∷ Ls) a g t at good neat q =
+  final-fits p (j ∷ w) labs [] a g t at good even q = absurd q
+  final-fits p [] labs (L ∷ Ls) a g t at good even q = absurd q
+  final-fits p (j ∷ w) labs (L ∷ Ls) a g t at good even q =
       let b = q.0 in
       let facts = going-facts by ruled tallied p w j g in
       let g' = going_next by ruled tallied p w j g in
       let t' = told-next by ruled tallied p j t facts.0 facts.2 facts.1 in
       let next' = at_next by ruled tallied labs L (width Ls) a j b p q.1 (inside Ls b w q.2) at t good facts.0 facts.2 facts.1 in
-      let good' = good-next by ruled tallied (length p) labs L (width Ls) facts.2 good neat.0 in
+      let good' = good-next by ruled tallied (length p) labs L (width Ls) facts.2 good even.0 in
       let x = final-fits (p ++ (j ∷ [])) w (labels_next by labs L (width Ls)) Ls b g' t' next'
-      (rw (length-snoc p j) good') neat.1 q.2 in
+      (rw (length-snoc p j) good') even.1 q.2 in
       (x.0, x.1, rw (← (snoc-assoc p w j)) x.2)
 
-  pub bound-below : (w : List ℕ) (Ls : Net) → IsAllowed by.round Keeps w → Neat by.round.n Ls → PathFrom Ls 0 w → (v : V) × (bound by Ls ≡ Some v) × (by.tally.not_above v (cost by.round by.tally w) ≡ true)
+  pub bound-below : (w : List ℕ) (Ls : Net) → IsAllowed by.round Keeps w → IsEven by.round.n Ls → PathFrom Ls 0 w → (v : V) × (bound by Ls ≡ Some v) × (by.tally.not_above v (cost by.round by.tally w) ≡ true)
   unfolding bound
-  bound-below w Ls o neat q =
-      let x = final-fits [] w (first_labels by.rule by.tally) Ls 0 (setting-out by ruled tallied w o) (told_none by ruled tallied) (at_first by ruled tallied) (good-first by ruled tallied) neat q in
+  bound-below w Ls o even q =
+      let x = final-fits [] w (first_labels by.rule by.tally) Ls 0 (setting-out by ruled tallied w o) (told_none by ruled tallied) (at_first by ruled tallied) (good-first by ruled tallied) even q in
       (x.0.value, ap (valueO by) x.1, x.2)
 
   module _ (w1 : 1 ≤ by.width) (w : List ℕ) (o : IsAllowed by.round Keeps w) where
     -- each step keeps the path w
     path-kept : (later : List (Node S V)) → KeptOnArcs by w1 later (λ Ls. PathFrom Ls 0 w) (λ c. by.tally.not_above (cost by.round by.tally w) c ≡ true)
     path-kept later = record {
-      sweep = λ Ls p q. sweep-keeps by ruled tallied w Ls o (neat-of by.round.n Ls p.even) q;
-      cut = λ c Ls u p q. cut_keeps c w Ls o u (neat-of by.round.n Ls p.even) q;
+      sweep = λ Ls p q. sweep-keeps by ruled tallied w Ls o p.even q;
+      cut = λ c Ls u p q. cut_keeps c w Ls o u p.even q;
       part = λ d a Ls p q. part-keeps by d a (first_labels by.rule by.tally) Ls 0 w q;
       join = λ d lo hi Ls a b n p q. join-keeps d lo hi Ls 0 w a b n q;
     }

@@ -9,7 +9,7 @@ use Rattle.layers.specs.Labels.{first_labels, is_barred}
 use Rattle.layers.proofs.Flows.{has-arc, mark-next, flags-at, renumber-at}
 use Rattle.layers.proofs.Model.{labels_from, sweep, settles, settled, agrees, quiet}
 use Rattle.layers.proofs.Exact.{every_arc-at}
-use Rattle.layers.proofs.Tied.{climbs}
+use Rattle.layers.proofs.Tied.{climbs, redirect-same}
 use Rattle.layers.specs.Settings.{Setting}
 use Rattle.layers.specs.declared.node.Down.{Down}
 use Rattle.layers.specs.Calls.{LayerLabels, kept_arcs, keeps_all_arcs}
@@ -57,25 +57,6 @@ tidied-fewer (L ∷ Ls) =
     omega (arith, redirect-fewer f L, tidy-fewer (marks_next (Some tt ∷ []) L (width Ls)) Ls)
 
 -- ---- tidying leaves a tied diagram as it is
-each_door-same : (f : ℕ → ℕ → ℕ) (j : ℕ) (ts : Outs) → ((k b : ℕ) → get_or ts k 0 ≡ suc b → f (j + k) b ≡ suc b) → each_door f j ts ≡ ts
-unfolding each_door
-each_door-same f j [] h = refl
-each_door-same f j (zero ∷ ts) h = ap (λ (x : Outs). zero ∷ x) (each_door-same f (suc j) ts (λ k b e. ap (λ (z : ℕ). f z b) (omega arith) ∙ h (suc k) b e))
-each_door-same f j (suc b ∷ ts) h =
-    ap₂ (λ (x : ℕ) (y : Outs). x ∷ y) (ap (λ (z : ℕ). f z b) (omega arith) ∙ h 0 b refl) (each_door-same f (suc j) ts (λ k c e. ap (λ (z : ℕ). f z c) (omega arith) ∙ h (suc k) c e))
-
-each_node-same : (f : ℕ → ℕ → ℕ → ℕ) (i : ℕ) (L : Layer) → ((a j b : ℕ) → target (node L a) j ≡ suc b → f (i + a) j b ≡ suc b) → each_node f i L ≡ L
-unfolding each_node
-each_node-same f i [] h = refl
-each_node-same f i (nd ∷ L) h =
-    ap₂ (λ (x : Outs) (y : Layer). x ∷ y)
-    (each_door-same (f i) 1 nd (λ k b e. ap (λ (z : ℕ). f i z b) (omega arith) ∙ ap (λ (z : ℕ). f z (suc k) b) (omega arith) ∙ h 0 (suc k) b e))
-    (each_node-same f (suc i) L (λ a j b e. ap (λ (z : ℕ). f z j b) (omega arith) ∙ h (suc a) j b e))
-
-pub redirect-same : (f : ℕ → ℕ → ℕ → ℕ) (L : Layer) → ((a j b : ℕ) → target (node L a) j ≡ suc b → f a j b ≡ suc b) → redirect f L ≡ L
-unfolding redirect
-redirect-same f L h = each_node-same f 0 L (λ a j b e. ap (λ (z : ℕ). f z j b) (omega arith) ∙ h a j b e)
-
 compress-all : (fs : List Bool) (L : Layer) → ((a : ℕ) → a < length L → get_or fs a false ≡ true) → compress fs L ≡ L
 unfolding compress
 compress-all [] [] h = refl

@@ -14,16 +14,17 @@ use Rattle.orders.specs.Allowed.{IsAllowed}
 use Rattle.orders.specs.Costs.{Trip, cost, next_trip, trip_after}
 use Rattle.orders.specs.Times.{finish_of, KeepsHours}
 use Rattle.orders.specs.declared.van.Van.{Van}
+use Rattle.layers.specs.Lawful.{IsEven}
 use Rattle.layers.specs.declared.node.Up.{Up}
 use Rattle.layers.specs.Net.{Outs, Layer, Net, node, target, PathFrom, every_door, every_arc}
 use Rattle.layers.specs.Flow.{end_label, arrivals_at, gather}
 use Rattle.layers.specs.Labels.{bit_of, leg, ups, first_label, arrival_over, merge, first_labels, labels_next, is_barred, all_agree}
-use Rattle.layers.proofs.Flows.{Among, From, inside, ins-in, ins-from, next-some, next-within, next-at, gather-all}
+use Rattle.layers.proofs.Flows.{EvenLayer, Among, From, inside, ins-in, ins-from, next-some, next-within, next-at, gather-all}
 use Rattle.layers.proofs.Agreeing.{Agree, agree-merge, pairs}
 use Rattle.layers.proofs.Sets.{or_left, or_right, one-self}
 use Rattle.layers.proofs.Ways.{in_split, trip-snoc, state-snoc, length-snoc, snoc-assoc, leg-one}
 use Rattle.layers.proofs.Model.{agrees, quiet, settles, settled, bound, valueO}
-use Rattle.layers.proofs.Walk.{NeatLayer, Neat, neat-door, path-length, Told, told_none, told-next}
+use Rattle.layers.proofs.Walk.{even-door, path-length, Told, told_none, told-next}
 use Rattle.layers.specs.Calls.{places_agree, in_arcs_agree, keeps_all_arcs}
 use Rattle.layers.specs.Settings.{Setting}
 use Rattle.layers.specs.declared.node.Down.{Down}
@@ -181,29 +182,29 @@ module _ {S V : Type 0} {Keeps : List ℕ → Type 0} {Stands : S → List ℕ �
 
   -- ---- every path is sound
   pub paths-sound : (i : ℕ) (p w : List ℕ) (labs : List (Option (Down S V))) (Ls : Net) (a : ℕ) (l : Down S V) → length p + length Ls ≡ by.round.n → settles by i labs Ls ≡ true
-      → get_or labs a None ≡ Some l → Exact l p → Sound p → Neat by.round.n Ls → PathFrom Ls a w → Sound (p ++ w)
+      → get_or labs a None ≡ Some l → Exact l p → Sound p → IsEven by.round.n Ls → PathFrom Ls a w → Sound (p ++ w)
   unfolding labels_next
-  paths-sound i p [] labs [] a l t s g e o neat q = rw (append-nil p) o
-  paths-sound i p (j ∷ w) labs [] a l t s g e o neat q = absurd q
-  paths-sound i p [] labs (L ∷ Ls) a l t s g e o neat q = absurd q
-  paths-sound i p (j ∷ []) labs (L ∷ []) a l t s g e o neat q =
-      (onward l p j (omega (arith, by.round.most)) (neat-door by.round L neat.0 a j q.0 q.1) o e (settles-arc i labs L [] a j q.0 l s q.1 g)).sound
-  paths-sound i p (j ∷ k ∷ w) labs (L ∷ []) a l t s g e o neat q = absurd q.2
-  paths-sound i p (j ∷ w) labs (L ∷ M ∷ Ls) a l t s g e o neat q =
+  paths-sound i p [] labs [] a l t s g e o even q = rw (append-nil p) o
+  paths-sound i p (j ∷ w) labs [] a l t s g e o even q = absurd q
+  paths-sound i p [] labs (L ∷ Ls) a l t s g e o even q = absurd q
+  paths-sound i p (j ∷ []) labs (L ∷ []) a l t s g e o even q =
+      (onward l p j (omega (arith, by.round.most)) (even-door by.round L even.0 a j q.0 q.1) o e (settles-arc i labs L [] a j q.0 l s q.1 g)).sound
+  paths-sound i p (j ∷ k ∷ w) labs (L ∷ []) a l t s g e o even q = absurd q.2
+  paths-sound i p (j ∷ w) labs (L ∷ M ∷ Ls) a l t s g e o even q =
       let b = q.0 in
-      let on = onward l p j (omega (arith, by.round.most)) (neat-door by.round L neat.0 a j b q.1) o e (settles-arc i labs L (M ∷ Ls) a j b l s q.1 g) in
+      let on = onward l p j (omega (arith, by.round.most)) (even-door by.round L even.0 a j b q.1) o e (settles-arc i labs L (M ∷ Ls) a j b l s q.1 g) in
       let h = inside (M ∷ Ls) b w q.2 in
       let n = next-at {A = Down S V} (merge by.rule by.tally) (λ x y. Unit {0}) (λ x. tt) (λ x y z f g. tt) (λ x y. tt) (λ x y. tt) (arrival_over by) labs L (length M) a j b l q.1 g h in
       let sn = settles-next i labs L M Ls s in
       let same = same-gather (arrivals_at (arrival_over by) b labs L) n.0 (arrival_over by l j) (agreed-at labs L (length M) b sn.0 h)
       (next-some (arrival_over by) (merge by.rule by.tally) labs L (length M) b n.0 n.1) (ins-in (arrival_over by) (merge by.rule by.tally) b labs L a j l q.1 g) in
       rw (← (snoc-assoc p w j)) (paths-sound (suc i) (p ++ (j ∷ [])) w (labels_next by labs L (length M)) (M ∷ Ls) b n.0 (omega (arith, length-snoc p j)) sn.1 n.1
-      (exact_same (arrival_over by l j) n.0 (p ++ (j ∷ [])) same on.exact) on.sound neat.1 q.2)
+      (exact_same (arrival_over by l j) n.0 (p ++ (j ∷ [])) same on.exact) on.sound even.1 q.2)
 
-  pub paths-allowed : (D : Net) (w : List ℕ) → length D ≡ by.round.n → Neat by.round.n D → settled by D ≡ true → PathFrom D 0 w → IsAllowed by.round Keeps w
+  pub paths-allowed : (D : Net) (w : List ℕ) → length D ≡ by.round.n → IsEven by.round.n D → settled by D ≡ true → PathFrom D 0 w → IsAllowed by.round Keeps w
   unfolding settled
-  paths-allowed D w t neat s q =
-      let o = paths-sound 0 [] w (first_labels by.rule by.tally) D 0 (first_label by.rule by.tally) (omega arith) s refl exact-first sound_none neat q in
+  paths-allowed D w t even s q =
+      let o = paths-sound 0 [] w (first_labels by.rule by.tally) D 0 (first_label by.rule by.tally) (omega arith) s refl exact-first sound_none even q in
       record { whole = path-length D 0 w q ∙ t; part = o.told.part; keeps = o.keeps; timely = o.timely }
 
   -- ---- the bound is the cost of a path
@@ -229,42 +230,42 @@ module _ {S V : Type 0} {Keeps : List ℕ → Type 0} {Stands : S → List ℕ �
     }
 
     -- to whatever gathered it: bit_of of the arrivals has its value
-    over : (Ls : Net) (L : Layer) (i k : ℕ) (labs : List (Option (Down S V))) (b : ℕ) (m : Down S V) → k < 16 → NeatLayer by.round.n L → settles by i labs (L ∷ Ls) ≡ true
+    over : (Ls : Net) (L : Layer) (i k : ℕ) (labs : List (Option (Down S V))) (b : ℕ) (m : Down S V) → k < 16 → EvenLayer by.round.n L → settles by i labs (L ∷ Ls) ≡ true
         → ((a : ℕ) (l : Down S V) → get_or labs a None ≡ Some l → Reached (L ∷ Ls) k a l) → gather (merge by.rule by.tally) (arrivals_at (arrival_over by) b labs L) ≡ Some m
         → (x : Down S V) × Among x (arrivals_at (arrival_over by) b labs L) × (x.value ≡ m.value) × Reached Ls (suc k) b x
-    over Ls L i k labs b m h neat s reach g =
+    over Ls L i k labs b m h even s reach g =
         let v = value-gather (arrivals_at (arrival_over by) b labs L) m g in
         let f = ins-from (arrival_over by) b labs L v.0 v.1 in
         let c = reach f.source f.label f.labelled in
-        let on = onward f.label c.way f.door (omega (arith, c.long)) (neat-door by.round L neat f.source f.door b f.arc) c.sound c.exact
+        let on = onward f.label c.way f.door (omega (arith, c.long)) (even-door by.round L even f.source f.door b f.arc) c.sound c.exact
         (settles-arc i labs L Ls f.source f.door b f.label s f.arc f.labelled) in
         (v.0, v.1, v.2, onto Ls L k labs b v.0 f c on)
 
-    attain : (i k : ℕ) (labs : List (Option (Down S V))) (Ls : Net) (l : Down S V) → k + length Ls ≡ by.round.n → settles by i labs Ls ≡ true → Neat by.round.n Ls
+    attain : (i k : ℕ) (labs : List (Option (Down S V))) (Ls : Net) (l : Down S V) → k + length Ls ≡ by.round.n → settles by i labs Ls ≡ true → IsEven by.round.n Ls
         → ((a : ℕ) (l : Down S V) → get_or labs a None ≡ Some l → Reached Ls k a l) → end_label (arrival_over by) (merge by.rule by.tally) labs Ls ≡ Some l
         → (w : List ℕ) × PathFrom D 0 w × (cost by.round by.tally w ≡ l.value)
     unfolding end_label labels_next
-    attain i k labs [] l t s neat reach g =
+    attain i k labs [] l t s even reach g =
         let c = reach 0 l g in (c.way ++ [], c.leads [] refl, ap (cost by.round by.tally) (append-nil c.way) ∙ sym c.worth)
-    attain i k labs (L ∷ []) l t s neat reach g =
-        let x = over [] L i k labs 0 l (omega (arith, by.round.most)) neat.0 s reach (next-some (arrival_over by) (merge by.rule by.tally) labs L 1 0 l g) in
+    attain i k labs (L ∷ []) l t s even reach g =
+        let x = over [] L i k labs 0 l (omega (arith, by.round.most)) even.0 s reach (next-some (arrival_over by) (merge by.rule by.tally) labs L 1 0 l g) in
         let c = x.3 in
         (c.way ++ [], c.leads [] refl, ap (cost by.round by.tally) (append-nil c.way) ∙ sym c.worth ∙ x.2)
-    attain i k labs (L ∷ M ∷ Ls) l t s neat reach g =
+    attain i k labs (L ∷ M ∷ Ls) l t s even reach g =
         let sn = settles-next i labs L M Ls s in
-        attain (suc i) (suc k) (labels_next by labs L (length M)) (M ∷ Ls) l (omega arith) sn.1 neat.1
+        attain (suc i) (suc k) (labels_next by labs L (length M)) (M ∷ Ls) l (omega arith) sn.1 even.1
         (λ b m e.
         let e' = next-some (arrival_over by) (merge by.rule by.tally) labs L (length M) b m e in
         let h = next-within (arrival_over by) (merge by.rule by.tally) labs L (length M) b m e in
-        let x = over (M ∷ Ls) L i k labs b m (omega (arith, by.round.most)) neat.0 s reach e' in
+        let x = over (M ∷ Ls) L i k labs b m (omega (arith, by.round.most)) even.0 s reach e' in
         let same = same-gather (arrivals_at (arrival_over by) b labs L) m x.0 (agreed-at labs L (length M) b sn.0 h) e' x.1 in
         let c = x.3 in
         record { way = c.way; leads = c.leads; sound = c.sound; exact = exact_same x.0 m c.way same c.exact; worth = sym x.2 ∙ c.worth; long = c.long })
         g
 
-    pub bound-attained : (v : V) → length D ≡ by.round.n → Neat by.round.n D → settled by D ≡ true → bound by D ≡ Some v → (w : List ℕ) × PathFrom D 0 w × (cost by.round by.tally w ≡ v)
+    pub bound-attained : (v : V) → length D ≡ by.round.n → IsEven by.round.n D → settled by D ≡ true → bound by D ≡ Some v → (w : List ℕ) × PathFrom D 0 w × (cost by.round by.tally w ≡ v)
     unfolding settled bound
-    bound-attained v t neat s e = go (end_label (arrival_over by) (merge by.rule by.tally) (first_labels by.rule by.tally) D) refl e
+    bound-attained v t even s e = go (end_label (arrival_over by) (merge by.rule by.tally) (first_labels by.rule by.tally) D) refl e
       where
         start : (a : ℕ) (l : Down S V) → get_or (first_labels by.rule by.tally) a None ≡ Some l → Reached D 0 a l
         start zero l f = let x : first_label by.rule by.tally ≡ l = cc in
@@ -275,4 +276,4 @@ module _ {S V : Type 0} {Keeps : List ℕ → Type 0} {Stands : S → List ℕ �
         go None f g = absurd cc
         go (Some l) f g =
             let y : l.value ≡ v = cc in
-            let c = attain 0 0 (first_labels by.rule by.tally) D l (omega arith) s neat start f in (c.0, c.1, c.2 ∙ y)
+            let c = attain 0 0 (first_labels by.rule by.tally) D l (omega arith) s even start f in (c.0, c.1, c.2 ∙ y)

@@ -5,12 +5,16 @@ use Rattle.std.proofs.lemmas.List.{get_or-map}
 use Rattle.layers.specs.Net.{table, Outs, Layer, Net, node, target, width, PathFrom, each_door, each_node, redirect}
 use Rattle.layers.specs.Flow.{put, arrivals_by_door, arrivals_at, gather, next, read, cons_if_some, climbs_of, up}
 use Rattle.layers.specs.Tidy.{Mark, marks_next, marks_up, flags, rank, compress, renumber, tidy, tidied_arcs}
-use Rattle.layers.specs.Labels.{arrival_over}
+use Rattle.layers.specs.Targets.{at_door}
 
 -- membership, in lists of any kind
 abbrev pub Among : {A : Type 0} → A → List A → Type 0
 Among x [] = ⊥
 Among x (y ∷ l) = (x ≡ y) ⊎ Among x l
+
+-- as many targets to each node of a layer as there are doors
+abbrev pub EvenLayer : ℕ → Layer → Type 0
+EvenLayer n L = (a : ℕ) → a < length L → length (node L a) ≡ n
 
 pub table_at : {A : Type 0} (n k : ℕ) (f : ℕ → A) (d : A) → k < n → get_or (table n f) k d ≡ f k
 table_at zero k f d h = absurd (not-suc-le-zero h)
@@ -22,25 +26,27 @@ table-long zero f = refl
 table-long (suc k) f = ap suc (table-long k (λ m. f (suc m)))
 
 -- ---- redirecting
-each_door-at : (f : ℕ → ℕ → ℕ) (j : ℕ) (ts : Outs) (k m b : ℕ) → j + k ≡ m → get_or ts k 0 ≡ suc b → get_or (each_door f j ts) k 0 ≡ f m b
+each_door-get : (f : ℕ → ℕ → ℕ) (j : ℕ) (ts : Outs) (k m : ℕ) → j + k ≡ m → get_or (each_door f j ts) k 0 ≡ at_door f m (get_or ts k 0)
 unfolding each_door
-each_door-at f j [] k m b h e = absurd (omega arith)
-each_door-at f j (zero ∷ ts) zero m b h e = absurd (omega arith)
-each_door-at f j (zero ∷ ts) (suc k) m b h e = each_door-at f (suc j) ts k m b (omega arith) e
-each_door-at f j (suc c ∷ ts) zero m b h e = let x : j ≡ m = omega arith in let y : c ≡ b = omega arith in cc
-each_door-at f j (suc c ∷ ts) (suc k) m b h e = each_door-at f (suc j) ts k m b (omega arith) e
+each_door-get f j [] k m h = refl
+each_door-get f j (zero ∷ ts) zero m h = refl
+each_door-get f j (suc c ∷ ts) zero m h = ap (λ (x : ℕ). f x c) (omega arith)
+each_door-get f j (zero ∷ ts) (suc k) m h = each_door-get f (suc j) ts k m (omega arith)
+each_door-get f j (suc c ∷ ts) (suc k) m h = each_door-get f (suc j) ts k m (omega arith)
 
-each_node-at : (f : ℕ → ℕ → ℕ → ℕ) (c : ℕ) (L : Layer) (a m j b : ℕ) → c + a ≡ m → target (node L a) j ≡ suc b → target (node (each_node f c L) a) j ≡ f m j b
+each_node-get : (f : ℕ → ℕ → ℕ → ℕ) (c : ℕ) (L : Layer) (a m j : ℕ) → c + a ≡ m → target (node (each_node f c L) a) j ≡ at_door (f m) j (target (node L a) j)
 unfolding each_node
-each_node-at f c [] a m zero b h e = absurd (omega arith)
-each_node-at f c [] a m (suc k) b h e = absurd (omega arith)
-each_node-at f c (nd ∷ L) zero m zero b h e = absurd (omega arith)
-each_node-at f c (nd ∷ L) zero m (suc k) b h e = each_door-at (f c) 1 nd k (suc k) b (omega arith) e ∙ ap (λ (x : ℕ). f x (suc k) b) (omega arith)
-each_node-at f c (nd ∷ L) (suc a) m j b h e = each_node-at f (suc c) L a m j b (omega arith) e
+each_node-get f c L a m zero h = refl
+each_node-get f c [] a m (suc k) h = refl
+each_node-get f c (nd ∷ L) zero m (suc k) h = each_door-get (f c) 1 nd k (suc k) (omega arith) ∙ ap (λ (x : ℕ). at_door (f x) (suc k) (get_or nd k 0)) (omega arith)
+each_node-get f c (nd ∷ L) (suc a) m (suc k) h = each_node-get f (suc c) L a m (suc k) (omega arith)
+
+pub redirect-get : (f : ℕ → ℕ → ℕ → ℕ) (L : Layer) (a j : ℕ) → target (node (redirect f L) a) j ≡ at_door (f a) j (target (node L a) j)
+unfolding redirect
+redirect-get f L a j = each_node-get f 0 L a a j (omega arith)
 
 pub redirect-arc : (f : ℕ → ℕ → ℕ → ℕ) (L : Layer) (a j b : ℕ) → target (node L a) j ≡ suc b → target (node (redirect f L) a) j ≡ f a j b
-unfolding redirect
-redirect-arc f L a j b e = each_node-at f 0 L a a j b (omega arith) e
+redirect-arc f L a j b e = redirect-get f L a j ∙ ap (at_door (f a) j) e
 
 -- ---- places in range
 pub has-arc : (L : Layer) (a j b : ℕ) → target (node L a) j ≡ suc b → a < length L

@@ -13,39 +13,13 @@ use Rattle.layers.proofs.Ties.{drop-length}
 use Rattle.layers.specs.Settings.{Setting}
 use Rattle.layers.specs.declared.node.Down.{Down}
 
-compress-short : (fs : List Bool) (L : Layer) (m : ℕ) → length L ≤ m → length (compress fs L) ≤ m
+pub compress-short : (fs : List Bool) (L : Layer) (m : ℕ) → length L ≤ m → length (compress fs L) ≤ m
 unfolding compress
 compress-short [] L m h = omega arith
 compress-short (f ∷ fs) [] m h = omega arith
 compress-short (true ∷ fs) (x ∷ L) zero h = absurd (not-suc-le-zero h)
 compress-short (true ∷ fs) (x ∷ L) (suc m) h = let z = compress-short fs L m (le_of_suc-le-suc h) in omega arith
 compress-short (false ∷ fs) (x ∷ L) m h = compress-short fs L m (omega arith)
-
-module _ (W : ℕ) where
-  roomy-tidy : (fr : List (Option Mark)) (Ls : Net) → IsRoomy W Ls → IsRoomy W (tidy fr Ls)
-  unfolding tidy
-  roomy-tidy fr [] h = tt
-  roomy-tidy fr (L ∷ Ls) h = (
-    compress-short (flags fr (marks_up (L ∷ Ls))) (redirect (λ a j b. renumber (flags (marks_next fr L (width Ls)) (marks_up Ls)) b) L) W
-        (omega (arith, h.0, redirect-length (λ a j b. renumber (flags (marks_next fr L (width Ls)) (marks_up Ls)) b) L)),
-    roomy-tidy (marks_next fr L (width Ls)) Ls h.1,
-  )
-
-  pub roomy-tidied : (Ls : Net) → IsRoomy W Ls → IsRoomy W (tidied_arcs Ls)
-  unfolding tidied_arcs
-  roomy-tidied [] h = tt
-  roomy-tidied (L ∷ Ls) h =
-      (omega (arith, h.0, redirect-length (λ a j b. renumber (flags (marks_next (Some tt ∷ []) L (width Ls)) (marks_up Ls)) b) L), roomy-tidy (marks_next (Some tt ∷ []) L (width Ls)) Ls h.1)
-
-  pub roomy-join : (d lo hi : ℕ) (Ls : Net) → hi < length (get_or Ls (suc d) []) → IsRoomy W Ls → IsRoomy W (joined_arcs d lo hi Ls)
-  unfolding joined_arcs
-  roomy-join zero lo hi [] k h = h
-  roomy-join (suc d) lo hi [] k h = h
-  roomy-join zero lo hi (L ∷ []) k h = h
-  roomy-join zero lo hi (L ∷ M ∷ Ls) k h =
-      let v = both_out (node M lo) (node M hi) in
-      (omega (arith, h.0, redirect-length (λ a j b. suc (place_after_join lo hi b)) L), (omega (arith, h.1.0, drop-length hi (set M lo v) (omega (arith, length-set M lo v)), length-set M lo v), h.1.1))
-  roomy-join (suc d) lo hi (L ∷ Ls) k h = (h.0, roomy-join d lo hi Ls k h.1)
 
 module _ {S V : Type 0} (by : Setting S V) (w : 1 ≤ by.width) where
   pub roomy-open : (k : ℕ) → IsRoomy by.width (table k (λ i. all_doors by.round.n ∷ []))

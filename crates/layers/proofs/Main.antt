@@ -5,17 +5,16 @@ use Rattle.rules.specs.Rules.{RuleLaws, RuleSense}
 use Rattle.tallies.specs.Tallies.{TallyLaws, TallySense}
 use Rattle.orders.specs.Allowed.{IsAllowed}
 use Rattle.orders.specs.Costs.{cost}
+use Rattle.layers.specs.Lawful.{IsEven, IsLawful}
 use Rattle.layers.specs.declared.node.Node.{Node}
 use Rattle.layers.specs.Net.{Net, PathFrom, has_path_with}
 use Rattle.layers.specs.declared.call.Call.{Call}
 use Rattle.layers.specs.Calls.{arcs, after_open, after_calls, records_with, bound, must, is_settled}
 use Rattle.layers.specs.Claim.{MustMeans, NothingLost, NothingFalse, ClaimAlwaysHolds, LabelsStand, SettledMeans}
 use Rattle.layers.proofs.Model.{bound as boundOf, settled as settled_of}
-use Rattle.layers.proofs.Walk.{Neat}
 use Rattle.layers.proofs.Calls.{still, bound-below}
 use Rattle.layers.proofs.Seeks.{seen, sought, all_there, one-ahead}
 use Rattle.layers.proofs.Exact.{paths-allowed, bound-attained}
-use Rattle.layers.proofs.Proper.{Proper, neat-of}
 use Rattle.layers.proofs.Standing.{Reached, arcs-of, bound-X, settled-X, settled-means-X, after_end, run-reached}
 use Rattle.layers.specs.Settings.{Setting, setting}
 
@@ -39,18 +38,15 @@ module _ {S V : Type 0} {Keeps : List ℕ → Type 0} {Stands : S → List ℕ �
   same : D ≡ r.net
   same = arcs-of by w1 (after_end by w1 lent) (λ Ls. Unit {0}) Y r
 
-  well : Proper by.round.n by.width D
+  well : IsLawful by.round.n by.width D
   well = rw same r.well
-
-  neat : Neat by.round.n D
-  neat = neat-of by.round.n D well.even
 
   of-bound : boundOf by D ≡ bound by.round.n by.width Y
   of-bound = rw same (sym (ap (bound by.round.n by.width) r.is ∙ bound-X by w1 (after_end by w1 lent) r.net r.well))
 
   -- the bound, where w is an allowed order that is a path
   below : (w : List ℕ) → IsAllowed by.round Keeps w → PathFrom D 0 w → (v : V) × (bound by.round.n by.width Y ≡ Some v) × (by.tally.not_above v (cost by.round by.tally w) ≡ true)
-  below w o q = let b = bound-below by ruled tallied w D o neat q in (b.0, sym of-bound ∙ b.1, b.2)
+  below w o q = let b = bound-below by ruled tallied w D o well.even q in (b.0, sym of-bound ∙ b.1, b.2)
 
   none-lost : NothingLost by Keeps cs Y
   none-lost = record {
@@ -67,10 +63,10 @@ module _ {S V : Type 0} {Keeps : List ℕ → Type 0} {Stands : S → List ℕ �
   none-false : is_settled by Y ≡ true → NothingFalse by Keeps cs Y
   none-false s =
       let s' : settled_of by D ≡ true = rw same (sym (ap (is_settled by) r.is ∙ settled-X by w1 (after_end by w1 lent) r.net r.well) ∙ s) in
-      let ok : (w : List ℕ) → PathFrom D 0 w → IsAllowed by.round Keeps w = λ w q. paths-allowed by ruled tallied D w well.deep neat s' q in
+      let ok : (w : List ℕ) → PathFrom D 0 w → IsAllowed by.round Keeps w = λ w q. paths-allowed by ruled tallied D w well.deep well.even s' q in
       record {
         allowed = ok;
-        least = λ v e. bound-attained by ruled tallied D v well.deep neat s' (of-bound ∙ e);
+        least = λ v e. bound-attained by ruled tallied D v well.deep well.even s' (of-bound ∙ e);
         least_of = λ v e w q. let b = below w (ok w q) q in let x : b.0 ≡ v = cc (b.1, e) in rw (← x) b.2;
         least_none = λ e w q. let b = below w (ok w q) q in let z : ◌≡◌ {A = ℕ} 0 1 = cc (b.1, e) in omega arith;
         must_no = λ i j e. (must-means by.round.n by.width i j Y).no' e;

@@ -6,17 +6,16 @@ use Rattle.tallies.specs.Tallies.{TallyLaws, TallySense}
 use Rattle.layers.specs.declared.node.Node.{Node}
 use Rattle.layers.specs.Net.{Net, width, PathFrom}
 use Rattle.layers.specs.Flow.{up}
-use Rattle.layers.specs.Lawful.{IsTied}
+use Rattle.layers.specs.Lawful.{IsEven, IsLawful, IsTied}
 use Rattle.layers.specs.Labels.{first_labels, labels_next, no_up, ups}
 use Rattle.layers.specs.Records.{nodes_in, padded_targets, record_of_place}
 use Rattle.layers.specs.Calls.{arcs, layer}
 use Rattle.layers.specs.LabelLaws.{LeadsTo, Labelled, LabelsMean}
 use Rattle.layers.proofs.Flows.{table_at}
 use Rattle.layers.proofs.Model.{or_blank, or_no_up, labels_at}
-use Rattle.layers.proofs.Walk.{Neat, Good}
+use Rattle.layers.proofs.Walk.{Good}
 use Rattle.layers.proofs.Lively.{way_on}
 use Rattle.layers.proofs.Bridge.{Labs, Full, top, stood, table-long}
-use Rattle.layers.proofs.Proper.{Proper, neat-of}
 use Rattle.layers.proofs.Standing.{X, full, nodes-X, arcs-X, after_end, run-reached}
 use Rattle.layers.proofs.Means.{Tells, all-exact, some-exact, owed-at, tells_at, good-at, up-exact}
 use Rattle.layers.specs.Settings.{Setting, setting}
@@ -76,13 +75,13 @@ module _ {S V : Type 0} {Keeps : List ℕ → Type 0} {Stands : S → List ℕ �
 
   module _ {Allows : ℕ → V → Type 0} (tallied : TallyLaws by.round.n by.tally Allows) where
     -- on the arcs
-    labelled : (D : Net) → Proper by.round.n by.width D → Neat by.round.n D → (i a : ℕ) (x : Node S V) → i ≤ length D
+    labelled : (D : Net) → IsLawful by.round.n by.width D → IsEven by.round.n D → (i a : ℕ) (x : Node S V) → i ≤ length D
         → Stands-at (labels_at by i (first_labels by.rule by.tally) D) (drop i D) a x → Labelled Allows D i a x
-    labelled D p neat i a x h s =
+    labelled D p even i a x h s =
         let o = owed-at by ruled w1 D i h a s.label s.labelled in
         let t : (w : List ℕ) → LeadsTo D i a w → Tells s.label.all s.label.some w =
         λ w q. let y = tells_at by ruled w1 D p.tied i h a w q in let e : y.0 ≡ s.label = cc (y.1, s.labelled) in rw (← e) y.2 in
-        let g : Allows i s.label.value × (s.label.finish ≤ latest_finish i) = unfold Good in good-at by ruled w1 D tallied (omega (arith, p.deep, by.round.most)) neat i h a s.label s.labelled in
+        let g : Allows i s.label.value × (s.label.finish ≤ latest_finish i) = unfold Good in good-at by ruled w1 D tallied (omega (arith, p.deep, by.round.most)) even i h a s.label s.labelled in
         let u = up-exact (drop i D) a in
         record {
           reached = o.way;
@@ -96,14 +95,14 @@ module _ {S V : Type 0} {Keeps : List ℕ → Type 0} {Stands : S → List ℕ �
         }
 
     -- on the records
-    labelled-X : (later : List (Node S V)) (D : Net) → Proper by.round.n by.width D → (i a : ℕ) (other : Node S V) → i ≤ by.round.n
+    labelled-X : (later : List (Node S V)) (D : Net) → IsLawful by.round.n by.width D → (i a : ℕ) (other : Node S V) → i ≤ by.round.n
         → let Y = X by w1 later D in a < length (layer by.round.n by.width i Y) → Labelled Allows (arcs by.round.n by.width Y) i a (get_or (layer by.round.n by.width i Y) a other)
     labelled-X later D p i a other h k =
         let labs = labels_at by i (first_labels by.rule by.tally) D in
         let h' : i ≤ length D = omega (arith, p.deep) in
         let e : layer by.round.n by.width i (X by w1 later D) ≡ top by w1 labs (drop i D) = rw (nodes-X by w1 later D p) (stood-top i (first_labels by.rule by.tally) D h') in
         let s = top-at labs (drop i D) a other (full_at i (first_labels by.rule by.tally) D h' (full by w1 later D p)) (rw (← e) k) in
-        rw (arcs-X by w1 later D p, e) (labelled D p (neat-of by.round.n D p.even) i a (get_or (top by w1 labs (drop i D)) a other) h' s)
+        rw (arcs-X by w1 later D p, e) (labelled D p p.even i a (get_or (top by w1 labs (drop i D)) a other) h' s)
 
 pub labels-mean : {S V : Type 0} {Keeps : List ℕ → Type 0} {Stands : S → List ℕ → Type 0} {Allows : ℕ → V → Type 0} (A B : ℕ → Type 0) (rule : RuleSense S) (tally : TallySense V)
     → ((n : ℕ) → A n → RuleLaws n rule Keeps Stands) → ((n : ℕ) → B n → TallyLaws n tally Allows) → LabelsMean A rule B tally Allows

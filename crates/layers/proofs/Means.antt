@@ -10,14 +10,14 @@ use Rattle.tallies.specs.Tallies.{TallyLaws}
 use Rattle.layers.specs.declared.node.Up.{Up}
 use Rattle.layers.specs.Net.{Layer, Net, node, target, width, PathFrom}
 use Rattle.layers.specs.Flow.{arrivals_at, gather, climbs_of, up}
-use Rattle.layers.specs.Lawful.{IsRanged, IsTied}
+use Rattle.layers.specs.Lawful.{IsEven, IsRanged, IsTied}
 use Rattle.layers.specs.Labels.{bit_of, climb, merge_up, no_up, ups, first_label, arrival_over, merge, first_labels, labels_next}
 use Rattle.layers.specs.LabelLaws.{PathTo, LeadsTo, OnEvery, OnOne, Exactly}
 use Rattle.doors.proofs.Orders.{in_left}
-use Rattle.layers.proofs.Flows.{Climbs, outs-from, map-some, From, ins-from, next-some, next-at, gather-all}
+use Rattle.layers.proofs.Flows.{EvenLayer, Climbs, outs-from, map-some, From, ins-from, next-some, next-at, gather-all}
 use Rattle.layers.proofs.Sets.{or_left, or_right, or_split, and_left, and_right, one-self, one_only, none_has}
 use Rattle.layers.proofs.Ways.{in_split, in-snd, length-snoc}
-use Rattle.layers.proofs.Walk.{NeatLayer, Neat, path-up, Good, good-first, good-next}
+use Rattle.layers.proofs.Walk.{path-up, Good, good-first, good-next}
 use Rattle.layers.proofs.Bridge.{Labs}
 use Rattle.layers.proofs.Model.{or_no_up, labels_at}
 use Rattle.layers.specs.Settings.{Setting}
@@ -120,10 +120,10 @@ ranged-at (L ∷ []) (suc d) t h = absurd (not-suc-le-zero (le_of_suc-le-suc h))
 ranged-at (L ∷ M ∷ Ls) zero t h = t.0
 ranged-at (L ∷ M ∷ Ls) (suc d) t h = ranged-at (M ∷ Ls) d t.3 (le_of_suc-le-suc h)
 
-neat-at : (n : ℕ) (D : Net) (d : ℕ) → Neat n D → d < length D → NeatLayer n (get_or D d [])
-neat-at n [] d s h = absurd (not-suc-le-zero h)
-neat-at n (L ∷ Ls) zero s h = s.0
-neat-at n (L ∷ Ls) (suc d) s h = neat-at n Ls d s.1 (le_of_suc-le-suc h)
+even-at : (n : ℕ) (D : Net) (d : ℕ) → IsEven n D → d < length D → EvenLayer n (get_or D d [])
+even-at n [] d s h = absurd (not-suc-le-zero h)
+even-at n (L ∷ Ls) zero s h = s.0
+even-at n (L ∷ Ls) (suc d) s h = even-at n Ls d s.1 (le_of_suc-le-suc h)
 
 -- ---- downward
 module _ {S V : Type 0} {Keeps : List ℕ → Type 0} {Stands : S → List ℕ → Type 0} (by : Setting S V) (ruled : RuleLaws by.round.n by.rule Keeps Stands) (w1 : 1 ≤ by.width) where
@@ -180,10 +180,10 @@ module _ {S V : Type 0} {Keeps : List ℕ → Type 0} {Stands : S → List ℕ �
         )
 
     -- values and finishes
-    pub good-at : {Allows : ℕ → V → Type 0} (tallied : TallyLaws by.round.n by.tally Allows) → length D ≤ 16 → Neat by.round.n D → (d : ℕ) → d ≤ length D → Good by ruled tallied d (At d D)
+    pub good-at : {Allows : ℕ → V → Type 0} (tallied : TallyLaws by.round.n by.tally Allows) → length D ≤ 16 → IsEven by.round.n D → (d : ℕ) → d ≤ length D → Good by ruled tallied d (At d D)
     good-at tallied k s zero h = good-first by ruled tallied
     good-at tallied k s (suc d) h =
-        rw (labs-step d (first_labels by.rule by.tally) D h) (good-next by ruled tallied d (At d D) (get_or D d []) (width (drop (suc d) D)) (omega arith) (good-at tallied k s d (omega arith)) (neat-at by.round.n D d s h))
+        rw (labs-step d (first_labels by.rule by.tally) D h) (good-next by ruled tallied d (At d D) (get_or D d []) (width (drop (suc d) D)) (omega arith) (good-at tallied k s d (omega arith)) (even-at by.round.n D d s h))
 
 -- ---- upward
 ups-node : (L : Layer) (Ls : Net) (a : ℕ) (u : Up) → get_or (ups (L ∷ Ls)) a None ≡ Some u → gather merge_up (climbs_of climb (ups Ls) 1 (node L a)) ≡ Some u

@@ -7,19 +7,18 @@ use Rattle.round.specs.declared.table.Round.{Round}
 use Rattle.layers.specs.declared.node.Node.{Node}
 use Rattle.layers.specs.Net.{table, Outs, Layer, Net, node, target, width, count_doors, count_layer}
 use Rattle.layers.specs.Tidy.{tidied_arcs}
-use Rattle.layers.specs.Lawful.{IsTied, IsRoomy}
+use Rattle.layers.specs.Lawful.{IsEven, IsLawful, IsRoomy, IsTied}
 use Rattle.layers.specs.declared.node.Up.{Up}
 use Rattle.layers.specs.Labels.{first_labels, labels_next, no_up}
 use Rattle.layers.specs.Records.{is_used, nodes_in, layers, arcs_in, arcs_of_layers, arcs_at, laid_arcs, arcs_read, record_of_place}
 use Rattle.layers.specs.Calls.{arcs, layer, records_with}
 use Rattle.layers.specs.Shape.{targets_of, HasEnd, IsShaped}
-use Rattle.layers.proofs.Flows.{Among}
+use Rattle.layers.proofs.Flows.{EvenLayer, Among}
 use Rattle.layers.proofs.Bridge.{ups-end, Full, top, stood, table-long}
 use Rattle.layers.proofs.Counts.{tidied-same}
 use Rattle.layers.proofs.Tied.{tidied-tied}
 use Rattle.layers.proofs.Places.{end-at}
 use Rattle.layers.proofs.Standing.{full, nodes-X, arcs-X, written}
-use Rattle.layers.proofs.Proper.{EvenLayer, EvenIn, Proper}
 use Rattle.layers.specs.Settings.{Setting}
 use Rattle.layers.specs.declared.node.Down.{Down}
 
@@ -83,11 +82,11 @@ module _ {S V : Type 0} (n W : ℕ) where
       go false h f = absurd h
 
   arcs-even : (us : List (Node S V)) → n ≤ 16 → Long us → EvenLayer n (arcs_in n us)
-  arcs-even [] h l nd i = absurd i
-  arcs-even (u ∷ us) h l nd (inl e) = ap length e ∙ length-take-le n u.arcs.to (omega (arith, l u (inl refl)))
-  arcs-even (u ∷ us) h l nd (inr i) = arcs-even us h (λ x j. l x (inr j)) nd i
+  arcs-even [] h l a k = absurd (omega arith)
+  arcs-even (u ∷ us) h l zero k = length-take-le n u.arcs.to (omega (arith, l u (inl refl)))
+  arcs-even (u ∷ us) h l (suc a) k = arcs-even us h (λ x j. l x (inr j)) a (omega arith)
 
-  drawn-even : (k : ℕ) (xs : List (Node S V)) → n ≤ 16 → Long (take (k * W + 1) xs) → EvenIn n (arcs_of_layers n (layers W k xs))
+  drawn-even : (k : ℕ) (xs : List (Node S V)) → n ≤ 16 → Long (take (k * W + 1) xs) → IsEven n (arcs_of_layers n (layers W k xs))
   drawn-even zero xs h l = tt
   drawn-even (suc zero) xs h l = (arcs-even (nodes_in (take W xs)) h (λ x i. l x (take-among W (suc 0 * W + 1) xs x (omega (arith, suc-mul 0 W)) (standing-among (take W xs) x i))), tt)
   drawn-even (suc (suc k)) xs h l =
@@ -115,7 +114,7 @@ targets-among (u ∷ us) x (inr i) = inr (targets-among us x i)
 
 -- ---- the arcs of records of that shape
 module _ {S V : Type 0} (r : Round) (W : ℕ) (xs : List (Node S V)) where
-  pub shaped-proper : IsShaped r.n W xs → Proper r.n W (arcs r.n W xs)
+  pub shaped-proper : IsShaped r.n W xs → IsLawful r.n W (arcs r.n W xs)
   shaped-proper s = record {
     deep = drawn-deep r.n W r.n xs;
     one_first = s.first;
@@ -186,7 +185,7 @@ ended-one n W xs h a j b e =
     omega (arith, h, some, at, short, length-take 1 (drop (n * W) xs))
 
 -- ---- arcs laid out anew
-module _ {S V : Type 0} (by : Setting S V) (w : 1 ≤ by.width) (xs : List (Node S V)) (Ls : Net) (p : Proper by.round.n by.width Ls) where
+module _ {S V : Type 0} (by : Setting S V) (w : 1 ≤ by.width) (xs : List (Node S V)) (Ls : Net) (p : IsLawful by.round.n by.width Ls) where
   pub arcs-relaid : arcs by.round.n by.width (records_with by xs Ls) ≡ Ls
   unfolding records_with
   arcs-relaid = arcs-X by w (drop (by.round.n * by.width + 1) xs) Ls p

@@ -2,7 +2,7 @@
 use Rattle.std.proofs.Common.{◌≡◌, ℕ, zero, suc, ◌-◌, ◌<◌, ◌≤◌, Bool, true, false, cond, not, ◌&&◌, eqb, ltb, List, [], ◌∷◌, ◌++◌, length, get_or, set, None, Option, refl, ap, ◌∙◌, le_of_suc-le-suc, not-suc-le-zero, arith}
 use Rattle.std.proofs.lemmas.Bool.{true≢false, ltb-true, ltb-false, eqb-true, eqb-false, and_parts, or_parts}
 use Rattle.std.proofs.lemmas.List.{get_or_append_left, get_or_push, get_or-set_same, get_or-set_other}
-use Rattle.layers.specs.Net.{Outs, Layer, Net, node, target, width, PathFrom, each_door, redirect}
+use Rattle.layers.specs.Net.{Outs, Layer, Net, node, target, width, PathFrom, redirect}
 use Rattle.layers.specs.Flow.{arrivals_at}
 use Rattle.layers.specs.Join.{either_target, both_out, targets_differ, clash, without_place, place_after_join, joined_arcs}
 use Rattle.layers.specs.Labels.{arrival_over, labels_next, differs_from_first, first_arrival}
@@ -139,9 +139,3 @@ join-keeps zero lo hi (L ∷ M ∷ Ls) x (j ∷ k ∷ w) a b n p =
     (place_after_join lo hi p.0, redirect-arc (λ a j b. suc (place_after_join lo hi b)) L x j p.0 p.1, (p.2.0, join-node M lo hi p.0 k p.2.0 a b n p.2.1, p.2.2))
 join-keeps (suc d) lo hi (L ∷ Ls) x [] a b n p = absurd p
 join-keeps (suc d) lo hi (L ∷ Ls) x (j ∷ w) a b n p = (p.0, p.1, join-keeps d lo hi Ls p.0 w a b n p.2)
-
-pub each_door-length : (f : ℕ → ℕ → ℕ) (j : ℕ) (ts : Outs) → length (each_door f j ts) ≡ length ts
-unfolding each_door
-each_door-length f j [] = refl
-each_door-length f j (zero ∷ ts) = ap suc (each_door-length f (suc j) ts)
-each_door-length f j (suc b ∷ ts) = ap suc (each_door-length f (suc j) ts)

@@ -8,8 +8,8 @@ use Rattle.layers.specs.Tidy.{Mark, marks_next, marks_up, flags, rank, compress,
 use Rattle.layers.specs.LabelLaws.{PathTo}
 use Rattle.layers.specs.TidyLaws.{layer_of, IsOnPath, Stays, CountBelow, Becomes, IsRenumbered, IsTidied, TidyMeans, IsTidy, TidyStays}
 use Rattle.layers.proofs.Flows.{has-arc, inside, redirect-arc, mark-next, mark-up, flags-at, compress-at, rank-zero, renumber-at, tidy-keeps}
-use Rattle.layers.proofs.Shapes.{each_door-length}
-use Rattle.layers.proofs.Tied.{redirect-back, redirect-length, flags-back, renumber-back, marked_from, climbs-from}
+use Rattle.layers.proofs.Proper.{tidied-length}
+use Rattle.layers.proofs.Tied.{redirect-back, redirect-length, redirect-long, flags-back, renumber-back, marked_from, climbs-from}
 
 -- ---- counting
 count-only : (P : ℕ → Type 0) (b k m : ℕ) → CountBelow P b k → CountBelow P b m → k ≡ m
@@ -151,18 +151,11 @@ module _ (D : Net) where
       go [] = refl
       go (L ∷ Ls) = tidy-at (marks_next start L (width Ls)) Ls i
 
-  each_node-long : (f : ℕ → ℕ → ℕ → ℕ) (c : ℕ) (L : Layer) (a : ℕ) → length (node (each_node f c L) a) ≡ length (node L a)
-  unfolding each_node
-  each_node-long f c [] a = refl
-  each_node-long f c (nd ∷ L) zero = each_door-length (f c) 1 nd
-  each_node-long f c (nd ∷ L) (suc a) = each_node-long f (suc c) L a
-
   renumbered : (i : ℕ) (L : Layer) (a : ℕ) → IsRenumbered D i (node L a) (node (redirect (λ a j b. renumber (F (suc i)) b) L) a)
-  unfolding redirect
   renumbered i L a =
       let f : ℕ → ℕ → ℕ → ℕ = λ a j b. renumber (F (suc i)) b in
       record {
-        doors = each_node-long f 0 L a;
+        doors = redirect-long f L a;
         arcs = λ j c. (
           (λ e. let q = redirect-back f L a j c e in let h = renumber-back (F (suc i)) q.0 c q.2 in
               (q.0, q.1, record { stays = on-path (suc i) q.0 h.0; before = subst (CountBelow (Stays D (suc i)) q.0) h.1 (counted i q.0) })),
@@ -214,20 +207,10 @@ tidied-back (L ∷ Ls) (j ∷ w) p =
     let h = renumber-back fs q.0 p.0 q.2 in
     (q.0, q.1, tidy-back fr Ls q.0 w h.0 (subst (λ (c : ℕ). PathFrom (tidy fr Ls) c w) (sym h.1) p.2))
 
-tidy-layers : (fr : List (Option Mark)) (Ls : Net) → length (tidy fr Ls) ≡ length Ls
-unfolding tidy
-tidy-layers fr [] = refl
-tidy-layers fr (L ∷ Ls) = ap suc (tidy-layers (marks_next fr L (width Ls)) Ls)
-
-tidied-layers : (Ls : Net) → length (tidied_arcs Ls) ≡ length Ls
-unfolding tidied_arcs
-tidied-layers [] = refl
-tidied-layers (L ∷ Ls) = ap suc (tidy-layers (marks_next start L (width Ls)) Ls)
-
 tidies : (D : Net) → IsTidied D (tidied_arcs D)
 tidies D = record {
   paths = λ w. (tidied-back D w, tidy-keeps D w);
-  layers = tidied-layers D;
+  layers = tidied-length D;
   nodes = as-many D;
   node_at = place D;
 }

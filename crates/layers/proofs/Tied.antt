@@ -3,33 +3,22 @@ use Rattle.std.proofs.Common.{◌≡◌, ℕ, zero, suc, ◌+◌, ◌<◌, Bool,
 use lib.ListN.{length-map}
 use Rattle.std.proofs.lemmas.Bool.{false≢true, and_parts}
 use Rattle.std.proofs.lemmas.Option.{none-some}
+use Rattle.std.proofs.lemmas.List.{ext_get_or}
 use Rattle.layers.specs.Net.{Outs, Layer, Net, node, target, width, each_door, each_node, redirect}
 use Rattle.layers.specs.Flow.{arrivals_at, gather, climbs_of, up}
 use Rattle.layers.specs.Tidy.{Mark, marks_next, marks_up, flags, rank, compress, renumber, tidy, tidied_arcs}
 use Rattle.layers.specs.Lawful.{IsRanged, IsLed, IsTied}
-use Rattle.layers.proofs.Flows.{gather-any, outs-from, map-some, redirect-arc, has-arc, ins-from, next-some, up_at, mark-next, flags-at, compress-at, renumber-at}
+use Rattle.layers.specs.Targets.{at_door}
+use Rattle.layers.proofs.Flows.{gather-any, outs-from, map-some, redirect-get, redirect-arc, has-arc, ins-from, next-some, up_at, mark-next, flags-at, compress-at, renumber-at}
 use Rattle.std.specs.Prelude.{is_some}
 
 -- ---- redirecting, backwards
-each_door-back : (f : ℕ → ℕ → ℕ) (j : ℕ) (ts : Outs) (k m c : ℕ) → j + k ≡ m → get_or (each_door f j ts) k 0 ≡ suc c → (b : ℕ) × (get_or ts k 0 ≡ suc b) × (f m b ≡ suc c)
-unfolding each_door
-each_door-back f j [] k m c h e = absurd (omega arith)
-each_door-back f j (zero ∷ ts) zero m c h e = absurd (omega arith)
-each_door-back f j (zero ∷ ts) (suc k) m c h e = each_door-back f (suc j) ts k m c (omega arith) e
-each_door-back f j (suc b ∷ ts) zero m c h e = (b, refl, ap (λ (x : ℕ). f x b) (omega arith) ∙ e)
-each_door-back f j (suc b ∷ ts) (suc k) m c h e = each_door-back f (suc j) ts k m c (omega arith) e
-
-each_node-back : (f : ℕ → ℕ → ℕ → ℕ) (i : ℕ) (L : Layer) (a m j c : ℕ) → i + a ≡ m → target (node (each_node f i L) a) j ≡ suc c → (b : ℕ) × (target (node L a) j ≡ suc b) × (f m j b ≡ suc c)
-unfolding each_node
-each_node-back f i [] a m zero c h e = absurd (omega arith)
-each_node-back f i [] a m (suc k) c h e = absurd (omega arith)
-each_node-back f i (nd ∷ L) zero m zero c h e = absurd (omega arith)
-each_node-back f i (nd ∷ L) zero m (suc k) c h e = let q = each_door-back (f i) 1 nd k (suc k) c (omega arith) e in (q.0, q.1, ap (λ (x : ℕ). f x (suc k) q.0) (omega arith) ∙ q.2)
-each_node-back f i (nd ∷ L) (suc a) m j c h e = each_node-back f (suc i) L a m j c (omega arith) e
-
 pub redirect-back : (f : ℕ → ℕ → ℕ → ℕ) (L : Layer) (a j c : ℕ) → target (node (redirect f L) a) j ≡ suc c → (b : ℕ) × (target (node L a) j ≡ suc b) × (f a j b ≡ suc c)
-unfolding redirect
-redirect-back f L a j c e = each_node-back f 0 L a a j c (omega arith) e
+redirect-back f L a j c e = go (target (node L a) j) refl (sym (redirect-get f L a j) ∙ e)
+  where
+    go : (t : ℕ) → target (node L a) j ≡ t → at_door (f a) j t ≡ suc c → (b : ℕ) × (target (node L a) j ≡ suc b) × (f a j b ≡ suc c)
+    go zero h g = absurd (omega arith)
+    go (suc b) h g = (b, h, g)
 
 each_node-length : (f : ℕ → ℕ → ℕ → ℕ) (i : ℕ) (L : Layer) → length (each_node f i L) ≡ length L
 unfolding each_node
@@ -39,6 +28,40 @@ each_node-length f i (nd ∷ L) = ap suc (each_node-length f (suc i) L)
 pub redirect-length : (f : ℕ → ℕ → ℕ → ℕ) (L : Layer) → length (redirect f L) ≡ length L
 unfolding redirect
 redirect-length f L = each_node-length f 0 L
+
+pub each_door-length : (f : ℕ → ℕ → ℕ) (j : ℕ) (ts : Outs) → length (each_door f j ts) ≡ length ts
+unfolding each_door
+each_door-length f j [] = refl
+each_door-length f j (zero ∷ ts) = ap suc (each_door-length f (suc j) ts)
+each_door-length f j (suc b ∷ ts) = ap suc (each_door-length f (suc j) ts)
+
+each_node-long : (f : ℕ → ℕ → ℕ → ℕ) (c : ℕ) (L : Layer) (a : ℕ) → length (node (each_node f c L) a) ≡ length (node L a)
+unfolding each_node
+each_node-long f c [] a = refl
+each_node-long f c (nd ∷ L) zero = each_door-length (f c) 1 nd
+each_node-long f c (nd ∷ L) (suc a) = each_node-long f (suc c) L a
+
+pub redirect-long : (f : ℕ → ℕ → ℕ → ℕ) (L : Layer) (a : ℕ) → length (node (redirect f L) a) ≡ length (node L a)
+unfolding redirect
+redirect-long f L a = each_node-long f 0 L a
+
+-- ---- only arcs that are there matter
+pub redirect-cong : (f g : ℕ → ℕ → ℕ → ℕ) (L : Layer) → ((a j b : ℕ) → target (node L a) j ≡ suc b → f a j b ≡ g a j b) → redirect f L ≡ redirect g L
+redirect-cong f g L h = ext_get_or [] (redirect f L) (redirect g L) (redirect-length f L ∙ sym (redirect-length g L)) (λ a lt.
+    ext_get_or 0 (node (redirect f L) a) (node (redirect g L) a) (redirect-long f L a ∙ sym (redirect-long g L a))
+    (λ k in'. redirect-get f L a (suc k) ∙ go a (suc k) (target (node L a) (suc k)) refl ∙ sym (redirect-get g L a (suc k))))
+  where
+    go : (a j t : ℕ) → target (node L a) j ≡ t → at_door (f a) j t ≡ at_door (g a) j t
+    go a j zero e = refl
+    go a j (suc b) e = h a j b e
+
+pub redirect-same : (f : ℕ → ℕ → ℕ → ℕ) (L : Layer) → ((a j b : ℕ) → target (node L a) j ≡ suc b → f a j b ≡ suc b) → redirect f L ≡ L
+redirect-same f L h = ext_get_or [] (redirect f L) L (redirect-length f L) (λ a lt.
+    ext_get_or 0 (node (redirect f L) a) (node L a) (redirect-long f L a) (λ k in'. redirect-get f L a (suc k) ∙ go a (suc k) (target (node L a) (suc k)) refl))
+  where
+    go : (a j t : ℕ) → target (node L a) j ≡ t → at_door (f a) j t ≡ t
+    go a j zero e = refl
+    go a j (suc b) e = h a j b e
 
 -- ---- flags
 pub some_of : (o : Option Mark) → is_some o ≡ true → o ≡ Some tt
@@ -71,13 +94,13 @@ rank_lt (false ∷ fs) (x ∷ X) zero e h = absurd (false≢true e)
 rank_lt (true ∷ fs) (x ∷ X) (suc b) e h = let q = rank_lt fs X b e (le_of_suc-le-suc h) in omega arith
 rank_lt (false ∷ fs) (x ∷ X) (suc b) e h = rank_lt fs X b e (le_of_suc-le-suc h)
 
-pub compress-back : (fs : List Bool) (X : Layer) (c : ℕ) → c < length (compress fs X) → (b : ℕ) × (get_or fs b false ≡ true) × (rank fs b ≡ c)
+pub compress-back : (fs : List Bool) (X : Layer) (c : ℕ) → c < length (compress fs X) → (b : ℕ) × (get_or fs b false ≡ true) × (rank fs b ≡ c) × (b < length X)
 unfolding rank compress
 compress-back [] X c h = absurd (not-suc-le-zero h)
 compress-back (f ∷ fs) [] c h = absurd (not-suc-le-zero h)
-compress-back (true ∷ fs) (x ∷ X) zero h = (0, refl, refl)
-compress-back (true ∷ fs) (x ∷ X) (suc c) h = let q = compress-back fs X c (le_of_suc-le-suc h) in (suc q.0, q.1, ap suc q.2)
-compress-back (false ∷ fs) (x ∷ X) c h = let q = compress-back fs X c h in (suc q.0, q.1, q.2)
+compress-back (true ∷ fs) (x ∷ X) zero h = (0, refl, refl, omega arith)
+compress-back (true ∷ fs) (x ∷ X) (suc c) h = let q = compress-back fs X c (le_of_suc-le-suc h) in (suc q.0, q.1, ap suc q.2, omega arith)
+compress-back (false ∷ fs) (x ∷ X) c h = let q = compress-back fs X c h in (suc q.0, q.1, q.2, omega arith)
 
 pub renumber-back : (fs : List Bool) (b c : ℕ) → renumber fs b ≡ suc c → (get_or fs b false ≡ true) × (rank fs b ≡ c)
 unfolding renumber

@@ -8,7 +8,7 @@ use Rattle.layers.specs.Join.{clash, either_target, both_out, without_place, pla
 use Rattle.layers.specs.Lawful.{IsRanged, IsFed, IsLed, IsTied}
 use Rattle.layers.specs.Labels.{arrival_over, agree, agrees_with_all, all_agree, differs_from_first, first_arrival, opening_arcs, all_doors}
 use Rattle.layers.specs.Calls.{parted_arcs}
-use Rattle.layers.proofs.Flows.{Among, redirect-arc, has-arc, table_at, From, ins-from}
+use Rattle.layers.proofs.Flows.{EvenLayer, Among, redirect-arc, has-arc, table_at, From, ins-from}
 use Rattle.layers.proofs.Ways.{length-snoc}
 use Rattle.layers.proofs.Shapes.{drop-below, drop-above, join-node}
 use Rattle.layers.proofs.Tied.{redirect-back, redirect-length}
@@ -64,6 +64,9 @@ module _ (M : Layer) (a : ℕ) (inn : a < length M) where
         | inl q ↦ h c j b (rw (← q.1) e)
         | inr q ↦ h a j b (rw (← q.1) e)
       ]
+
+  pub more-even : (n : ℕ) → EvenLayer n M → EvenLayer n (M ++ (node M a ∷ []))
+  more-even n h c k = elim (more-back M (node M a) c (omega (arith, length-snoc M (node M a)))) [ inl x ↦ rw x.1 (h c x.0) | inr x ↦ rw x.1 (h a inn) ]
 
   more-led : IsLed M → IsLed (M ++ (node M a ∷ []))
   more-led h c k =
