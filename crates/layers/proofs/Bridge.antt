@@ -5,21 +5,50 @@ use Rattle.std.proofs.lemmas.List.{drop_at}
 use Rattle.doors.specs.Sets.{has}
 use Rattle.layers.specs.declared.node.Node.{Node}
 use Rattle.layers.specs.declared.node.Up.{Up}
-use Rattle.layers.specs.Net.{table, Outs, Layer, Net, node, target, width, each_door, each_node, redirect, every_door, every_arc}
+use Rattle.layers.specs.Net.{table, Outs, Layer, Net, node, target, width, redirect, PathFrom}
 use Rattle.layers.specs.Flow.{arrivals_at, gather, next, up, end_label}
 use Rattle.layers.specs.Lawful.{IsLed, IsTied, IsRoomy}
-use Rattle.layers.specs.Labels.{first_label, first_labels, arrival_over, merge, labels_next, no_up, ups}
+use Rattle.layers.specs.Labels.{first_label, first_labels, arrival_over, merge, labels_next, no_up, ups, climb, merge_up}
 use Rattle.layers.specs.Records.{is_used, nodes_in, layers, arcs_in, downs_in, ups_in, arcs_of_layers, padded_targets, record_of_place, labelled_from, labelled_records}
-use Rattle.layers.specs.Calls.{places_agree, in_arcs_agree, value_in, labels_in, LayerLabels, kept_arcs, keeps_all_arcs}
-use Rattle.layers.proofs.Flows.{ins-from, next-some, next-at, gather-all, table_at, has-arc}
-use Rattle.layers.proofs.Sets.{or_left, one-self, none_has}
-use Rattle.layers.proofs.Model.{kept, labels_from, agrees, valueO, or_blank, or_no_up, labels_at}
+use Rattle.layers.specs.Calls.{places_agree, in_arcs_agree, value_in, labels_in, LayerLabels, kept_arcs}
+use Rattle.layers.proofs.Flows.{ins-from, next-some, next-at, gather-all, table_at, has-arc, up_at}
+use Rattle.layers.proofs.Ways.{or_left, one-self, none_has}
+use Rattle.layers.proofs.Model.{kept, agrees, valueO, or_blank, or_no_up, labels_at}
 use Rattle.layers.proofs.Tied.{redirect-cong}
-use Rattle.layers.proofs.Lively.{labels_full, ups-full}
 use Rattle.layers.specs.Settings.{Setting}
 use Rattle.layers.specs.declared.node.Down.{Down}
 pub use Rattle.layers.specs.Lawful.{IsEven}
 pub use Rattle.layers.proofs.Flows.{table-long}
+
+module _ {S V : Type 0} (by : Setting S V) (w : 1 ≤ by.width) where
+  -- so every node has a label, from below and from above
+  pub labels_full : (labs : List (Option (Down S V))) (L M : Layer) (Ls : Net) → IsTied (L ∷ M ∷ Ls) → ((a : ℕ) → a < length L → (l : Down S V) × (get_or labs a None ≡ Some l))
+      → (b : ℕ) → b < length M → (m : Down S V) × (get_or (labels_next by labs L (length M)) b None ≡ Some m)
+  unfolding labels_next
+  labels_full labs L M Ls t f b h =
+      let s = t.1 b h in
+      let l = f s.0 (has-arc L s.0 s.1 b s.2) in
+      let n = next-at {A = Down S V} (merge by.rule by.tally) (λ x y. Unit {0}) (λ x. tt) (λ x y z f g. tt) (λ x y. tt) (λ x y. tt) (arrival_over by) labs L (length M) s.0 s.1 b l.0 s.2 l.1 h in
+      (n.0, n.1)
+
+pub ups-full : (M : Layer) (Ls : Net) → IsLed M → IsTied (M ∷ Ls) → (a : ℕ) → a < length M → (u : Up) × (get_or (ups (M ∷ Ls)) a None ≡ Some u)
+unfolding ups
+ups-full M [] led t a h =
+    let s = led a h in
+    let z : s.1 ≡ 0 = omega (arith, t a s.0 s.1 s.2) in
+    let q = up_at {A = Up} merge_up (λ x y. Unit {0}) (λ x. tt) (λ x y z f g. tt) (λ x y. tt) (λ x y. tt) climb no_up M [] a s.0 s.1 no_up s.2 (unfold up in ap (λ (k : ℕ). get_or {A = Option Up} (Some no_up ∷ []) k None) z) in
+    (q.0, q.1)
+ups-full M (N ∷ Ls) led t a h =
+    let s = led a h in
+    let x = ups-full N Ls t.2 t.3 s.1 (t.0 a s.0 s.1 s.2) in
+    let q = up_at {A = Up} merge_up (λ x y. Unit {0}) (λ x. tt) (λ x y z f g. tt) (λ x y. tt) (λ x y. tt) climb no_up M (N ∷ Ls) a s.0 s.1 x.0 s.2 x.1 in
+    (q.0, q.1)
+
+-- ---- from each node there is a way on to the end
+pub way_on : (M : Layer) (Ls : Net) → IsLed M → IsTied (M ∷ Ls) → (a : ℕ) → a < length M → (w : List ℕ) × PathFrom (M ∷ Ls) a w
+way_on M [] led t a h = let s = led a h in (s.0 ∷ [], (s.1, s.2, omega (arith, t a s.0 s.1 s.2)))
+way_on M (N ∷ Ls) led t a h =
+    let s = led a h in let x = way_on N Ls t.2 t.3 s.1 (t.0 a s.0 s.1 s.2) in (s.0 ∷ x.0, (s.1, s.2, x.1))
 
 -- ---- tables
 take-table : {A : Type 0} (m : ℕ) (f : ℕ → A) (rest : List A) → take m (table m f ++ rest) ≡ table m f

@@ -1,7 +1,7 @@
 -- A sweep adds no arc; so refine's last sweeps end with one that answers 0. A tied diagram is left as it is by tidying.
-use Rattle.std.proofs.Common.{◌≡◌, ℕ, zero, suc, ◌+◌, ◌<◌, ◌≤◌, Bool, true, false, cond, not, ◌&&◌, eqb, List, [], ◌∷◌, length, get_or, Some, None, Option, refl, ap, ◌∙◌, ap₂, le_of_suc-le-suc, not-suc-le-zero, arith}
+use Rattle.std.proofs.Common.{◌≡◌, ℕ, zero, suc, ◌<◌, ◌≤◌, Bool, true, false, cond, not, ◌&&◌, eqb, List, [], ◌∷◌, length, get_or, Some, None, Option, refl, ap, ◌∙◌, ap₂, le_of_suc-le-suc, not-suc-le-zero, arith}
 use Rattle.std.proofs.lemmas.Bool.{false≢true, not-true, and_parts, eqb-true, eq-eqb}
-use Rattle.layers.specs.Net.{Outs, Layer, Net, node, target, width, each_door, each_node, redirect, count_doors, count_layer, count_arcs, every_door, every_arc}
+use Rattle.layers.specs.Net.{Outs, Layer, Net, width, each_door, each_node, redirect, count_doors, count_layer, count_arcs, every_door, every_arc}
 use Rattle.layers.specs.Flow.{up}
 use Rattle.layers.specs.Tidy.{Mark, marks_next, marks_up, flags, rank, compress, renumber, tidy, tidied_arcs}
 use Rattle.layers.specs.Lawful.{IsLed, IsTied}

@@ -12,7 +12,7 @@ use Rattle.layers.proofs.Ways.{length-snoc}
 use Rattle.layers.proofs.Model.{sweeps, sweep, part_at, agrees}
 use Rattle.layers.proofs.Tied.{redirect-back, compress-back, renumber-back}
 use Rattle.layers.proofs.Ties.{more-back}
-use Rattle.layers.proofs.Agreeing.{Agree, agree-self, agree-back, agree-merge, agree-arrive, by-pairs}
+use Rattle.layers.proofs.Exact.{Agree, agree-self, agree-back, agree-merge, agree-arrive, by-pairs}
 use Rattle.layers.specs.Calls.{places_agree, kept_arcs, parted_arcs, in_arcs_agree}
 use Rattle.layers.specs.Settings.{Setting}
 use Rattle.layers.specs.declared.node.Down.{Down}

@@ -1,5 +1,5 @@
 -- What the arcs of every diagram are, and that filters, parting and joining keep it.
-use Rattle.std.proofs.Common.{◌≡◌, ℕ, zero, suc, ◌<◌, ◌≤◌, Bool, true, false, cond, List, [], ◌∷◌, ◌++◌, length, get_or, set, Some, None, Option, refl, ap, ◌∙◌, inl, inr, arith, length-set}
+use Rattle.std.proofs.Common.{◌≡◌, ℕ, zero, suc, ◌<◌, ◌≤◌, Bool, true, false, cond, List, [], ◌∷◌, length, get_or, set, Some, None, Option, refl, ap, ◌∙◌, inl, inr, le_of_suc-le-suc, not-suc-le-zero, arith, length-set}
 use Rattle.std.proofs.lemmas.Bool.{cases_eq, cases_lt}
 use Rattle.std.proofs.lemmas.List.{get_or-set_same, get_or-set_other}
 use Rattle.layers.specs.Net.{table, Outs, Layer, Net, node, width, redirect}
@@ -12,11 +12,10 @@ use Rattle.layers.specs.Labels.{first_labels, arrival_over, all_agree, opening_a
 use Rattle.layers.specs.Calls.{LayerLabels, parted_arcs, kept_arcs}
 use Rattle.layers.proofs.Ways.{length-snoc}
 use Rattle.layers.proofs.Flows.{EvenLayer, table-long, compress-at}
-use Rattle.layers.proofs.Shapes.{drop-below, drop-above}
+use Rattle.layers.proofs.Ties.{drop-below, drop-above}
 use Rattle.layers.proofs.Model.{one_group, part_at, labels_at}
 use Rattle.layers.proofs.Tied.{redirect-back, redirect-length, redirect-long, compress-back, tidied-tied}
 use Rattle.layers.proofs.Ties.{opened-tied, more-even, drop-length, parted-tied, join_tied}
-use Rattle.layers.proofs.Lively.{compress-short, roomy-open}
 use Rattle.layers.specs.Settings.{Setting}
 use Rattle.layers.specs.declared.node.Down.{Down}
 
@@ -45,6 +44,14 @@ both-even zero (s ∷ x) (t ∷ y) a b = absurd (omega arith)
 both-even (suc n) (s ∷ x) (t ∷ y) a b = ap suc (both-even n x y (omega arith) (omega arith))
 
 -- ---- tidying
+compress-short : (fs : List Bool) (L : Layer) (m : ℕ) → length L ≤ m → length (compress fs L) ≤ m
+unfolding compress
+compress-short [] L m h = omega arith
+compress-short (f ∷ fs) [] m h = omega arith
+compress-short (true ∷ fs) (x ∷ L) zero h = absurd (not-suc-le-zero h)
+compress-short (true ∷ fs) (x ∷ L) (suc m) h = let z = compress-short fs L m (le_of_suc-le-suc h) in omega arith
+compress-short (false ∷ fs) (x ∷ L) m h = compress-short fs L m (omega arith)
+
 tidy-less : (n W : ℕ) (fr : List (Option Mark)) (Ls : Net) → (length (tidy fr Ls) ≡ length Ls) × (IsEven n Ls → IsEven n (tidy fr Ls)) × (IsRoomy W Ls → IsRoomy W (tidy fr Ls))
 unfolding tidy
 tidy-less n W fr [] = (refl, λ h. h, λ h. h)
@@ -136,12 +143,16 @@ kept-less n W goes i (L ∷ Ls) (x ∷ labs) =
     less-layer n W (λ a j b. goes i (suc (length Ls)) j (get_or x.downs a None) (get_or x.ups b None)) L Ls (kept_arcs goes (suc i) Ls labs) (kept-less n W goes (suc i) Ls labs)
 
 module _ {S V : Type 0} (by : Setting S V) (w : 1 ≤ by.width) where
+  roomy-open : (k : ℕ) → IsRoomy by.width (table k (λ i. all_doors by.round.n ∷ []))
+  roomy-open zero = tt
+  roomy-open (suc k) = (w, roomy-open k)
+
   pub proper-opened : IsLawful by.round.n by.width (opening_arcs by.round.n)
   proper-opened = record {
     deep = unfold opening_arcs in table-long by.round.n (λ i. all_doors by.round.n ∷ []);
     one_first = unfold opening_arcs in wide by.round.n;
     even = unfold opening_arcs in evens by.round.n;
-    roomy = unfold opening_arcs in roomy-open by w by.round.n;
+    roomy = unfold opening_arcs in roomy-open by.round.n;
     tied = opened-tied by;
   }
     where

@@ -1,5 +1,5 @@
 -- A label on the way agrees with the beginning that leads to it; so no arc of an allowed order is swept or cut.
-use Rattle.std.proofs.Common.{◌≡◌, ℕ, zero, suc, ◌+◌, ◌<◌, ◌≤◌, Bool, true, false, cond, ◌||◌, ltb, List, [], ◌∷◌, ◌++◌, length, get_or, Some, None, Option, sym, refl, ap, ◌∙◌, subst, inl, inr, le_trans, le_of_suc-le-suc, not-suc-le-zero, arith}
+use Rattle.std.proofs.Common.{◌≡◌, ℕ, zero, suc, ◌+◌, ◌<◌, ◌≤◌, Bool, true, false, cond, ◌||◌, ltb, List, [], ◌∷◌, ◌++◌, length, get_or, Some, None, Option, sym, refl, ap, ◌∙◌, subst, inl, inr, le_trans, arith}
 use lib.Bits.{bit_or}
 use lib.Count.{ones}
 use Rattle.std.proofs.lemmas.Bool.{le-ltb, ne_eqb, false_from_ne_true}
@@ -20,8 +20,8 @@ use Rattle.layers.specs.declared.node.Up.{Up}
 use Rattle.layers.specs.Net.{Outs, Layer, Net, node, target, width, PathFrom}
 use Rattle.layers.specs.Flow.{arrivals_at, up}
 use Rattle.layers.specs.Labels.{bit_of, leg, climb, merge_up, no_up, ups, first_label, arrival_over, merge, first_labels, labels_next, is_barred}
-use Rattle.layers.proofs.Flows.{EvenLayer, Among, redirect-arc, inside, has-arc, next-at, up_at, tidy-keeps, From, ins-from, next-some, gather-all}
-use Rattle.layers.proofs.Sets.{or_left, or_right, or_split, and_left, and_right, one-self, one_only, none_has, ones_in}
+use Rattle.layers.proofs.Flows.{EvenLayer, redirect-arc, inside, has-arc, next-at, up_at, tidy-keeps, From, ins-from, next-some, gather-all}
+use Rattle.layers.proofs.Ways.{or_left, or_right, or_split, and_left, and_right, one-self, one_only, none_has, ones_in}
 use Rattle.layers.proofs.Ways.{in_split, in-snd, part-tail, trip-snoc, van-snoc, length-snoc, snoc-assoc, TimelyFrom, timely-from, leg-le, leg-bound}
 use Rattle.layers.proofs.Model.{sweeps, sweep}
 use Rattle.layers.specs.Settings.{Setting}

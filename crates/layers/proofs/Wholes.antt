@@ -17,9 +17,9 @@ use Rattle.layers.proofs.Flows.{Among, From, has-arc, ins-in, ins-from, next-som
 use Rattle.layers.proofs.Model.{sweep, part_at, one_group, or_blank}
 use Rattle.layers.proofs.Counts.{sweep-fewer, sweep-same, settled-if}
 use Rattle.layers.proofs.Tied.{redirect-back, redirect-length}
-use Rattle.layers.proofs.Lively.{labels_full}
+use Rattle.layers.proofs.Bridge.{labels_full}
 use Rattle.layers.proofs.Standing.{answer-X, settled-X, Reached, arcs-of, reached-sweep, count-of, group-of, reached-part, layers-refined, plain, after_end, run-reached}
-use Rattle.layers.proofs.Agreeing.{Agree, agree-self, agree-yes, agree-back, agree-merge, agree-arrive, pairs, by-pairs}
+use Rattle.layers.proofs.Exact.{Agree, agree-self, agree-yes, agree-back, agree-merge, agree-arrive, pairs, by-pairs}
 use Rattle.layers.proofs.Keys.{Keyed, KeyedTo, keyed-sweep, keyed-part, Fit, fit-first, fit_next, keyed-agrees}
 use Rattle.layers.specs.Settings.{Setting, setting}
 use Rattle.layers.specs.declared.node.Down.{Down}
