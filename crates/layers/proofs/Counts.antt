@@ -1,5 +1,5 @@
 -- A sweep adds no arc; so refine's last sweeps end with one that answers 0. A tied diagram is left as it is by tidying.
-use Rattle.std.proofs.Common.{◌≡◌, ℕ, zero, suc, ◌<◌, ◌≤◌, Bool, true, false, cond, not, ◌&&◌, eqb, List, [], ◌∷◌, length, get_or, Some, None, Option, refl, ap, ◌∙◌, ap₂, le_of_suc-le-suc, not-suc-le-zero, arith}
+use Rattle.std.proofs.Common.{◌≡◌, ℕ, zero, suc, ◌<◌, ◌≤◌, Bool, true, false, cond, not, eqb, List, [], ◌∷◌, length, get_or, Some, None, Option, refl, ap, ◌∙◌, ap₂, le_of_suc-le-suc, not-suc-le-zero, arith}
 use Rattle.std.proofs.lemmas.Bool.{false≢true, not-true, and_parts, eqb-true, eq-eqb}
 use Rattle.layers.specs.Net.{Outs, Layer, Net, width, each_door, each_node, redirect, count_doors, count_layer, count_arcs, every_door, every_arc}
 use Rattle.layers.specs.Flow.{up}
@@ -15,16 +15,11 @@ use Rattle.layers.specs.declared.node.Down.{Down}
 use Rattle.layers.specs.Calls.{LayerLabels, kept_arcs, keeps_all_arcs}
 use Rattle.layers.specs.declared.node.Up.{Up}
 
-count-one : (t : ℕ) (ts : Outs) → count_doors (t ∷ ts) ≤ suc (count_doors ts)
-unfolding count_doors
-count-one zero ts = omega arith
-count-one (suc t) ts = omega arith
-
 doors-fewer : (f : ℕ → ℕ → ℕ) (j : ℕ) (ts : Outs) → count_doors (each_door f j ts) ≤ count_doors ts
 unfolding count_doors each_door
 doors-fewer f j [] = omega arith
 doors-fewer f j (zero ∷ ts) = doors-fewer f (suc j) ts
-doors-fewer f j (suc b ∷ ts) = let h = doors-fewer f (suc j) ts in omega (arith, count-one (f j b) (each_door f (suc j) ts))
+doors-fewer f j (suc b ∷ ts) = grind (arith, doors-fewer f (suc j) ts)
 
 pub nodes-fewer : (f : ℕ → ℕ → ℕ → ℕ) (a : ℕ) (L : Layer) → count_layer (each_node f a L) ≤ count_layer L
 unfolding count_layer each_node
@@ -131,13 +126,7 @@ doors-quiet : (t : ℕ → ℕ → Bool) (j : ℕ) (ts : Outs) → count_doors (
 unfolding count_doors each_door every_door
 doors-quiet t j [] e = refl
 doors-quiet t j (zero ∷ ts) e = doors-quiet t (suc j) ts e
-doors-quiet t j (suc b ∷ ts) e = go (t j b) e (λ h. doors-quiet t (suc j) ts h)
-  where
-    go : (q : Bool) → count_doors (cond q 0 (suc b) ∷ each_door (λ j b. cond (t j b) 0 (suc b)) (suc j) ts) ≡ suc (count_doors ts)
-        → (count_doors (each_door (λ j b. cond (t j b) 0 (suc b)) (suc j) ts) ≡ count_doors ts → every_door (λ j b. not (t j b)) (suc j) ts ≡ true)
-        → (not q && every_door (λ j b. not (t j b)) (suc j) ts) ≡ true
-    go true h f = absurd (omega (arith, h, doors-fewer (λ j b. cond (t j b) 0 (suc b)) (suc j) ts))
-    go false h f = f (omega arith)
+doors-quiet t j (suc b ∷ ts) e = let x = doors-fewer (λ j b. cond (t j b) 0 (suc b)) (suc j) ts in grind (arith, e, x, doors-quiet t (suc j) ts)
 
 pub layer-quiet : (t : ℕ → ℕ → ℕ → Bool) (i : ℕ) (L : Layer) → count_layer (each_node (λ a j b. cond (t a j b) 0 (suc b)) i L) ≡ count_layer L → every_arc (λ a j b. not (t a j b)) i L ≡ true
 unfolding count_layer each_node every_arc

@@ -1,8 +1,9 @@
 -- While settled answers yes, the labels are exact, so every path is an allowed order and the bound is the least cost.
-use Rattle.std.proofs.Common.{◌≡◌, ℕ, zero, suc, ◌+◌, ◌<◌, ◌≤◌, Bool, true, false, cond, not, eqb, ltb, List, [], ◌∷◌, ◌++◌, length, get_or, Some, None, fold, Option, sym, refl, ap, ◌∙◌, inl, inr, append-nil, not-suc-le-zero, arith}
+use Rattle.std.proofs.lemmas.Bool.Decides.{nat_tests}
+use Rattle.std.proofs.Common.{◌≡◌, ℕ, zero, suc, ◌+◌, ◌<◌, ◌≤◌, Bool, true, false, not, eqb, ltb, List, [], ◌∷◌, ◌++◌, length, get_or, Some, None, fold, Option, sym, refl, ap, ◌∙◌, inl, inr, append-nil, not-suc-le-zero, arith}
 use lib.Bits.{bit_or, bit_and, and_self, or_self}
 use lib.Count.{ones}
-use Rattle.std.proofs.lemmas.Bool.{true≢false, not-true, ltb-false, eqb-true, eqb-false, ne_eqb, and_parts, or_parts, eq-eqb}
+use Rattle.std.proofs.lemmas.Bool.{true≢false, not-true, ltb-false, eqb-true, ne_eqb, and_parts, or_parts, eq-eqb, cond_both}
 use Rattle.doors.proofs.Orders.{each_none, each_more}
 use Rattle.doors.specs.Orders.{IsDoor, StandsIn}
 use Rattle.doors.specs.Sets.{has}
@@ -132,11 +133,7 @@ module _ {S V : Type 0} {Keeps : List ℕ → Type 0} {Stands : S → List ℕ �
   Attained v l = (x : Down S V) × Among x l × (x.value ≡ v)
 
   lesser-one : (a b : V) (l : List (Down S V)) → Attained a l → Attained b l → Attained (by.tally.lesser a b) l
-  lesser-one a b l p q = rw (tallied.lesser_is a b) (go (by.tally.not_above a b))
-    where
-      go : (t : Bool) → Attained (cond t a b) l
-      go true = p
-      go false = q
+  lesser-one a b l p q = rw (tallied.lesser_is a b) (cond_both (by.tally.not_above a b) a b (λ v. Attained v l) (λ _. p) (λ _. q))
 
   fold-value : (y : Down S V) (all l : List (Down S V)) → Attained y.value all → ((z : Down S V) → Among z l → Among z all) → Attained (fold (merge by.rule by.tally) y l).value all
   unfolding merge
@@ -241,11 +238,7 @@ module _ {S V : Type 0} {Keeps : List ℕ → Type 0} {Stands : S → List ℕ �
   agreed-at : (labs : List (Option (Down S V))) (L : Layer) (k b : ℕ) → places_agree by labs L k ≡ true → b < k → all_agree by.rule (arrivals_at (arrival_over by) b labs L) ≡ true
   unfolding places_agree
   agreed-at labs L zero b e h = absurd (not-suc-le-zero h)
-  agreed-at labs L (suc k) b e h = go (eqb b k) refl (λ g. agreed-at labs L k b (and_parts _ _ e).1 g)
-    where
-      go : (q : Bool) → eqb b k ≡ q → (b < k → all_agree by.rule (arrivals_at (arrival_over by) b labs L) ≡ true) → all_agree by.rule (arrivals_at (arrival_over by) b labs L) ≡ true
-      go true f g = rw (eqb-true b k f) ((and_parts _ _ e).0)
-      go false f g = g (omega (arith, eqb-false b k f))
+  agreed-at labs L (suc k) b e h = grind (arith, nat_tests, e, h, agreed-at labs L k b)
 
   settles-next : (i : ℕ) (labs : List (Option (Down S V))) (L M : Layer) (Ls : Net) → settles by i labs (L ∷ M ∷ Ls) ≡ true
       → (places_agree by labs L (length M) ≡ true) × (settles by (suc i) (labels_next by labs L (length M)) (M ∷ Ls) ≡ true)

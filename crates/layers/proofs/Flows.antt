@@ -1,6 +1,7 @@
 -- What flows along arcs, and what redirecting, tidying do to paths.
+use Rattle.std.proofs.lemmas.Bool.Decides.{nat_tests}
 use Rattle.std.proofs.Common.{◌≡◌, ℕ, zero, suc, ◌+◌, ◌<◌, Bool, true, false, eqb, ◌⊎◌, List, [], ◌∷◌, ◌++◌, map, length, get_or, Some, None, fold, Option, refl, ap, ◌∙◌, inl, inr, le_of_suc-le-suc, not-suc-le-zero, arith}
-use Rattle.std.proofs.lemmas.Bool.{eqb-true, eq-eqb}
+use Rattle.std.proofs.lemmas.Bool.{eqb-true}
 use Rattle.std.proofs.lemmas.List.{get_or-map}
 use Rattle.layers.specs.Net.{table, Outs, Layer, Net, node, target, width, PathFrom, each_door, each_node, redirect}
 use Rattle.layers.specs.Flow.{put, arrivals_by_door, arrivals_at, gather, next, read, cons_if_some, climbs_of, up}
@@ -64,27 +65,18 @@ inside (L ∷ Ls) a (j ∷ w) p = has-arc L a j p.0 p.1
 -- ---- downward
 pub among-left : {A : Type 0} (x : A) (l m : List A) → Among x l → Among x (l ++ m)
 among-left x [] m i = absurd i
-among-left x (y ∷ l) m (inl e) = inl e
-among-left x (y ∷ l) m (inr i) = inr (among-left x l m i)
+among-left x (y ∷ l) m i = grind (arith, i, among-left x l m)
 
 pub among-right : {A : Type 0} (x : A) (l m : List A) → Among x m → Among x (l ++ m)
 among-right x [] m i = i
 among-right x (y ∷ l) m i = inr (among-right x l m i)
 
 module _ {A : Type 0} (arrival_over : A → ℕ → A) (merge : A → A → A) where
-  put_in : (q : Bool) (x y : A) (r : List A) → q ≡ true → x ≡ y → Among x (put q y r)
-  put_in true x y r e f = inl f
-  put_in false x y r e f = absurd cc
-
-  put-tail : (q : Bool) (x y : A) (r : List A) → Among x r → Among x (put q y r)
-  put-tail true x y r i = inr i
-  put-tail false x y r i = i
-
   ins_door-in : (b : ℕ) (l : A) (j : ℕ) (ts : Outs) (k m : ℕ) → j + k ≡ m → get_or ts k 0 ≡ suc b → Among (arrival_over l m) (arrivals_by_door arrival_over b l j ts)
   unfolding arrivals_by_door
   ins_door-in b l j [] k m h e = absurd (omega arith)
-  ins_door-in b l j (t ∷ ts) zero m h e = put_in (eqb t (suc b)) (arrival_over l m) (arrival_over l j) (arrivals_by_door arrival_over b l (suc j) ts) (eq-eqb t (suc b) e) (ap (arrival_over l) (omega arith))
-  ins_door-in b l j (t ∷ ts) (suc k) m h e = put-tail (eqb t (suc b)) (arrival_over l m) (arrival_over l j) (arrivals_by_door arrival_over b l (suc j) ts) (ins_door-in b l (suc j) ts k m (omega arith) e)
+  ins_door-in b l j (t ∷ ts) zero m h e = let z : m ≡ j = omega arith in grind (arith, nat_tests, e, z)
+  ins_door-in b l j (t ∷ ts) (suc k) m h e = grind (arith, ins_door-in b l (suc j) ts k m (omega arith) e)
 
   pub ins-in : (b : ℕ) (labs : List (Option A)) (L : Layer) (a j : ℕ) (l : A) → target (node L a) j ≡ suc b → get_or labs a None ≡ Some l → Among (arrival_over l j) (arrivals_at arrival_over b labs L)
   unfolding arrivals_at
@@ -217,12 +209,7 @@ tidy-keeps (L ∷ Ls) (j ∷ w) p =
 -- ---- where an arrival comes from
 pub among-split : {A : Type 0} (x : A) (l m : List A) → Among x (l ++ m) → Among x l ⊎ Among x m
 among-split x [] m i = inr i
-among-split x (y ∷ l) m (inl e) = inl (inl e)
-among-split x (y ∷ l) m (inr i) = go (among-split x l m i)
-  where
-    go : Among x l ⊎ Among x m → Among x (y ∷ l) ⊎ Among x m
-    go (inl h) = inl (inr h)
-    go (inr h) = inr h
+among-split x (y ∷ l) m i = grind (arith, i, among-split x l m)
 
 pub record From {A : Type 0} (arrival_over : A → ℕ → A) (b : ℕ) (labs : List (Option A)) (L : Layer) (x : A) : Type 0 where
   pub source : ℕ
@@ -234,9 +221,7 @@ pub record From {A : Type 0} (arrival_over : A → ℕ → A) (b : ℕ) (labs : 
 
 module _ {A : Type 0} (arrival_over : A → ℕ → A) where
   put-from : (q : Bool) (x y : A) (r : List A) → Among x (put q y r) → ((q ≡ true) × (x ≡ y)) ⊎ Among x r
-  put-from true x y r (inl e) = inl (refl, e)
-  put-from true x y r (inr i) = inr i
-  put-from false x y r i = inr i
+  put-from q x y r i = grind (arith, i)
 
   ins_door-from : (b : ℕ) (l x : A) (j : ℕ) (ts : Outs) → Among x (arrivals_by_door arrival_over b l j ts) → (k : ℕ) × (get_or ts k 0 ≡ suc b) × (x ≡ arrival_over l (j + k))
   unfolding arrivals_by_door

@@ -1,6 +1,7 @@
 -- The claim: first on the arcs of the records that a run leaves.
 use Rattle.std.proofs.Common.{◌≡◌, ℕ, ◌≤◌, true, List, [], ◌∷◌, Some, sym, ap, ◌∙◌, inl, inr, arith, zero, suc, Bool, false, cond, not, ◌++◌, length, get_or, None, Option, refl, subst, append-nil, ◌+◌, eqb, ◌⊎◌, fold}
-use Rattle.std.proofs.lemmas.Bool.{both_ways, not-true, not-false, false≢true, eqb-true, eqb-false, eq-eqb, and_parts, or_cases, or_left, or_right}
+use Rattle.std.proofs.lemmas.Bool.Decides.{nat_tests}
+use Rattle.std.proofs.lemmas.Bool.{both_ways, not-true, not-false, false≢true, eqb-true, eq-eqb, and_parts, or_cases}
 use Rattle.rules.specs.Rules.{RuleLaws, RuleSense}
 use Rattle.tallies.specs.Tallies.{TallyLaws, TallySense}
 use Rattle.orders.specs.Allowed.{IsAllowed}
@@ -32,8 +33,8 @@ unfolding any_door
 any-in f j [] k m b h e t = absurd (omega arith)
 any-in f j (zero ∷ ts) zero m b h e t = absurd (omega arith)
 any-in f j (zero ∷ ts) (suc k) m b h e t = any-in f (suc j) ts k m b (omega arith) e t
-any-in f j (suc c ∷ ts) zero m b h e t = let x : j ≡ m = omega arith in let y : c ≡ b = omega arith in or_left (f j c) (any_door f (suc j) ts) (let z : f j c ≡ f m b = cc in z ∙ t)
-any-in f j (suc c ∷ ts) (suc k) m b h e t = or_right (f j c) (any_door f (suc j) ts) (any-in f (suc j) ts k m b (omega arith) e t)
+any-in f j (suc c ∷ ts) zero m b h e t = grind (arith, t)
+any-in f j (suc c ∷ ts) (suc k) m b h e t = grind (arith, any-in f (suc j) ts k m b (omega arith) e t)
 
 any-from : (f : ℕ → ℕ → Bool) (j : ℕ) (ts : Outs) → any_door f j ts ≡ true → (k : ℕ) × (b : ℕ) × (get_or ts k 0 ≡ suc b) × (f (j + k) b ≡ true)
 unfolding any_door
@@ -74,20 +75,11 @@ hits-nil (k ∷ w) = hits-nil w
 
 hits-one : (i : ℕ) (w : List ℕ) → StandsIn i w → fold still_sought (i ∷ []) w ≡ []
 hits-one i [] h = absurd h
-hits-one i (k ∷ w) (inl e) = rw (eq-eqb i k e) (hits-nil w)
-hits-one i (k ∷ w) (inr h) = go (eqb i k) (hits-one i w h)
-  where
-    go : (q : Bool) → fold still_sought (i ∷ []) w ≡ [] → fold still_sought (cond q [] (i ∷ [])) w ≡ []
-    go true e = hits-nil w
-    go false e = e
+hits-one i (k ∷ w) h = grind (arith, nat_tests, h, hits-nil w, hits-one i w)
 
 one-hits : (i : ℕ) (w : List ℕ) → fold still_sought (i ∷ []) w ≡ [] → StandsIn i w
 one-hits i [] e = absurd cc
-one-hits i (k ∷ w) e = go (eqb i k) refl e (λ h. one-hits i w h)
-  where
-    go : (q : Bool) → eqb i k ≡ q → fold still_sought (cond q [] (i ∷ [])) w ≡ [] → (fold still_sought (i ∷ []) w ≡ [] → StandsIn i w) → StandsIn i (k ∷ w)
-    go true f h g = inl (eqb-true i k f)
-    go false f h g = inr (g h)
+one-hits i (k ∷ w) e = grind (arith, nat_tests, e, one-hits i w)
 
 pub ahead_in : (j i : ℕ) (w : List ℕ) → StandsAhead j i w → StandsIn i w
 ahead_in j i [] h = h
@@ -96,20 +88,11 @@ ahead_in j i (k ∷ w) (inr h) = inr (ahead_in j i w h)
 
 hits-two : (j i : ℕ) (w : List ℕ) → StandsAhead j i w → fold still_sought (j ∷ i ∷ []) w ≡ []
 hits-two j i [] h = absurd h
-hits-two j i (k ∷ w) (inl h) = rw (eq-eqb j k h.0) (hits-one i w h.1)
-hits-two j i (k ∷ w) (inr h) = go (eqb j k) (hits-two j i w h)
-  where
-    go : (q : Bool) → fold still_sought (j ∷ i ∷ []) w ≡ [] → fold still_sought (cond q (i ∷ []) (j ∷ i ∷ [])) w ≡ []
-    go true e = hits-one i w (ahead_in j i w h)
-    go false e = e
+hits-two j i (k ∷ w) h = grind (arith, nat_tests, h, ahead_in j i w, hits-one i w, hits-two j i w)
 
 two-hits : (j i : ℕ) (w : List ℕ) → fold still_sought (j ∷ i ∷ []) w ≡ [] → StandsAhead j i w
 two-hits j i [] e = absurd cc
-two-hits j i (k ∷ w) e = go (eqb j k) refl e (λ h. two-hits j i w h)
-  where
-    go : (q : Bool) → eqb j k ≡ q → fold still_sought (cond q (i ∷ []) (j ∷ i ∷ [])) w ≡ [] → (fold still_sought (j ∷ i ∷ []) w ≡ [] → StandsAhead j i w) → StandsAhead j i (k ∷ w)
-    go true f h g = inl (eqb-true j k f, one-hits i w h)
-    go false f h g = inr (g h)
+two-hits j i (k ∷ w) e = grind (arith, nat_tests, e, one-hits i w, two-hits j i w)
 
 pub seen : (Ls : Net) (j i : ℕ) (w : List ℕ) → PathFrom Ls 0 w → StandsAhead j i w → has_path_with Ls 0 (j ∷ i ∷ []) ≡ true
 seen Ls j i w p h = seeks-in Ls 0 (j ∷ i ∷ []) w p (hits-two j i w h)
@@ -120,12 +103,7 @@ sought Ls j i e = let q = seeks-from Ls 0 (j ∷ i ∷ []) e in (q.0, q.1, two-h
 -- ---- an order of all doors has each door
 pub in-or-not : (i : ℕ) (w : List ℕ) → StandsIn i w ⊎ (¬ StandsIn i w)
 in-or-not i [] = inr (λ h. h)
-in-or-not i (k ∷ w) = go (eqb i k) refl (in-or-not i w)
-  where
-    go : (q : Bool) → eqb i k ≡ q → StandsIn i w ⊎ (¬ StandsIn i w) → StandsIn i (k ∷ w) ⊎ (¬ StandsIn i (k ∷ w))
-    go true e r = inl (inl (eqb-true i k e))
-    go false e (inl h) = inl (inr h)
-    go false e (inr f) = inr (λ h. elim h [ inl x ↦ eqb-false i k e x | inr x ↦ f x ])
+in-or-not i (k ∷ w) = grind (arith, nat_tests, in-or-not i w)
 
 pub all_there : (n : ℕ) (w : List ℕ) → length w ≡ n → IsPartOrder n w → (i : ℕ) → IsDoor n i → StandsIn i w
 all_there n w e p i h = go (in-or-not i w)
@@ -136,14 +114,7 @@ all_there n w e p i h = go (in-or-not i w)
 
 pub one-ahead : (i j : ℕ) (w : List ℕ) → ¬ (i ≡ j) → StandsIn i w → StandsIn j w → StandsAhead i j w ⊎ StandsAhead j i w
 one-ahead i j [] n a b = absurd a
-one-ahead i j (k ∷ w) n (inl x) (inl y) = absurd (n (x ∙ sym y))
-one-ahead i j (k ∷ w) n (inl x) (inr y) = inl (inl (x, y))
-one-ahead i j (k ∷ w) n (inr x) (inl y) = inr (inl (y, x))
-one-ahead i j (k ∷ w) n (inr x) (inr y) = go (one-ahead i j w n x y)
-  where
-    go : StandsAhead i j w ⊎ StandsAhead j i w → StandsAhead i j (k ∷ w) ⊎ StandsAhead j i (k ∷ w)
-    go (inl h) = inl (inr h)
-    go (inr h) = inr (inr h)
+one-ahead i j (k ∷ w) n a b = grind (arith, n, a, b, one-ahead i j w n)
 
 module _ {S V : Type 0} {Keeps : List ℕ → Type 0} {Stands : S → List ℕ → Type 0} {Allows : ℕ → V → Type 0} (by : Setting S V) (ruled : RuleLaws by.round.n by.rule Keeps Stands) (tallied : TallyLaws by.round.n by.tally Allows) where
   -- ---- costs only rise

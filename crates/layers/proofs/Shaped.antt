@@ -1,5 +1,5 @@
 -- Records that have the shape of a diagram have arcs that a diagram may have, and arcs that are laid out anew have that shape.
-use Rattle.std.proofs.Common.{◌≡◌, ℕ, zero, suc, ◌+◌, ◌-◌, ◌*◌, ◌<◌, ◌≤◌, Bool, true, false, cond, List, [], ◌∷◌, ◌++◌, map, length, get_or, take, drop, Some, None, Option, sym, refl, ap, ◌∙◌, inl, inr, ⊎_elim, suc-mul, suc-add, zero-add, arith, not, eqb, le_of_suc-le-suc, not-suc-le-zero, zero-mul, subst, append_assoc}
+use Rattle.std.proofs.Common.{◌≡◌, ℕ, zero, suc, ◌+◌, ◌-◌, ◌*◌, ◌<◌, ◌≤◌, Bool, cond, List, [], ◌∷◌, ◌++◌, map, length, get_or, take, drop, Some, None, Option, sym, refl, ap, ◌∙◌, inl, inr, ⊎_elim, suc-mul, suc-add, zero-add, arith, eqb, le_of_suc-le-suc, not-suc-le-zero, zero-mul, subst, append_assoc}
 use lib.ListN.{length-map}
 use Rattle.std.proofs.lemmas.List.{length-take, length-take-le, drop-drop, drop_more}
 use Rattle.std.proofs.lemmas.Bool.{cases_lt, eq-eqb, ne_eqb}
@@ -10,7 +10,7 @@ use Rattle.layers.specs.Tidy.{tidied_arcs}
 use Rattle.layers.specs.Lawful.{IsEven, IsLawful, IsRoomy, IsTied}
 use Rattle.layers.specs.declared.node.Up.{Up}
 use Rattle.layers.specs.Labels.{first_labels, labels_next, no_up, leg, ups, first_label, arrival_over, merge}
-use Rattle.layers.specs.Records.{is_used, nodes_in, layers, arcs_in, arcs_of_layers, arcs_at, laid_arcs, arcs_read, record_of_place, labelled_from, labelled_records}
+use Rattle.layers.specs.Records.{nodes_in, layers, arcs_in, arcs_of_layers, arcs_at, laid_arcs, arcs_read, record_of_place, labelled_from, labelled_records}
 use Rattle.layers.specs.Calls.{arcs, layer, records_with, bound, value_in}
 use Rattle.layers.specs.Shape.{targets_of, HasEnd, IsShaped, IsTimely}
 use Rattle.layers.proofs.Flows.{EvenLayer, Among, From, ins-from, next-some, gather-all}
@@ -42,11 +42,7 @@ module _ {S V : Type 0} (W : ℕ) where
 pub bound_at : {S V : Type 0} (n W : ℕ) (xs : List (Node S V)) (d : Node S V) → n * W < length xs
     → bound n W xs ≡ cond (eqb (get_or xs (n * W) d).label.down.lasts 0) None (Some (get_or xs (n * W) d).label.down.value)
 unfolding bound
-bound_at {S} {V} n W xs d h = ap value_in (end-at W n xs ∙ ap (λ (ys : List (Node S V)). nodes_in (take 1 ys)) (drop_more xs (n * W) d h)) ∙ go (eqb (get_or xs (n * W) d).label.down.lasts 0)
-  where
-    go : (q : Bool) → value_in (cond (not q) (get_or xs (n * W) d ∷ []) []) ≡ cond q None (Some (get_or xs (n * W) d).label.down.value)
-    go true = refl
-    go false = refl
+bound_at {S} {V} n W xs d h = ap value_in (end-at W n xs ∙ ap (λ (ys : List (Node S V)). nodes_in (take 1 ys)) (drop_more xs (n * W) d h)) ∙ grind arith
 
 module _ {S V : Type 0} (n W : ℕ) (xs : List (Node S V)) (x : Node S V) (h : n * W < length xs) (is : x ≡ get_or xs (n * W) x) where
   read-bound : bound n W xs ≡ cond (eqb x.label.down.lasts 0) None (Some x.label.down.value)
@@ -61,21 +57,13 @@ module _ {S V : Type 0} (n W : ℕ) (xs : List (Node S V)) (x : Node S V) (h : n
 -- ---- the nodes that stand are the first of their places
 pub standing-at : {S V : Type 0} (us : List (Node S V)) (a : ℕ) (d : Node S V) → a < length (nodes_in us) → get_or (nodes_in us) a d ≡ get_or us a d
 standing-at [] a d h = refl
-standing-at (u ∷ us) a d h = go (is_used u) a h (λ b k. standing-at us b d k)
-  where
-    go : (q : Bool) (a : ℕ) → a < length (cond q (u ∷ nodes_in us) []) → ((b : ℕ) → b < length (nodes_in us) → get_or (nodes_in us) b d ≡ get_or us b d) → get_or (cond q (u ∷ nodes_in us) []) a d ≡ get_or (u ∷ us) a d
-    go true zero h f = refl
-    go true (suc a) h f = f a (omega arith)
-    go false a h f = absurd (omega arith)
+standing-at (u ∷ us) zero d h = grind (arith, h)
+standing-at (u ∷ us) (suc a) d h = grind (arith, h, standing-at us a d)
 
 -- ---- depth and room
 pub standing-short : {S V : Type 0} (us : List (Node S V)) → length (nodes_in us) ≤ length us
 standing-short [] = omega arith
-standing-short (u ∷ us) = go (is_used u) (standing-short us)
-  where
-    go : (q : Bool) → length (nodes_in us) ≤ length us → length (cond q (u ∷ nodes_in us) []) ≤ suc (length us)
-    go true h = omega arith
-    go false h = omega arith
+standing-short (u ∷ us) = grind (arith, standing-short us)
 
 take-among : {A : Type 0} (m k : ℕ) (xs : List A) (x : A) → m ≤ k → Among x (take m xs) → Among x (take k xs)
 take-among zero k xs x h i = absurd i
@@ -110,12 +98,7 @@ module _ {S V : Type 0} (n W : ℕ) where
 
   standing-among : (us : List (Node S V)) (x : Node S V) → Among x (nodes_in us) → Among x us
   standing-among [] x i = i
-  standing-among (u ∷ us) x i = go (is_used u) i (λ h. standing-among us x h)
-    where
-      go : (q : Bool) → Among x (cond q (u ∷ nodes_in us) []) → (Among x (nodes_in us) → Among x us) → Among x (u ∷ us)
-      go true (inl e) f = inl e
-      go true (inr h) f = inr (f h)
-      go false h f = absurd h
+  standing-among (u ∷ us) x i = grind (arith, i, standing-among us x)
 
   arcs-even : (us : List (Node S V)) → n ≤ 16 → Long us → EvenLayer n (arcs_in n us)
   arcs-even [] h l a k = absurd (omega arith)

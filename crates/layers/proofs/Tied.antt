@@ -1,5 +1,5 @@
 -- After tidying, every node lies on a path.
-use Rattle.std.proofs.Common.{◌≡◌, ℕ, zero, suc, ◌<◌, Bool, true, false, cond, List, [], ◌∷◌, length, get_or, Some, None, Option, sym, refl, ap, ◌∙◌, le_of_suc-le-suc, not-suc-le-zero, arith}
+use Rattle.std.proofs.Common.{◌≡◌, ℕ, zero, suc, ◌<◌, Bool, true, false, List, [], ◌∷◌, length, get_or, Some, None, Option, sym, refl, ap, ◌∙◌, le_of_suc-le-suc, not-suc-le-zero, arith}
 use lib.ListN.{length-map}
 use Rattle.std.proofs.lemmas.Bool.{false≢true, and_parts}
 use Rattle.std.proofs.lemmas.Option.{none-some}
@@ -104,11 +104,7 @@ compress-back (false ∷ fs) (x ∷ X) c h = let q = compress-back fs X c h in (
 
 pub renumber-back : (fs : List Bool) (b c : ℕ) → renumber fs b ≡ suc c → (get_or fs b false ≡ true) × (rank fs b ≡ c)
 unfolding renumber
-renumber-back fs b c e = go (get_or fs b false) refl e
-  where
-    go : (q : Bool) → get_or fs b false ≡ q → cond q (suc (rank fs b)) 0 ≡ suc c → (get_or fs b false ≡ true) × (rank fs b ≡ c)
-    go true f g = (f, omega arith)
-    go false f g = absurd (omega arith)
+renumber-back fs b c e = grind (arith, e)
 
 -- ---- what marks say
 pub marked_from : (fr : List (Option Mark)) (L : Layer) (count b : ℕ) → get_or (marks_next fr L count) b None ≡ Some tt → (a : ℕ) × (j : ℕ) × (target (node L a) j ≡ suc b) × (get_or fr a None ≡ Some tt)

@@ -1,6 +1,7 @@
 -- Opening, part and join keep every node on a path.
 use Rattle.std.proofs.Common.{◌≡◌, ℕ, zero, suc, ◌-◌, ◌<◌, ◌≤◌, Bool, true, false, cond, not, ◌&&◌, eqb, ltb, ◌⊎◌, List, [], ◌∷◌, ◌++◌, length, get_or, set, Some, None, Option, sym, refl, ap, ◌∙◌, inl, inr, le_of_suc-le-suc, not-suc-le-zero, arith, length-set}
-use Rattle.std.proofs.lemmas.Bool.{true≢false, ltb-true, ltb-false, eqb-true, lt-ltb, eq-eqb, ne_eqb, cases_lt, cases_eq, and_cases, eqb-false, and_parts, or_parts}
+use Rattle.std.proofs.lemmas.Bool.Decides.{nat_tests}
+use Rattle.std.proofs.lemmas.Bool.{true≢false, ltb-true, ltb-false, eqb-true, eq-eqb, cases_lt, cases_eq, and_cases, eqb-false, and_parts, or_parts}
 use Rattle.std.proofs.lemmas.List.{get_or_append_left, get_or_push, get_or-set_same, get_or-set_other}
 use Rattle.layers.specs.Net.{table, Outs, Layer, Net, node, target, redirect, width, PathFrom}
 use Rattle.layers.specs.Flow.{arrivals_at}
@@ -73,11 +74,7 @@ pick-left (suc s) t c e = e
 pick-right : (s t c : ℕ) → targets_differ s t ≡ false → t ≡ suc c → either_target s t ≡ suc c
 pick-right zero t c n e = e
 pick-right (suc s) zero c n e = absurd (omega arith)
-pick-right (suc s) (suc t) c n e = go (eqb s t) refl n
-  where
-    go : (q : Bool) → eqb s t ≡ q → not q ≡ false → suc s ≡ suc c
-    go true h m = let x = eqb-true s t h in omega arith
-    go false h m = absurd (true≢false m)
+pick-right (suc s) (suc t) c n e = grind (arith, nat_tests, n, e)
 
 both_left : (x y : Outs) (k c : ℕ) → get_or x k 0 ≡ suc c → get_or (both_out x y) k 0 ≡ suc c
 unfolding both_out
@@ -178,12 +175,7 @@ module _ {S V : Type 0} (by : Setting S V) where
 -- ---- part
 -- the nodes of a layer with one more are those of the layer
 pub more-back : (M : Layer) (nd : Outs) (c : ℕ) → c < suc (length M) → ((c < length M) × (node (M ++ (nd ∷ [])) c ≡ node M c)) ⊎ ((c ≡ length M) × (node (M ++ (nd ∷ [])) c ≡ nd))
-more-back M nd c h = go (ltb c (length M)) refl
-  where
-    go : (q : Bool) → ltb c (length M) ≡ q → ((c < length M) × (node (M ++ (nd ∷ [])) c ≡ node M c)) ⊎ ((c ≡ length M) × (node (M ++ (nd ∷ [])) c ≡ nd))
-    go true e = let k = ltb-true c (length M) e in inl (k, get_or_append_left M (nd ∷ []) [] c k)
-    go false e = let k : c ≡ length M = omega (arith, ltb-false c (length M) e) in
-        inr (k, rw k (get_or_push M nd [] (length M) refl))
+more-back M nd c h = elim (cases_lt c (length M)) [ inl k ↦ inl (k, get_or_append_left M (nd ∷ []) [] c k) | inr k ↦ inr (omega arith, get_or_push M nd [] c (omega arith)) ]
 
 module _ (M : Layer) (a : ℕ) (inn : a < length M) where
   more-ranged : (m : ℕ) → IsRanged M m → IsRanged (M ++ (node M a ∷ [])) m
@@ -333,19 +325,15 @@ target-back x y (suc k) b e = both-back x y k b e
 
 moved-below : (lo hi c : ℕ) → c < hi → place_after_join lo hi c ≡ c
 unfolding place_after_join
-moved-below lo hi c h = rw (ne_eqb c hi (omega arith)) (go (ltb hi c) refl)
-  where
-    go : (q : Bool) → ltb hi c ≡ q → cond q (c - 1) c ≡ c
-    go true e = let z = ltb-true hi c e in absurd (omega arith)
-    go false e = refl
+moved-below lo hi c h = grind (arith, nat_tests)
 
 moved-above : (lo hi c : ℕ) → hi ≤ c → place_after_join lo hi (suc c) ≡ c
 unfolding place_after_join
-moved-above lo hi c h = rw ((ne_eqb (suc c) hi (omega arith)), (lt-ltb hi (suc c) (omega arith))) (omega arith)
+moved-above lo hi c h = grind (arith, nat_tests)
 
 moved_at : (lo hi : ℕ) → place_after_join lo hi hi ≡ lo
 unfolding place_after_join
-moved_at lo hi = ap (λ (q : Bool). cond q lo (cond (ltb hi hi) (hi - 1) hi)) (eq-eqb hi hi refl)
+moved_at lo hi = grind (arith, nat_tests)
 
 module _ (M : Layer) (lo hi : ℕ) (lt : lo < hi) (inn : hi < length M) (nc : clash (node M lo) (node M hi) ≡ false) where
   abbrev X : Layer
@@ -380,12 +368,8 @@ module _ (M : Layer) (lo hi : ℕ) (lt : lo < hi) (inn : hi < length M) (nc : cl
   from c k = elim (cases_lt c hi) [ inl h ↦ (c, omega (arith, long), moved-below lo hi c h) | inr h ↦ (suc c, omega (arith, long), moved-above lo hi c h) ]
 
   to : (b : ℕ) → b < length M → place_after_join lo hi b < length M'
-  to b k = go (cases_lt b hi) (cases_eq b hi)
-    where
-      go : (b < hi) ⊎ (hi ≤ b) → (b ≡ hi) ⊎ (¬ (b ≡ hi)) → place_after_join lo hi b < length M'
-      go (inl h) s = omega (arith, long, moved-below lo hi b h)
-      go (inr h) (inl s) = omega (arith, long, ap (place_after_join lo hi) s ∙ moved_at lo hi)
-      go (inr h) (inr s) = let z : suc (b - 1) ≡ b = omega arith in omega (arith, long, ap (place_after_join lo hi) (sym z) ∙ moved-above lo hi (b - 1) (omega arith))
+  unfolding place_after_join
+  to b k = grind (arith, nat_tests, k, long)
 
   join-led : IsLed M → IsLed M'
   join-led h c k = let q = from c k in let s = h q.0 q.1 in

@@ -83,18 +83,10 @@ module _ {S V : Type 0} {Keeps : List ℕ → Type 0} {Stands : S → List ℕ �
   fits-first = record { part = tt; all = λ j h. absurd (none_has j h); some = λ j i. absurd i; finish = omega arith; lasts = refl; state = ruled.start_stands; value = tallied.order_self by.tally.start }
 
   lesser-left : (a b : V) → by.tally.not_above (by.tally.lesser a b) a ≡ true
-  lesser-left a b = rw (tallied.lesser_is a b) (go (by.tally.not_above a b) refl)
-    where
-      go : (q : Bool) → by.tally.not_above a b ≡ q → by.tally.not_above (cond q a b) a ≡ true
-      go true e = tallied.order_self a
-      go false e = tallied.order_total a b e
+  lesser-left a b = rw (tallied.lesser_is a b) (grind (arith, tallied.order_self a, tallied.order_total a b))
 
   lesser-right : (a b : V) → by.tally.not_above (by.tally.lesser a b) b ≡ true
-  lesser-right a b = rw (tallied.lesser_is a b) (go (by.tally.not_above a b) refl)
-    where
-      go : (q : Bool) → by.tally.not_above a b ≡ q → by.tally.not_above (cond q a b) b ≡ true
-      go true e = e
-      go false e = tallied.order_self b
+  lesser-right a b = rw (tallied.lesser_is a b) (grind (arith, tallied.order_self b, tallied.order_total a b))
 
   unfoldable pub Less : Down S V → Down S V → Type 0
   Less x y = (p : List ℕ) → Fits x p → Fits y p
@@ -172,11 +164,7 @@ module _ {S V : Type 0} {Keeps : List ℕ → Type 0} {Stands : S → List ℕ �
   good-first (suc a) l e = absurd cc
 
   lesser-fine : (k : ℕ) (a b : V) → Allows k a → Allows k b → Allows k (by.tally.lesser a b)
-  lesser-fine k a b x y = rw (tallied.lesser_is a b) (go (by.tally.not_above a b))
-    where
-      go : (q : Bool) → Allows k (cond q a b)
-      go true = x
-      go false = y
+  lesser-fine k a b x y = rw (tallied.lesser_is a b) (grind (arith, x, y))
 
   pub good-next : (k : ℕ) (labs : List (Option (Down S V))) (L : Layer) (count : ℕ) → k < 16 → Good k labs → EvenLayer by.round.n L → Good (suc k) (labels_next by labs L count)
   unfolding Good labels_next arrival_over merge
