@@ -34,8 +34,7 @@ compress-fewer : (fs : List Bool) (L : Layer) → count_layer (compress fs L) �
 unfolding count_layer compress
 compress-fewer [] L = omega arith
 compress-fewer (f ∷ fs) [] = omega arith
-compress-fewer (true ∷ fs) (x ∷ L) = let h = compress-fewer fs L in omega arith
-compress-fewer (false ∷ fs) (x ∷ L) = let h = compress-fewer fs L in omega arith
+compress-fewer (f ∷ fs) (x ∷ L) = grind (arith, compress-fewer fs L)
 
 tidy-fewer : (fr : List (Option Mark)) (Ls : Net) → count_arcs (tidy fr Ls) ≤ count_arcs Ls
 unfolding count_arcs tidy

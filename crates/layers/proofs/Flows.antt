@@ -51,8 +51,7 @@ redirect-arc f L a j b e = redirect-get f L a j ∙ ap (at_door (f a) j) e
 
 -- ---- places in range
 pub has-arc : (L : Layer) (a j b : ℕ) → target (node L a) j ≡ suc b → a < length L
-has-arc [] a zero b e = absurd (omega arith)
-has-arc [] a (suc k) b e = absurd (omega arith)
+has-arc [] a j b e = grind (arith, e)
 has-arc (nd ∷ L) zero j b e = omega arith
 has-arc (nd ∷ L) (suc a) j b e = let h : a < length L = has-arc L a j b e in omega arith
 
@@ -80,16 +79,15 @@ module _ {A : Type 0} (arrival_over : A → ℕ → A) (merge : A → A → A) w
 
   pub ins-in : (b : ℕ) (labs : List (Option A)) (L : Layer) (a j : ℕ) (l : A) → target (node L a) j ≡ suc b → get_or labs a None ≡ Some l → Among (arrival_over l j) (arrivals_at arrival_over b labs L)
   unfolding arrivals_at
-  ins-in b [] L a j l e g = absurd cc
-  ins-in b (o ∷ labs) [] a zero l e g = absurd (omega arith)
+  ins-in b labs L a zero l e g = absurd (omega arith)
+  ins-in b [] L a (suc k) l e g = absurd cc
   ins-in b (o ∷ labs) [] a (suc k) l e g = absurd (omega arith)
-  ins-in b (None ∷ labs) (nd ∷ L) zero j l e g = absurd cc
-  ins-in b (None ∷ labs) (nd ∷ L) (suc a) j l e g = ins-in b labs L a j l e g
-  ins-in b (Some l' ∷ labs) (nd ∷ L) zero zero l e g = absurd (omega arith)
+  ins-in b (None ∷ labs) (nd ∷ L) zero (suc k) l e g = absurd cc
+  ins-in b (None ∷ labs) (nd ∷ L) (suc a) (suc k) l e g = ins-in b labs L a (suc k) l e g
   ins-in b (Some l' ∷ labs) (nd ∷ L) zero (suc k) l e g =
       let x : l' ≡ l = cc in
       among-left (arrival_over l (suc k)) (arrivals_by_door arrival_over b l' 1 nd) (arrivals_at arrival_over b labs L) (rw (← x) (ins_door-in b l' 1 nd k (suc k) (omega arith) e))
-  ins-in b (Some l' ∷ labs) (nd ∷ L) (suc a) j l e g = among-right (arrival_over l j) (arrivals_by_door arrival_over b l' 1 nd) (arrivals_at arrival_over b labs L) (ins-in b labs L a j l e g)
+  ins-in b (Some l' ∷ labs) (nd ∷ L) (suc a) (suc k) l e g = among-right _ (arrivals_by_door arrival_over b l' 1 nd) _ (ins-in b labs L a (suc k) l e g)
 
 module _ {A : Type 0} (merge : A → A → A) (R : A → A → Type 0) (R-refl : (x : A) → R x x) (R-trans : (x y z : A) → R x y → R y z → R x z)
     (left : (x y : A) → R x (merge x y)) (right : (x y : A) → R y (merge x y)) where
@@ -119,14 +117,8 @@ module _ {A : Type 0} (merge : A → A → A) (R : A → A → Type 0) (R-refl :
   outs-in : (climb : A → ℕ → A) (us : List (Option A)) (u : A) (j : ℕ) (ts : Outs) (k m b : ℕ) → j + k ≡ m → get_or ts k 0 ≡ suc b → get_or us b None ≡ Some u → Among (climb u m) (climbs_of climb us j ts)
   unfolding climbs_of
   outs-in climb us u j [] k m b h e g = absurd (omega arith)
-  outs-in climb us u j (t ∷ ts) zero m b h e g =
-      let x : read us t ≡ Some u = ap (read us) e ∙ g in let y : m ≡ j = omega arith in
-      rw x (inl (ap (climb u) y))
-  outs-in climb us u j (t ∷ ts) (suc k) m b h e g = more (read us t) (outs-in climb us u (suc j) ts k m b (omega arith) e g)
-    where
-      more : (o : Option A) → Among (climb u m) (climbs_of climb us (suc j) ts) → Among (climb u m) (cons_if_some climb j o (climbs_of climb us (suc j) ts))
-      more None i = i
-      more (Some l) i = inr i
+  outs-in climb us u j (t ∷ ts) zero m b h e g = let y : m ≡ j = omega arith in grind (arith, e, g, y)
+  outs-in climb us u j (t ∷ ts) (suc k) m b h e g = grind (arith, outs-in climb us u (suc j) ts k m b (omega arith) e g)
 
   pub up_at : (climb : A → ℕ → A) (top : A) (L : Layer) (Ls : Net) (a j b : ℕ) (u : A) → target (node L a) j ≡ suc b → get_or (up climb merge top Ls) b None ≡ Some u
       → (m : A) × (get_or (up climb merge top (L ∷ Ls)) a None ≡ Some m) × R (climb u j) m
@@ -162,10 +154,8 @@ pub compress-at : (fs : List Bool) (L : Layer) (a : ℕ) → get_or fs a false �
 unfolding compress rank
 compress-at [] L a e = absurd cc
 compress-at (f ∷ fs) [] a e = refl
-compress-at (true ∷ fs) (x ∷ xs) zero e = refl
-compress-at (false ∷ fs) (x ∷ xs) zero e = absurd cc
-compress-at (true ∷ fs) (x ∷ xs) (suc a) e = compress-at fs xs a e
-compress-at (false ∷ fs) (x ∷ xs) (suc a) e = compress-at fs xs a e
+compress-at (f ∷ fs) (x ∷ xs) zero e = grind (arith, e)
+compress-at (f ∷ fs) (x ∷ xs) (suc a) e = grind (arith, e, compress-at fs xs a)
 
 pub rank-zero : (fs : List Bool) → rank fs 0 ≡ 0
 unfolding rank

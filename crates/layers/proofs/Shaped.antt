@@ -69,8 +69,7 @@ take-among : {A : Type 0} (m k : ℕ) (xs : List A) (x : A) → m ≤ k → Amon
 take-among zero k xs x h i = absurd i
 take-among (suc m) zero xs x h i = absurd (omega arith)
 take-among (suc m) (suc k) [] x h i = i
-take-among (suc m) (suc k) (y ∷ xs) x h (inl e) = inl e
-take-among (suc m) (suc k) (y ∷ xs) x h (inr i) = inr (take-among m k xs x (omega arith) i)
+take-among (suc m) (suc k) (y ∷ xs) x h i = grind (arith, h, i, take-among m k xs x)
 
 drop-among : {A : Type 0} (w m : ℕ) (xs : List A) (x : A) → Among x (take m (drop w xs)) → Among x (take (w + m) xs)
 drop-among zero m xs x i = rw (zero-add m) i

@@ -31,34 +31,28 @@ count-skip P b (suc k) n h = inr (n, h)
 rank-on : (fs : List Bool) (b : ℕ) → get_or fs b false ≡ true → rank fs (suc b) ≡ suc (rank fs b)
 unfolding rank
 rank-on [] b e = absurd (false≢true e)
-rank-on (true ∷ fs) zero e = ap suc (rank-zero fs)
-rank-on (false ∷ fs) zero e = absurd (false≢true e)
-rank-on (true ∷ fs) (suc b) e = ap suc (rank-on fs b e)
-rank-on (false ∷ fs) (suc b) e = rank-on fs b e
+rank-on (f ∷ fs) zero e = grind (arith, e, rank-zero fs)
+rank-on (f ∷ fs) (suc b) e = grind (arith, e, rank-on fs b)
 
 rank-off : (fs : List Bool) (b : ℕ) → get_or fs b false ≡ false → rank fs (suc b) ≡ rank fs b
 unfolding rank
 rank-off [] b e = refl
-rank-off (true ∷ fs) zero e = absurd (true≢false e)
-rank-off (false ∷ fs) zero e = rank-zero fs
-rank-off (true ∷ fs) (suc b) e = ap suc (rank-off fs b e)
-rank-off (false ∷ fs) (suc b) e = rank-off fs b e
+rank-off (f ∷ fs) zero e = grind (arith, e, rank-zero fs)
+rank-off (f ∷ fs) (suc b) e = grind (arith, e, rank-off fs b)
 
 -- a rank is the count of the flags before
 count-rank : (P : ℕ → Type 0) (fs : List Bool) → ((b : ℕ) → get_or fs b false ≡ true → P b) → ((b : ℕ) → P b → get_or fs b false ≡ true) → (b : ℕ) → CountBelow P b (rank fs b)
 count-rank P fs f g zero = rank-zero fs
-count-rank P fs f g (suc b) = go (get_or fs b false) refl (count-rank P fs f g b)
-  where
-    go : (q : Bool) → get_or fs b false ≡ q → CountBelow P b (rank fs b) → CountBelow P (suc b) (rank fs (suc b))
-    go true e h = rw (rank-on fs b e) (inl (f b e, h))
-    go false e h = rw (rank-off fs b e) (count-skip P b (rank fs b) (λ p. true≢false (sym (g b p) ∙ e)) h)
+count-rank P fs f g (suc b) = let h = count-rank P fs f g b in elim (get_or fs b false) as (λ q. get_or fs b false ≡ q → CountBelow P (suc b) (rank fs (suc b))) [
+  | true ↦ λ e. rw (rank-on fs b e) (inl (f b e, h))
+  | false ↦ λ e. rw (rank-off fs b e) (count-skip P b (rank fs b) (λ p. true≢false (sym (g b p) ∙ e)) h)
+] refl
 
 compress-long : (fs : List Bool) (X : Layer) → length (compress fs X) ≡ rank fs (length X)
 unfolding compress rank
 compress-long [] X = refl
 compress-long (f ∷ fs) [] = refl
-compress-long (true ∷ fs) (x ∷ X) = ap suc (compress-long fs X)
-compress-long (false ∷ fs) (x ∷ X) = compress-long fs X
+compress-long (f ∷ fs) (x ∷ X) = grind (arith, compress-long fs X)
 
 -- ---- the flags of layer i, where fr are the marks of the first layer
 abbrev flags_of : List (Option Mark) → Net → ℕ → List Bool

@@ -1,7 +1,7 @@
 -- After tidying, every node lies on a path.
 use Rattle.std.proofs.Common.{◌≡◌, ℕ, zero, suc, ◌<◌, Bool, true, false, List, [], ◌∷◌, length, get_or, Some, None, Option, sym, refl, ap, ◌∙◌, le_of_suc-le-suc, not-suc-le-zero, arith}
 use lib.ListN.{length-map}
-use Rattle.std.proofs.lemmas.Bool.{false≢true, and_parts}
+use Rattle.std.proofs.lemmas.Bool.{false≢true}
 use Rattle.std.proofs.lemmas.Option.{none-some}
 use Rattle.std.proofs.lemmas.List.{ext_get_or}
 use Rattle.layers.specs.Net.{Outs, Layer, Net, node, target, width, each_door, each_node, redirect}
@@ -9,8 +9,7 @@ use Rattle.layers.specs.Flow.{arrivals_at, gather, climbs_of, up}
 use Rattle.layers.specs.Tidy.{Mark, marks_next, marks_up, flags, rank, compress, renumber, tidy, tidied_arcs}
 use Rattle.layers.specs.Lawful.{IsRanged, IsLed, IsTied}
 use Rattle.layers.specs.Targets.{at_door}
-use Rattle.layers.proofs.Flows.{gather-any, outs-from, map-some, redirect-get, redirect-arc, has-arc, ins-from, next-some, up_at, mark-next, flags-at, compress-at, renumber-at}
-use Rattle.std.specs.Prelude.{is_some}
+use Rattle.layers.proofs.Flows.{gather-any, outs-from, map-some, redirect-get, redirect-arc, has-arc, ins-from, next-some, up_at, mark-next, flags-at, compress-at, renumber-at, rank-zero}
 
 -- ---- redirecting, backwards
 pub redirect-back : (f : ℕ → ℕ → ℕ → ℕ) (L : Layer) (a j c : ℕ) → target (node (redirect f L) a) j ≡ suc c → (b : ℕ) × (target (node L a) j ≡ suc b) × (f a j b ≡ suc c)
@@ -64,15 +63,11 @@ redirect-same f L h = ext_get_or [] (redirect f L) L (redirect-length f L) (λ a
     go a j (suc b) e = h a j b e
 
 -- ---- flags
-pub some_of : (o : Option Mark) → is_some o ≡ true → o ≡ Some tt
-some_of None e = absurd (false≢true e)
-some_of (Some tt) e = refl
-
 pub flags-back : (fr us : List (Option Mark)) (a : ℕ) → get_or (flags fr us) a false ≡ true → (get_or fr a None ≡ Some tt) × (get_or us a None ≡ Some tt)
 unfolding flags
 flags-back [] us a e = absurd (false≢true e)
 flags-back (x ∷ fr) [] a e = absurd (false≢true e)
-flags-back (x ∷ fr) (u ∷ us) zero e = let q = and_parts (is_some x) (is_some u) e in (some_of x q.0, some_of u q.1)
+flags-back (x ∷ fr) (u ∷ us) zero e = grind (arith, e)
 flags-back (x ∷ fr) (u ∷ us) (suc a) e = flags-back fr us a e
 
 within : (us : List (Option Mark)) (a : ℕ) → get_or us a None ≡ Some tt → a < length us
@@ -89,10 +84,8 @@ rank_lt : (fs : List Bool) (X : Layer) (b : ℕ) → get_or fs b false ≡ true 
 unfolding rank compress
 rank_lt [] X b e h = absurd (false≢true e)
 rank_lt (f ∷ fs) [] b e h = absurd (not-suc-le-zero h)
-rank_lt (true ∷ fs) (x ∷ X) zero e h = omega arith
-rank_lt (false ∷ fs) (x ∷ X) zero e h = absurd (false≢true e)
-rank_lt (true ∷ fs) (x ∷ X) (suc b) e h = let q = rank_lt fs X b e (le_of_suc-le-suc h) in omega arith
-rank_lt (false ∷ fs) (x ∷ X) (suc b) e h = rank_lt fs X b e (le_of_suc-le-suc h)
+rank_lt (f ∷ fs) (x ∷ X) zero e h = grind (arith, e)
+rank_lt (f ∷ fs) (x ∷ X) (suc b) e h = grind (arith, e, rank_lt fs X b)
 
 pub compress-back : (fs : List Bool) (X : Layer) (c : ℕ) → c < length (compress fs X) → (b : ℕ) × (get_or fs b false ≡ true) × (rank fs b ≡ c) × (b < length X)
 unfolding rank compress
@@ -186,12 +179,7 @@ ranged-end fr L a j c e =
     let w = flag-within fr L [] q.0 h.0 in
     let z : q.0 ≡ 0 = omega arith in
     let y = ap (rank (fs fr L [])) (sym z) ∙ h.1 in
-    omega (arith, zero_rank (fs fr L []), y)
-  where
-    zero_rank : (gs : List Bool) → rank gs 0 ≡ 0
-    zero_rank [] = unfold rank in refl
-    zero_rank (true ∷ gs) = unfold rank in refl
-    zero_rank (false ∷ gs) = unfold rank in refl
+    omega (arith, rank-zero (fs fr L []), y)
 
 tidy-tied : (fr : List (Option Mark)) (Ls : Net) → IsTied (tidy fr Ls)
 unfolding tidy

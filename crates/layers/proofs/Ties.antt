@@ -1,7 +1,7 @@
 -- Opening, part and join keep every node on a path.
 use Rattle.std.proofs.Common.{◌≡◌, ℕ, zero, suc, ◌-◌, ◌<◌, ◌≤◌, Bool, true, false, cond, not, ◌&&◌, eqb, ltb, ◌⊎◌, List, [], ◌∷◌, ◌++◌, length, get_or, set, Some, None, Option, sym, refl, ap, ◌∙◌, inl, inr, le_of_suc-le-suc, not-suc-le-zero, arith, length-set}
 use Rattle.std.proofs.lemmas.Bool.Decides.{nat_tests}
-use Rattle.std.proofs.lemmas.Bool.{true≢false, ltb-true, ltb-false, eqb-true, eq-eqb, cases_lt, cases_eq, and_cases, eqb-false, and_parts, or_parts}
+use Rattle.std.proofs.lemmas.Bool.{true≢false, ltb-true, ltb-false, eqb-true, eq-eqb, cases_lt, cases_eq, and_cases, and_parts}
 use Rattle.std.proofs.lemmas.List.{get_or_append_left, get_or_push, get_or-set_same, get_or-set_other}
 use Rattle.layers.specs.Net.{table, Outs, Layer, Net, node, target, redirect, width, PathFrom}
 use Rattle.layers.specs.Flow.{arrivals_at}
@@ -67,65 +67,44 @@ drop-above (suc i) b [] h = refl
 drop-above (suc i) zero (x ∷ M) h = absurd (not-suc-le-zero h)
 drop-above (suc i) (suc b) (x ∷ M) h = drop-above i b M (le_of_suc-le-suc h)
 
-pick-left : (s t c : ℕ) → s ≡ suc c → either_target s t ≡ suc c
-pick-left zero t c e = absurd (omega arith)
-pick-left (suc s) t c e = e
-
-pick-right : (s t c : ℕ) → targets_differ s t ≡ false → t ≡ suc c → either_target s t ≡ suc c
-pick-right zero t c n e = e
-pick-right (suc s) zero c n e = absurd (omega arith)
-pick-right (suc s) (suc t) c n e = grind (arith, nat_tests, n, e)
-
-both_left : (x y : Outs) (k c : ℕ) → get_or x k 0 ≡ suc c → get_or (both_out x y) k 0 ≡ suc c
+-- the targets of both
+both-get : (x y : Outs) (k : ℕ) → get_or (both_out x y) k 0 ≡ either_target (get_or x k 0) (get_or y k 0)
 unfolding both_out
-both_left [] y k c e = absurd (omega arith)
-both_left (s ∷ x) [] k c e = e
-both_left (s ∷ x) (t ∷ y) zero c e = pick-left s t c e
-both_left (s ∷ x) (t ∷ y) (suc k) c e = both_left x y k c e
+both-get [] y k = refl
+both-get (zero ∷ x) [] zero = refl
+both-get (suc s ∷ x) [] zero = refl
+both-get (s ∷ x) [] (suc k) = grind arith
+both-get (s ∷ x) (t ∷ y) zero = refl
+both-get (s ∷ x) (t ∷ y) (suc k) = both-get x y k
 
-both_right : (x y : Outs) (k c : ℕ) → clash x y ≡ false → get_or y k 0 ≡ suc c → get_or (both_out x y) k 0 ≡ suc c
-unfolding both_out clash
-both_right [] y k c n e = e
-both_right (s ∷ x) [] k c n e = absurd (omega arith)
-both_right (s ∷ x) (t ∷ y) zero c n e = pick-right s t c (or_parts (targets_differ s t) (clash x y) n).0 e
-both_right (s ∷ x) (t ∷ y) (suc k) c n e = both_right x y k c (or_parts (targets_differ s t) (clash x y) n).1 e
+clash-get : (x y : Outs) (k : ℕ) → clash x y ≡ false → targets_differ (get_or x k 0) (get_or y k 0) ≡ false
+unfolding clash
+clash-get [] y k n = refl
+clash-get (s ∷ x) [] k n = grind arith
+clash-get (s ∷ x) (t ∷ y) zero n = grind (arith, n)
+clash-get (s ∷ x) (t ∷ y) (suc k) n = grind (arith, n, clash-get x y k)
 
-pub target_left : (x y : Outs) (k c : ℕ) → target x k ≡ suc c → target (both_out x y) k ≡ suc c
+target_left : (x y : Outs) (k c : ℕ) → target x k ≡ suc c → target (both_out x y) k ≡ suc c
 target_left x y zero c e = e
-target_left x y (suc k) c e = both_left x y k c e
+target_left x y (suc k) c e = both-get x y k ∙ grind (arith, e)
 
-pub target_right : (x y : Outs) (k c : ℕ) → clash x y ≡ false → target y k ≡ suc c → target (both_out x y) k ≡ suc c
+target_right : (x y : Outs) (k c : ℕ) → clash x y ≡ false → target y k ≡ suc c → target (both_out x y) k ≡ suc c
 target_right x y zero c n e = e
-target_right x y (suc k) c n e = both_right x y k c n e
+target_right x y (suc k) c n e = both-get x y k ∙ grind (arith, nat_tests, e, clash-get x y k n)
 
-pub join-node : (M : Layer) (lo hi b k c : ℕ) → lo < hi → hi < length M → clash (node M lo) (node M hi) ≡ false → target (node M b) k ≡ suc c
+target-back : (x y : Outs) (j b : ℕ) → target (both_out x y) j ≡ suc b → (target x j ≡ suc b) ⊎ (target y j ≡ suc b)
+target-back x y zero b e = inl e
+target-back x y (suc k) b e = grind (arith, e, both-get x y k)
+
+join-node : (M : Layer) (lo hi b k c : ℕ) → lo < hi → hi < length M → clash (node M lo) (node M hi) ≡ false → target (node M b) k ≡ suc c
     → target (node (without_place hi (set M lo (both_out (node M lo) (node M hi)))) (place_after_join lo hi b)) k ≡ suc c
 unfolding place_after_join
-join-node M lo hi b k c lt inn nc e = go (eqb b hi) refl (ltb hi b) refl
-  where
-    v : Outs
-    v = both_out (node M lo) (node M hi)
-
-    X : Layer
-    X = set M lo v
-
-    to : (z : ℕ) → node (without_place hi X) z ≡ v → target v k ≡ suc c → target (node (without_place hi X) z) k ≡ suc c
-    to z f g = rw f g
-
-    below : (q : Bool) → eqb b lo ≡ q → b < hi → target (node (without_place hi X) b) k ≡ suc c
-    below true f h = let s = eqb-true b lo f in
-        to b (drop-below hi b X h ∙ rw s (get_or-set_same M lo v [] (omega arith))) (target_left (node M lo) (node M hi) k c (rw (← s) e))
-    below false f h = rw (drop-below hi b X h ∙ get_or-set_other M lo b v [] (eqb-false b lo f)) e
-
-    go : (q : Bool) → eqb b hi ≡ q → (q' : Bool) → ltb hi b ≡ q' → target (node (without_place hi X) (cond q lo (cond q' (b - 1) b))) k ≡ suc c
-    go true f q' g = let s = eqb-true b hi f in
-        to lo (drop-below hi lo X lt ∙ get_or-set_same M lo v [] (omega arith)) (target_right (node M lo) (node M hi) k c nc (rw (← s) e))
-    go false f true g = let h = ltb-true hi b g in let z : suc (b - 1) ≡ b = omega arith in
-        ap (λ (nd : Outs). target nd k) (drop-above hi (b - 1) X (omega arith) ∙ ap (λ (y : ℕ). node X y) z ∙ get_or-set_other M lo b v [] (omega arith)) ∙ e
-    go false f false g = below (eqb b lo) refl (le b hi (eqb-false b hi f) g)
-      where
-        le : (x y : ℕ) → ¬ (x ≡ y) → ltb y x ≡ false → x < y
-        le x y n m = omega (arith, ltb-false y x m)
+join-node M lo hi b k c lt inn nc e =
+    let v = both_out (node M lo) (node M hi) in
+    let X = set M lo v in
+    let left = target_left (node M lo) (node M hi) k c in
+    let right = target_right (node M lo) (node M hi) k c nc in
+    grind (arith, nat_tests, e, lt, inn, left, right, drop-below hi b X, drop-below hi lo X lt, drop-above hi (b - 1) X, get_or-set_same M lo v [], get_or-set_other M lo b v [])
 
 pub join-keeps : (d lo hi : ℕ) (Ls : Net) (x : ℕ) (w : List ℕ) → lo < hi → hi < length (get_or Ls (suc d) []) → clash (node (get_or Ls (suc d) []) lo) (node (get_or Ls (suc d) []) hi) ≡ false
     → PathFrom Ls x w → PathFrom (joined_arcs d lo hi Ls) x w
@@ -205,7 +184,7 @@ module _ (M : Layer) (a : ℕ) (inn : a < length M) where
 module _ {S V : Type 0} (by : Setting S V) (self : (s : S) → by.rule.same s s ≡ true) where
   agree-self : (x : Down S V) → agree by.rule x x ≡ true
   unfolding agree
-  agree-self x = rw (eq-eqb x.all x.all refl, eq-eqb x.some x.some refl, eq-eqb x.finish x.finish refl, eq-eqb x.lasts x.lasts refl) (self x.state)
+  agree-self x = grind (arith, nat_tests, self x.state)
 
   odd-one : (x : Down S V) (l : List (Down S V)) → agrees_with_all by.rule x l ≡ false → (y : Down S V) × Among y l × (agree by.rule x y ≡ false)
   unfolding agrees_with_all
@@ -238,14 +217,7 @@ module _ {S V : Type 0} (by : Setting S V) (self : (s : S) → by.rule.same s s 
     f u j b = cond (eqb b a && differs_from_first by h (get_or labs u None) j) (suc (length M)) (suc b)
 
     part-ranged : IsRanged L (length M) → IsRanged (redirect f L) (length (M ++ (node M a ∷ [])))
-    part-ranged g u j c e =
-        let q = redirect-back f L u j c e in
-        let k = g u j q.0 q.1 in
-        go (eqb q.0 a && differs_from_first by h (get_or labs u None) j) q.0 k q.2
-      where
-        go : (t : Bool) (b : ℕ) → b < length M → cond t (suc (length M)) (suc b) ≡ suc c → c < length (M ++ (node M a ∷ []))
-        go true b k e = omega (arith, length-snoc M (node M a))
-        go false b k e = omega (arith, length-snoc M (node M a))
+    part-ranged g u j c e = let q = redirect-back f L u j c e in let k = g u j q.0 q.1 in let z = length-snoc M (node M a) in let y = q.2 in grind (arith, k, y, z)
 
     moves-to : (u j b : ℕ) (q : Bool) → target (node L u) j ≡ suc b → (eqb b a && differs_from_first by h (get_or labs u None) j) ≡ q → target (node (redirect f L) u) j ≡ cond q (suc (length M)) (suc b)
     moves-to u j b q e t = redirect-arc f L u j b e ∙ ap (λ (z : Bool). cond z (suc (length M)) (suc b)) t
@@ -307,21 +279,6 @@ drop-length zero [] h = absurd (not-suc-le-zero h)
 drop-length (suc i) [] h = absurd (not-suc-le-zero h)
 drop-length zero (x ∷ M) h = refl
 drop-length (suc i) (x ∷ M) h = ap suc (drop-length i M (le_of_suc-le-suc h))
-
-pick-back : (s t b : ℕ) → either_target s t ≡ suc b → (s ≡ suc b) ⊎ (t ≡ suc b)
-pick-back zero t b e = inr e
-pick-back (suc s) t b e = inl e
-
-both-back : (x y : Outs) (k b : ℕ) → get_or (both_out x y) k 0 ≡ suc b → (get_or x k 0 ≡ suc b) ⊎ (get_or y k 0 ≡ suc b)
-unfolding both_out
-both-back [] y k b e = inr e
-both-back (s ∷ x) [] k b e = inl e
-both-back (s ∷ x) (t ∷ y) zero b e = pick-back s t b e
-both-back (s ∷ x) (t ∷ y) (suc k) b e = both-back x y k b e
-
-target-back : (x y : Outs) (j b : ℕ) → target (both_out x y) j ≡ suc b → (target x j ≡ suc b) ⊎ (target y j ≡ suc b)
-target-back x y zero b e = inl e
-target-back x y (suc k) b e = both-back x y k b e
 
 moved-below : (lo hi c : ℕ) → c < hi → place_after_join lo hi c ≡ c
 unfolding place_after_join
