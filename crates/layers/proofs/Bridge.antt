@@ -44,12 +44,6 @@ ups-full M (N ∷ Ls) led t a h =
     let q = up_at {A = Up} merge_up (λ x y. Unit {0}) (λ x. tt) (λ x y z f g. tt) (λ x y. tt) (λ x y. tt) climb no_up M (N ∷ Ls) a s.0 s.1 x.0 s.2 x.1 in
     (q.0, q.1)
 
--- ---- from each node there is a way on to the end
-pub way_on : (M : Layer) (Ls : Net) → IsLed M → IsTied (M ∷ Ls) → (a : ℕ) → a < length M → (w : List ℕ) × PathFrom (M ∷ Ls) a w
-way_on M [] led t a h = let s = led a h in (s.0 ∷ [], (s.1, s.2, omega (arith, t a s.0 s.1 s.2)))
-way_on M (N ∷ Ls) led t a h =
-    let s = led a h in let x = way_on N Ls t.2 t.3 s.1 (t.0 a s.0 s.1 s.2) in (s.0 ∷ x.0, (s.1, s.2, x.1))
-
 -- ---- tables
 take-table : {A : Type 0} (m : ℕ) (f : ℕ → A) (rest : List A) → take m (table m f ++ rest) ≡ table m f
 take-table zero f rest = refl

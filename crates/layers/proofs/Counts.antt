@@ -1,4 +1,5 @@
 -- A sweep adds no arc; so refine's last sweeps end with one that answers 0. A tied diagram is left as it is by tidying.
+use Rattle.layers.proofs.Tidying.{tidied-same}
 use Rattle.std.proofs.Common.{◌≡◌, ℕ, zero, suc, ◌<◌, ◌≤◌, Bool, true, false, cond, not, eqb, List, [], ◌∷◌, length, get_or, Some, None, Option, refl, ap, ◌∙◌, ap₂, le_of_suc-le-suc, not-suc-le-zero, arith}
 use Rattle.std.proofs.lemmas.Bool.{false≢true, not-true, and_parts, eqb-true, eq-eqb}
 use Rattle.layers.specs.Net.{Outs, Layer, Net, width, each_door, each_node, redirect, count_doors, count_layer, count_arcs, every_door, every_arc}
@@ -49,76 +50,6 @@ tidied-fewer [] = omega arith
 tidied-fewer (L ∷ Ls) =
     let f : ℕ → ℕ → ℕ → ℕ = λ a j b. renumber (flags (marks_next (Some tt ∷ []) L (width Ls)) (marks_up Ls)) b in
     omega (arith, redirect-fewer f L, tidy-fewer (marks_next (Some tt ∷ []) L (width Ls)) Ls)
-
--- ---- tidying leaves a tied diagram as it is
-compress-all : (fs : List Bool) (L : Layer) → ((a : ℕ) → a < length L → get_or fs a false ≡ true) → compress fs L ≡ L
-unfolding compress
-compress-all [] [] h = refl
-compress-all [] (x ∷ L) h = absurd (false≢true (h 0 (omega arith)))
-compress-all (f ∷ fs) [] h = refl
-compress-all (true ∷ fs) (x ∷ L) h = ap (λ (y : Layer). x ∷ y) (compress-all fs L (λ a k. h (suc a) (omega arith)))
-compress-all (false ∷ fs) (x ∷ L) h = absurd (false≢true (h 0 (omega arith)))
-
-rank-all : (fs : List Bool) (b : ℕ) → ((c : ℕ) → c < b → get_or fs c false ≡ true) → rank fs b ≡ b
-unfolding rank
-rank-all [] zero h = refl
-rank-all [] (suc b) h = absurd (false≢true (h 0 (omega arith)))
-rank-all (true ∷ fs) zero h = refl
-rank-all (false ∷ fs) zero h = refl
-rank-all (true ∷ fs) (suc b) h = ap suc (rank-all fs b (λ c k. h (suc c) (omega arith)))
-rank-all (false ∷ fs) (suc b) h = absurd (false≢true (h 0 (omega arith)))
-
-end-up : (b : ℕ) → b < 1 → get_or (marks_up []) b None ≡ Some tt
-unfolding marks_up
-end-up zero h = unfold up in refl
-end-up (suc b) h = absurd (not-suc-le-zero (le_of_suc-le-suc h))
-
-marks-full : (M : Layer) (Ls : Net) → IsLed M → IsTied (M ∷ Ls) → (a : ℕ) → a < length M → get_or (marks_up (M ∷ Ls)) a None ≡ Some tt
-marks-full M [] led t a h = let s = led a h in climbs M [] a s.0 s.1 s.2 (end-up s.1 (t a s.0 s.1 s.2))
-marks-full M (N ∷ Ls) led t a h = let s = led a h in climbs M (N ∷ Ls) a s.0 s.1 s.2 (marks-full N Ls t.2 t.3 s.1 (t.0 a s.0 s.1 s.2))
-
--- a layer whose nodes are all marked keeps its arcs
-arcs-same : (fr : List (Option Mark)) (L : Layer) (Ls : Net) → ((a : ℕ) → a < length L → get_or fr a None ≡ Some tt) → IsTied (L ∷ Ls)
-    → redirect (λ a j b. renumber (flags (marks_next fr L (width Ls)) (marks_up Ls)) b) L ≡ L
-arcs-same fr L [] m t = redirect-same (λ a j b. renumber (flags (marks_next fr L 1) (marks_up [])) b) L (λ a j b e.
-    let z = t a j b e in
-    let f = flags-at (marks_next fr L 1) (marks_up []) b (mark-next fr L 1 a j b e (m a (has-arc L a j b e)) z) (end-up b z) in
-    renumber-at (flags (marks_next fr L 1) (marks_up [])) b f ∙ ap suc (rank-all (flags (marks_next fr L 1) (marks_up [])) b (λ c k. absurd (omega arith))))
-arcs-same fr L (M ∷ Ls) m t = redirect-same (λ a j b. renumber (flags (marks_next fr L (length M)) (marks_up (M ∷ Ls))) b) L (λ a j b e.
-    let z = t.0 a j b e in
-    renumber-at (flags (marks_next fr L (length M)) (marks_up (M ∷ Ls))) b (on b z) ∙ ap suc (rank-all (flags (marks_next fr L (length M)) (marks_up (M ∷ Ls))) b (λ c k. on c (omega arith))))
-  where
-    on : (b : ℕ) → b < length M → get_or (flags (marks_next fr L (length M)) (marks_up (M ∷ Ls))) b false ≡ true
-    on b h = let s = t.1 b h in
-        flags-at (marks_next fr L (length M)) (marks_up (M ∷ Ls)) b (mark-next fr L (length M) s.0 s.1 b s.2 (m s.0 (has-arc L s.0 s.1 b s.2)) h) (marks-full M Ls t.2 t.3 b h)
-
-marks-next : (fr : List (Option Mark)) (L M : Layer) (Ls : Net) → ((a : ℕ) → a < length L → get_or fr a None ≡ Some tt) → IsTied (L ∷ M ∷ Ls) → (b : ℕ) → b < length M → get_or (marks_next fr L (length M)) b None ≡ Some tt
-marks-next fr L M Ls m t b h = let s = t.1 b h in mark-next fr L (length M) s.0 s.1 b s.2 (m s.0 (has-arc L s.0 s.1 b s.2)) h
-
-tidy-same : (fr : List (Option Mark)) (L : Layer) (Ls : Net) → ((a : ℕ) → a < length L → get_or fr a None ≡ Some tt) → IsLed L → IsTied (L ∷ Ls) → tidy fr (L ∷ Ls) ≡ L ∷ Ls
-unfolding tidy
-tidy-same fr L [] m led t =
-    ap (λ (x : Layer). x ∷ []) (ap (compress (flags fr (marks_up (L ∷ [])))) (arcs-same fr L [] m t) ∙ compress-all (flags fr (marks_up (L ∷ []))) L (λ a k. flags-at fr (marks_up (L ∷ [])) a (m a k) (marks-full L [] led t a k)))
-tidy-same fr L (M ∷ Ls) m led t =
-    ap₂ (λ (x : Layer) (y : Net). x ∷ y)
-    (ap (compress (flags fr (marks_up (L ∷ M ∷ Ls)))) (arcs-same fr L (M ∷ Ls) m t) ∙ compress-all (flags fr (marks_up (L ∷ M ∷ Ls))) L (λ a k. flags-at fr (marks_up (L ∷ M ∷ Ls)) a (m a k) (marks-full L (M ∷ Ls) led t a k)))
-    (tidy-same (marks_next fr L (length M)) M Ls (marks-next fr L M Ls m t) t.2 t.3)
-
-pub tidied-same : (Ls : Net) → width Ls ≡ 1 → IsTied Ls → tidied_arcs Ls ≡ Ls
-unfolding tidied_arcs
-tidied-same [] w t = refl
-tidied-same (L ∷ []) w t = unfold tidy in ap (λ (x : Layer). x ∷ []) (arcs-same (Some tt ∷ []) L [] (λ a k. only a (omega arith)) t)
-  where
-    only : (a : ℕ) → a < 1 → get_or {A = Option Mark} (Some tt ∷ []) a None ≡ Some tt
-    only zero k = refl
-    only (suc a) k = absurd (not-suc-le-zero (le_of_suc-le-suc k))
-tidied-same (L ∷ M ∷ Ls) w t =
-    ap₂ (λ (x : Layer) (y : Net). x ∷ y) (arcs-same (Some tt ∷ []) L (M ∷ Ls) (λ a k. only a (omega arith)) t)
-    (tidy-same (marks_next (Some tt ∷ []) L (length M)) M Ls (marks-next (Some tt ∷ []) L M Ls (λ a k. only a (omega arith)) t) t.2 t.3)
-  where
-    only : (a : ℕ) → a < 1 → get_or {A = Option Mark} (Some tt ∷ []) a None ≡ Some tt
-    only zero k = refl
-    only (suc a) k = absurd (not-suc-le-zero (le_of_suc-le-suc k))
 
 -- where a sweep takes out nothing, no arc is one that it takes out
 doors-quiet : (t : ℕ → ℕ → Bool) (j : ℕ) (ts : Outs) → count_doors (each_door (λ j b. cond (t j b) 0 (suc b)) j ts) ≡ count_doors ts → every_door (λ j b. not (t j b)) j ts ≡ true

@@ -1,4 +1,5 @@
 -- What the labels mean, carried from the arcs to the records that a run leaves.
+use Rattle.layers.proofs.Tidying.{path-push, ranged-at, leads-at}
 use Rattle.std.proofs.Common.{◌≡◌, ℕ, zero, suc, ◌<◌, ◌≤◌, Bool, cond, not, List, [], ◌∷◌, length, get_or, drop, Some, None, Option, sym, refl, ap, subst, le_of_suc-le-suc, not-suc-le-zero, arith, true, ◌⊎◌, ◌++◌, ◌∙◌, inl, inr}
 use Rattle.round.specs.Clock.{latest_finish}
 use Rattle.rules.specs.Rules.{RuleLaws, RuleSense}
@@ -14,7 +15,6 @@ use Rattle.layers.specs.LabelLaws.{LeadsTo, Labelled, LabelsMean, PathTo, OnEver
 use Rattle.layers.proofs.Flows.{table_at, EvenLayer, Climbs, outs-from, map-some, From, ins-from, next-some, next-at, gather-all}
 use Rattle.layers.proofs.Model.{or_blank, or_no_up, labels_at}
 use Rattle.layers.proofs.Walk.{Good, path-up, good-first, good-next}
-use Rattle.layers.proofs.Bridge.{way_on}
 use Rattle.layers.proofs.Bridge.{Labs, Full, top, stood, table-long}
 use Rattle.layers.proofs.Standing.{X, full, nodes-X, arcs-X, after_end, run-reached}
 use Rattle.layers.specs.Settings.{Setting, setting}
@@ -92,13 +92,6 @@ tells-step a s k more w l t = record {
 }
 
 -- ---- paths to a node
-path-push : (D : Net) (x a k b : ℕ) (p : List ℕ) → PathTo D x p a → target (node (get_or D (length p) []) a) k ≡ suc b → PathTo D x (p ++ (k ∷ [])) b
-path-push [] x a zero b [] q e = absurd (omega arith)
-path-push [] x a (suc k) b [] q e = absurd (omega arith)
-path-push [] x a k b (j ∷ p) q e = absurd q
-path-push (L ∷ Ls) x a k b [] q e = (b, rw q e, refl)
-path-push (L ∷ Ls) x a k b (j ∷ p) q e = (q.0, q.1, path-push Ls q.0 a k b p q.2 e)
-
 -- the last arc of a path
 record Last (D : Net) (x d b : ℕ) (w : List ℕ) : Type 0 where
   before : List ℕ
@@ -117,13 +110,6 @@ path-last (L ∷ Ls) x zero b (j ∷ k ∷ w) q e = absurd (omega arith)
 path-last (L ∷ Ls) x (suc d) b (j ∷ w) q e =
     let s = path-last Ls q.0 d b w q.2 (omega arith) in
     record { before = j ∷ s.before; door = s.door; source = s.source; is = ap (λ (z : List ℕ). j ∷ z) s.is; path = (q.0, q.1, s.path); long = ap suc s.long; arc = s.arc }
-
-ranged-at : (D : Net) (d : ℕ) → IsTied D → d < length D → IsRanged (get_or D d []) (width (drop (suc d) D))
-ranged-at [] d t h = absurd (not-suc-le-zero h)
-ranged-at (L ∷ []) zero t h = t
-ranged-at (L ∷ []) (suc d) t h = absurd (not-suc-le-zero (le_of_suc-le-suc h))
-ranged-at (L ∷ M ∷ Ls) zero t h = t.0
-ranged-at (L ∷ M ∷ Ls) (suc d) t h = ranged-at (M ∷ Ls) d t.3 (le_of_suc-le-suc h)
 
 even-at : (n : ℕ) (D : Net) (d : ℕ) → IsEven n D → d < length D → EvenLayer n (get_or D d [])
 even-at n [] d s h = absurd (not-suc-le-zero h)
@@ -230,15 +216,6 @@ up-exact Ls a = go (get_or (ups Ls) a None) refl
     go (Some u) e =
         let o = owed-up Ls a u e in let t = tells-up Ls a u e in
         (all-exact u.allup u.someup (PathFrom Ls a) o t, some-exact u.allup u.someup (PathFrom Ls a) o t)
-
--- after the first layer a path leads on from each node
-leads-at : (D : Net) (i a : ℕ) → IsTied D → 1 ≤ i → i ≤ length D → a < width (drop i D) → (w : List ℕ) × PathFrom (drop i D) a w
-leads-at D zero a t lo hi h = absurd (omega arith)
-leads-at [] (suc i) a t lo hi h = absurd (not-suc-le-zero hi)
-leads-at (L ∷ []) (suc zero) a t lo hi h = ([], omega arith)
-leads-at (L ∷ []) (suc (suc i)) a t lo hi h = absurd (not-suc-le-zero (le_of_suc-le-suc hi))
-leads-at (L ∷ M ∷ Ls) (suc zero) a t lo hi h = way_on M Ls t.2 t.3 a h
-leads-at (L ∷ M ∷ Ls) (suc (suc i)) a t lo hi h = leads-at (M ∷ Ls) (suc i) a t.3 (omega arith) (le_of_suc-le-suc hi) h
 
 module _ {S V : Type 0} {Keeps : List ℕ → Type 0} {Stands : S → List ℕ → Type 0} (by : Setting S V) (ruled : RuleLaws by.round.n by.rule Keeps Stands) (w1 : 1 ≤ by.width) where
   -- a record that stands in the first of these layers has the labels worked out

@@ -15,7 +15,7 @@ use Rattle.layers.specs.Calls.{arcs, layer, records_with, bound, value_in}
 use Rattle.layers.specs.Shape.{targets_of, HasEnd, IsShaped, IsTimely}
 use Rattle.layers.proofs.Flows.{EvenLayer, Among, From, ins-from, next-some, gather-all}
 use Rattle.layers.proofs.Bridge.{ups-end, Full, top, stood, table-long}
-use Rattle.layers.proofs.Counts.{tidied-same}
+use Rattle.layers.proofs.Tidying.{tidied-same}
 use Rattle.layers.proofs.Tied.{tidied-tied}
 use Rattle.layers.proofs.Standing.{full, nodes-X, arcs-X, written}
 use Rattle.layers.specs.Settings.{Setting}

@@ -1,5 +1,7 @@
 -- Tidying in the subject's words: the paths stay, and exactly the nodes on a path, numbered anew in their order.
-use Rattle.std.proofs.Common.{◌≡◌, ℕ, zero, suc, ◌<◌, ◌≤◌, Bool, true, false, ◌⊎◌, List, [], ◌∷◌, length, get_or, drop, Some, None, Option, sym, refl, ap, ◌∙◌, subst, inl, inr, not-suc-le-zero, arith}
+use Rattle.layers.proofs.Ways.{length-snoc}
+use Rattle.layers.specs.Lawful.{IsLed, IsTied, IsRanged}
+use Rattle.std.proofs.Common.{◌≡◌, ℕ, zero, suc, ◌<◌, ◌≤◌, Bool, true, false, ◌⊎◌, List, [], ◌∷◌, length, get_or, drop, Some, None, Option, sym, refl, ap, ◌∙◌, subst, inl, inr, not-suc-le-zero, arith, ◌++◌, le_of_suc-le-suc}
 use Rattle.std.proofs.lemmas.Bool.{true≢false, false≢true, cases_eq}
 use Rattle.std.proofs.lemmas.List.{ext_get_or}
 use Rattle.layers.specs.Net.{Outs, Layer, Net, node, target, width, PathFrom, each_node, redirect}
@@ -323,3 +325,70 @@ tidy-same D t = record {
 
 pub tidy-stays : TidyStays
 tidy-stays D = (λ t. sym ((tidy-means D D).0 (tidy-same D t)), λ e. same-tidy D ((tidy-means D D).1 (sym e)))
+
+-- ---- where each node of a layer has an in-arc and an out-arc
+-- from each node there is a way on to the end
+way_on : (M : Layer) (Ls : Net) → IsLed M → IsTied (M ∷ Ls) → (a : ℕ) → a < length M → (w : List ℕ) × PathFrom (M ∷ Ls) a w
+way_on M [] led t a h = let s = led a h in (s.0 ∷ [], (s.1, s.2, omega (arith, t a s.0 s.1 s.2)))
+way_on M (N ∷ Ls) led t a h =
+    let s = led a h in let x = way_on N Ls t.2 t.3 s.1 (t.0 a s.0 s.1 s.2) in (s.0 ∷ x.0, (s.1, s.2, x.1))
+
+-- after the first layer a path leads on from each node
+pub leads-at : (D : Net) (i a : ℕ) → IsTied D → 1 ≤ i → i ≤ length D → a < width (drop i D) → (w : List ℕ) × PathFrom (drop i D) a w
+leads-at D zero a t lo hi h = absurd (omega arith)
+leads-at [] (suc i) a t lo hi h = absurd (not-suc-le-zero hi)
+leads-at (L ∷ []) (suc zero) a t lo hi h = ([], omega arith)
+leads-at (L ∷ []) (suc (suc i)) a t lo hi h = absurd (not-suc-le-zero (le_of_suc-le-suc hi))
+leads-at (L ∷ M ∷ Ls) (suc zero) a t lo hi h = way_on M Ls t.2 t.3 a h
+leads-at (L ∷ M ∷ Ls) (suc (suc i)) a t lo hi h = leads-at (M ∷ Ls) (suc i) a t.3 (omega arith) (le_of_suc-le-suc hi) h
+
+pub ranged-at : (D : Net) (d : ℕ) → IsTied D → d < length D → IsRanged (get_or D d []) (width (drop (suc d) D))
+ranged-at [] d t h = absurd (not-suc-le-zero h)
+ranged-at (L ∷ []) zero t h = t
+ranged-at (L ∷ []) (suc d) t h = absurd (not-suc-le-zero (le_of_suc-le-suc h))
+ranged-at (L ∷ M ∷ Ls) zero t h = t.0
+ranged-at (L ∷ M ∷ Ls) (suc d) t h = ranged-at (M ∷ Ls) d t.3 (le_of_suc-le-suc h)
+
+pub path-push : (D : Net) (x a k b : ℕ) (p : List ℕ) → PathTo D x p a → target (node (get_or D (length p) []) a) k ≡ suc b → PathTo D x (p ++ (k ∷ [])) b
+path-push [] x a zero b [] q e = absurd (omega arith)
+path-push [] x a (suc k) b [] q e = absurd (omega arith)
+path-push [] x a k b (j ∷ p) q e = absurd q
+path-push (L ∷ Ls) x a k b [] q e = (b, rw q e, refl)
+path-push (L ∷ Ls) x a k b (j ∷ p) q e = (q.0, q.1, path-push Ls q.0 a k b p q.2 e)
+
+-- and a way to it
+way-to : (D : Net) → width D ≡ 1 → IsTied D → (i b : ℕ) → i < length D → b < length (layer_of D i) → (w : List ℕ) × PathTo D 0 w b × (length w ≡ i)
+way-to [] o t i b lo h = absurd (not-suc-le-zero lo)
+way-to (L ∷ Ls) o t zero b lo h = ([], omega arith, refl)
+way-to (L ∷ Ls) o t (suc i) b lo h =
+    let s = fed-at (L ∷ Ls) i b t h in
+    let p = way-to (L ∷ Ls) o t i s.0 (omega arith) (has-arc (layer_of (L ∷ Ls) i) s.0 s.1 b s.2) in
+    (p.0 ++ (s.1 ∷ []), path-push (L ∷ Ls) 0 s.0 s.1 b p.0 p.1 (rw p.2 s.2), length-snoc p.0 s.1 ∙ ap suc p.2)
+  where
+    fed-at : (D : Net) (i b : ℕ) → IsTied D → b < length (layer_of D (suc i)) → (a : ℕ) × (j : ℕ) × (target (node (layer_of D i) a) j ≡ suc b)
+    fed-at [] i b t h = absurd (omega arith)
+    fed-at (L ∷ []) i b t h = absurd (omega arith)
+    fed-at (L ∷ M ∷ Ls) zero b t h = t.1 b h
+    fed-at (L ∷ M ∷ Ls) (suc i) b t h = fed-at (M ∷ Ls) i b t.3 h
+
+at-within : (D : Net) (i b : ℕ) → b < length (layer_of D i) → i < length D
+at-within [] i b h = absurd (omega arith)
+at-within (L ∷ D) zero b h = omega arith
+at-within (L ∷ D) (suc i) b h = let z = at-within D i b h in omega arith
+
+-- so nothing is to go
+pub tidied-same : (D : Net) → width D ≡ 1 → IsTied D → tidied_arcs D ≡ D
+tidied-same D o t = (tidy-stays D).0 (record {
+  nodes = λ i b h. let k = at-within D (suc i) b h in let p = way-to D o t (suc i) b k h in
+      record { to = (p.0, (p.1, p.2)); on = leads-at D (suc i) b t (omega arith) (omega arith) (within D (suc i) b h) };
+  arcs = λ i a j b e. let h = has-arc (layer_of D i) a j b e in let k = at-within D i a h in let p = way-to D o t i a k h in
+      record {
+        to = (p.0 ++ (j ∷ []), (path-push D 0 a j b p.0 p.1 (rw p.2 e), length-snoc p.0 j ∙ ap suc p.2));
+        on = leads-at D (suc i) b t (omega arith) k (ranged-at D i t k a j b e);
+      };
+})
+  where
+    within : (D : Net) (i b : ℕ) → b < length (layer_of D i) → b < width (drop i D)
+    within [] i b h = absurd (omega arith)
+    within (L ∷ D) zero b h = h
+    within (L ∷ D) (suc i) b h = within D i b h
