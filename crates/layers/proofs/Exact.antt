@@ -1,9 +1,8 @@
 -- While settled answers yes, the labels are exact, so every path is an allowed order and the bound is the least cost.
 use Rattle.std.proofs.lemmas.Bool.Decides.{nat_tests}
-use Rattle.std.proofs.Common.{◌≡◌, ℕ, zero, suc, ◌+◌, ◌<◌, ◌≤◌, Bool, true, false, not, eqb, ltb, List, [], ◌∷◌, ◌++◌, length, get_or, Some, None, fold, Option, sym, refl, ap, ◌∙◌, inl, inr, append-nil, not-suc-le-zero, arith}
+use Rattle.std.proofs.Common.{◌≡◌, ℕ, zero, suc, ◌+◌, ◌<◌, ◌≤◌, Bool, true, false, not, List, [], ◌∷◌, ◌++◌, length, get_or, Some, None, fold, Option, sym, refl, ap, ◌∙◌, inl, inr, append-nil, not-suc-le-zero, arith}
 use lib.Bits.{bit_or, bit_and, and_self, or_self}
-use lib.Count.{ones}
-use Rattle.std.proofs.lemmas.Bool.{true≢false, not-true, ltb-false, eqb-true, ne_eqb, and_parts, or_parts, eq-eqb, cond_both}
+use Rattle.std.proofs.lemmas.Bool.{true≢false, not-true, ne_eqb, and_parts, cond_both}
 use Rattle.doors.proofs.Orders.{each_none, each_more}
 use Rattle.doors.specs.Orders.{IsDoor, StandsIn}
 use Rattle.doors.specs.Sets.{has}
@@ -39,18 +38,17 @@ module _ {S V : Type 0} {Keeps : List ℕ → Type 0} {Stands : S → List ℕ �
 
   pub agree-yes : (x y : Down S V) → agree by.rule x y ≡ true → Agree x y
   unfolding agree
-  agree-yes x y e =
-      let p = and_parts (eqb x.all y.all) _ e in
-      let q = and_parts (eqb x.some y.some) _ p.1 in
-      let s = and_parts (eqb x.finish y.finish) _ q.1 in
-      let t = and_parts (eqb x.lasts y.lasts) _ s.1 in
-      record { all = eqb-true x.all y.all p.0; some = eqb-true x.some y.some q.0; finish = eqb-true x.finish y.finish s.0; lasts = eqb-true x.lasts y.lasts t.0; state = ruled.same_is x.state y.state t.1 }
+  agree-yes x y e = record {
+    all = grind (arith, nat_tests, e);
+    some = grind (arith, nat_tests, e);
+    finish = grind (arith, nat_tests, e);
+    lasts = grind (arith, nat_tests, e);
+    state = ruled.same_is x.state y.state (grind (arith, nat_tests, e));
+  }
 
   yes-agree : (x y : Down S V) → Agree x y → agree by.rule x y ≡ true
   unfolding agree
-  yes-agree x y e =
-      rw (eq-eqb x.all y.all e.all, eq-eqb x.some y.some e.some, eq-eqb x.finish y.finish e.finish, eq-eqb x.lasts y.lasts e.lasts)
-      (ap (by.rule.same x.state) (sym e.state) ∙ ruled.same_self x.state)
+  yes-agree x y e = let s = ap (by.rule.same x.state) (sym e.state) ∙ ruled.same_self x.state in grind (arith, nat_tests, s, e.all, e.some, e.finish, e.lasts)
 
   pub agree-self : (x : Down S V) → Agree x x
   agree-self x = record { all = refl; some = refl; finish = refl; lasts = refl; state = refl }
@@ -83,8 +81,7 @@ module _ {S V : Type 0} {Keeps : List ℕ → Type 0} {Stands : S → List ℕ �
   all_yes : (x : Down S V) (l : List (Down S V)) → agrees_with_all by.rule x l ≡ true → (y : Down S V) → Among y l → Agree x y
   unfolding agrees_with_all
   all_yes x [] e y i = absurd i
-  all_yes x (z ∷ l) e y (inl f) = rw f (agree-yes x z (and_parts (agree by.rule x z) (agrees_with_all by.rule x l) e).0)
-  all_yes x (z ∷ l) e y (inr i) = all_yes x l (and_parts (agree by.rule x z) (agrees_with_all by.rule x l) e).1 y i
+  all_yes x (z ∷ l) e y i = grind (arith, e, i, agree-yes x z, all_yes x l)
 
   yes-all : (x : Down S V) (l : List (Down S V)) → ((y : Down S V) → Among y l → Agree x y) → agrees_with_all by.rule x l ≡ true
   unfolding agrees_with_all
@@ -111,17 +108,15 @@ unfolding every_door
 every_door-at f j [] k m b h t e = absurd (omega arith)
 every_door-at f j (zero ∷ ts) zero m b h t e = absurd (omega arith)
 every_door-at f j (zero ∷ ts) (suc k) m b h t e = every_door-at f (suc j) ts k m b (omega arith) t e
-every_door-at f j (suc c ∷ ts) zero m b h t e = let x : m ≡ j = omega arith in let y : b ≡ c = omega arith in let z : f m b ≡ f j c = cc in z ∙ (and_parts (f j c) (every_door f (suc j) ts) t).0
-every_door-at f j (suc c ∷ ts) (suc k) m b h t e = every_door-at f (suc j) ts k m b (omega arith) (and_parts (f j c) (every_door f (suc j) ts) t).1 e
+every_door-at f j (suc c ∷ ts) zero m b h t e = let x : m ≡ j = omega arith in let y : b ≡ c = omega arith in grind (arith, t, x, y)
+every_door-at f j (suc c ∷ ts) (suc k) m b h t e = grind (arith, t, every_door-at f (suc j) ts k m b (omega arith), e)
 
 pub every_arc-at : (f : ℕ → ℕ → ℕ → Bool) (c : ℕ) (L : Layer) (a m j b : ℕ) → c + a ≡ m → every_arc f c L ≡ true → target (node L a) j ≡ suc b → f m j b ≡ true
 unfolding every_arc
-every_arc-at f c [] a m zero b h t e = absurd (omega arith)
+every_arc-at f c L a m zero b h t e = absurd (omega arith)
 every_arc-at f c [] a m (suc k) b h t e = absurd (omega arith)
-every_arc-at f c (nd ∷ L) zero m zero b h t e = absurd (omega arith)
-every_arc-at f c (nd ∷ L) zero m (suc k) b h t e =
-    ap (λ (x : ℕ). f x (suc k) b) (omega arith) ∙ every_door-at (f c) 1 nd k (suc k) b (omega arith) (and_parts (every_door (f c) 1 nd) (every_arc f (suc c) L) t).0 e
-every_arc-at f c (nd ∷ L) (suc a) m j b h t e = every_arc-at f (suc c) L a m j b (omega arith) (and_parts (every_door (f c) 1 nd) (every_arc f (suc c) L) t).1 e
+every_arc-at f c (nd ∷ L) zero m (suc k) b h t e = let x : m ≡ c = omega arith in grind (arith, t, x, every_door-at (f c) 1 nd k (suc k) b (omega arith), e)
+every_arc-at f c (nd ∷ L) (suc a) m (suc k) b h t e = grind (arith, t, every_arc-at f (suc c) L a m (suc k) b (omega arith), e)
 
 module _ {S V : Type 0} {Keeps : List ℕ → Type 0} {Stands : S → List ℕ → Type 0} {Allows : ℕ → V → Type 0} (by : Setting S V) (ruled : RuleLaws by.round.n by.rule Keeps Stands) (tallied : TallyLaws by.round.n by.tally Allows) where
   -- ---- what is gathered from arrivals that agree agrees with each
@@ -181,12 +176,7 @@ module _ {S V : Type 0} {Keeps : List ℕ → Type 0} {Stands : S → List ℕ �
 
   clear : (i h j : ℕ) (l : Down S V) (u : Option Up) → is_barred by.round by.rule i h j (Some l) u ≡ false → Clear l j
   clear i h j l None e = absurd (true≢false e)
-  clear i h j l (Some u) e =
-      let a = or_parts (has l.all j) _ e in
-      let b = or_parts (ltb (ones (bit_or l.some (bit_of j))) (suc i)) _ a.1 in
-      let c = or_parts (ltb (door by.round j).closes (finish by.round l.finish (leg by.round l.lasts j) j)) _ b.1 in
-      let d = or_parts (by.rule.bars l.state j) _ c.1 in
-      record { new = a.0; early = ltb-false (door by.round j).closes (finish by.round l.finish (leg by.round l.lasts j) j) c.0; free = d.0 }
+  clear i h j l (Some u) e = record { new = grind (arith, e); early = grind (arith, nat_tests, e); free = grind (arith, e) }
 
   -- bit_of door on
   pub record Onward (l : Down S V) (p : List ℕ) (j : ℕ) : Type 0 where

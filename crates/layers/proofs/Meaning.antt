@@ -7,7 +7,7 @@ use Rattle.tallies.specs.Tallies.{TallyLaws, TallySense}
 use Rattle.layers.specs.declared.node.Node.{Node}
 use Rattle.layers.specs.Net.{Net, width, PathFrom, Layer, node, target}
 use Rattle.layers.specs.Flow.{up, arrivals_at, gather, climbs_of}
-use Rattle.layers.specs.Lawful.{IsEven, IsLawful, IsTied, IsRanged}
+use Rattle.layers.specs.Lawful.{IsEven, IsLawful, IsTied}
 use Rattle.layers.specs.Labels.{first_labels, labels_next, no_up, ups, bit_of, climb, merge_up, first_label, arrival_over, merge}
 use Rattle.layers.specs.Records.{nodes_in, padded_targets, record_of_place}
 use Rattle.layers.specs.Calls.{arcs, layer}

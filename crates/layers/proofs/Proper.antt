@@ -14,7 +14,7 @@ use Rattle.layers.proofs.Ways.{length-snoc}
 use Rattle.layers.proofs.Flows.{EvenLayer, table-long, compress-at}
 use Rattle.layers.proofs.Ties.{drop-below, drop-above}
 use Rattle.layers.proofs.Model.{one_group, part_at, labels_at}
-use Rattle.layers.proofs.Tied.{redirect-back, redirect-length, redirect-long, compress-back, tidied-tied}
+use Rattle.layers.proofs.Tied.{redirect-length, redirect-long, compress-back, tidied-tied, kept-back}
 use Rattle.layers.proofs.Ties.{opened-tied, more-even, drop-length, parted-tied, join_tied}
 use Rattle.layers.specs.Settings.{Setting}
 use Rattle.layers.specs.declared.node.Down.{Down}
@@ -103,16 +103,8 @@ tied-ranged (L ∷ []) t = (t, tt)
 tied-ranged (L ∷ M ∷ Ls) t = (t.0, tied-ranged (M ∷ Ls) t.3)
 
 -- ---- arcs taken out, layer by layer
-either-back : (q : Bool) (b c : ℕ) → cond q 0 (suc b) ≡ suc c → b ≡ c
-either-back true b c e = absurd (omega arith)
-either-back false b c e = omega arith
-
 less-ranged : (t : ℕ → ℕ → ℕ → Bool) (L : Layer) (m : ℕ) → IsRanged L m → IsRanged (redirect (λ a j b. cond (t a j b) 0 (suc b)) L) m
-less-ranged t L m h a j c e =
-    let q = redirect-back (λ a j b. cond (t a j b) 0 (suc b)) L a j c e in
-    let same = either-back (t a j q.0) q.0 c q.2 in
-    let k = h a j q.0 q.1 in
-    omega arith
+less-ranged t L m h a j c e = h a j c (kept-back t L a j c e)
 
 -- what is left has the form of what was there
 pub record Less (n W : ℕ) (Ls Ms : Net) : Type 0 where

@@ -17,14 +17,9 @@ use Rattle.layers.proofs.Tied.{redirect-back, redirect-length, redirect-long, fl
 count-only : (P : ℕ → Type 0) (b k m : ℕ) → CountBelow P b k → CountBelow P b m → k ≡ m
 count-only P zero k m x y = x ∙ sym y
 count-only P (suc b) zero zero x y = refl
-count-only P (suc b) zero (suc m) x (inl y) = absurd (x.0 y.0)
-count-only P (suc b) zero (suc m) x (inr y) = count-only P b zero (suc m) x.1 y.1
-count-only P (suc b) (suc k) zero (inl x) y = absurd (y.0 x.0)
-count-only P (suc b) (suc k) zero (inr x) y = count-only P b (suc k) zero x.1 y.1
-count-only P (suc b) (suc k) (suc m) (inl x) (inl y) = ap suc (count-only P b k m x.1 y.1)
-count-only P (suc b) (suc k) (suc m) (inl x) (inr y) = absurd (y.0 x.0)
-count-only P (suc b) (suc k) (suc m) (inr x) (inl y) = absurd (x.0 y.0)
-count-only P (suc b) (suc k) (suc m) (inr x) (inr y) = count-only P b (suc k) (suc m) x.1 y.1
+count-only P (suc b) zero (suc m) x y = grind (arith, x, y, count-only P b zero)
+count-only P (suc b) (suc k) zero x y = grind (arith, x, y, count-only P b (suc k) zero)
+count-only P (suc b) (suc k) (suc m) x y = grind (arith, x, y, count-only P b k m, count-only P b (suc k) (suc m))
 
 count-skip : (P : ℕ → Type 0) (b k : ℕ) → ¬ (P b) → CountBelow P b k → CountBelow P (suc b) k
 count-skip P b zero n h = (n, h)
@@ -254,8 +249,7 @@ tidy-means D E = (λ x. same-net D E (tidied_arcs D) x (tidies D), λ e. rw e (t
 count-le : (P : ℕ → Type 0) (m n : ℕ) → CountBelow P m n → n ≤ m
 count-le P zero n h = omega arith
 count-le P (suc m) zero h = omega arith
-count-le P (suc m) (suc n) (inl h) = omega (arith, count-le P m n h.1)
-count-le P (suc m) (suc n) (inr h) = omega (arith, count-le P m (suc n) h.1)
+count-le P (suc m) (suc n) h = grind (arith, h, count-le P m n, count-le P m (suc n))
 
 count-full : (P : ℕ → Type 0) (m : ℕ) → CountBelow P m m → (b : ℕ) → b < m → P b
 count-full P zero h b lt = absurd (not-suc-le-zero lt)

@@ -1,5 +1,5 @@
 -- After tidying, every node lies on a path.
-use Rattle.std.proofs.Common.{◌≡◌, ℕ, zero, suc, ◌<◌, Bool, true, false, List, [], ◌∷◌, length, get_or, Some, None, Option, sym, refl, ap, ◌∙◌, le_of_suc-le-suc, not-suc-le-zero, arith}
+use Rattle.std.proofs.Common.{◌≡◌, ℕ, zero, suc, ◌<◌, Bool, true, false, List, [], ◌∷◌, length, get_or, Some, None, Option, sym, refl, ap, ◌∙◌, le_of_suc-le-suc, not-suc-le-zero, arith, cond}
 use lib.ListN.{length-map}
 use Rattle.std.proofs.lemmas.Bool.{false≢true}
 use Rattle.std.proofs.lemmas.Option.{none-some}
@@ -18,6 +18,10 @@ redirect-back f L a j c e = go (target (node L a) j) refl (sym (redirect-get f L
     go : (t : ℕ) → target (node L a) j ≡ t → at_door (f a) j t ≡ suc c → (b : ℕ) × (target (node L a) j ≡ suc b) × (f a j b ≡ suc c)
     go zero h g = absurd (omega arith)
     go (suc b) h g = (b, h, g)
+
+-- where some arcs are taken out, the others stay
+pub kept-back : (t : ℕ → ℕ → ℕ → Bool) (L : Layer) (a j c : ℕ) → target (node (redirect (λ a j b. cond (t a j b) 0 (suc b)) L) a) j ≡ suc c → target (node L a) j ≡ suc c
+kept-back t L a j c e = let q = redirect-back (λ a j b. cond (t a j b) 0 (suc b)) L a j c e in let x = q.1 in let y = q.2 in grind (arith, x, y)
 
 each_node-length : (f : ℕ → ℕ → ℕ → ℕ) (i : ℕ) (L : Layer) → length (each_node f i L) ≡ length L
 unfolding each_node

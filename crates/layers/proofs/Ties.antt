@@ -8,13 +8,13 @@ use Rattle.layers.specs.Flow.{arrivals_at}
 use Rattle.layers.specs.Join.{clash, either_target, both_out, without_place, place_after_join, joined_arcs, targets_differ}
 use Rattle.layers.specs.Lawful.{IsRanged, IsFed, IsLed, IsTied}
 use Rattle.layers.specs.Labels.{arrival_over, agree, agrees_with_all, all_agree, differs_from_first, first_arrival, opening_arcs, all_doors, labels_next}
-use Rattle.layers.specs.Calls.{parted_arcs}
+use Rattle.layers.specs.Calls.{parted_arcs, arrivals}
 use Rattle.layers.proofs.Flows.{EvenLayer, Among, redirect-arc, has-arc, table_at, From, ins-from}
 use Rattle.layers.proofs.Ways.{length-snoc}
 use Rattle.layers.proofs.Tied.{redirect-back, redirect-length}
 use Rattle.layers.specs.Settings.{Setting}
 use Rattle.layers.specs.declared.node.Down.{Down}
-use Rattle.layers.proofs.Model.{part_at}
+use Rattle.layers.proofs.Model.{part_at, moved}
 
 -- ---- part
 module _ {S V : Type 0} (by : Setting S V) where
@@ -26,28 +26,13 @@ module _ {S V : Type 0} (by : Setting S V) where
   part-keeps zero a labs (L ∷ M ∷ Ls) x [] p = absurd p
   part-keeps zero a labs (L ∷ M ∷ Ls) x (j ∷ []) p = absurd p.2
   part-keeps zero a labs (L ∷ M ∷ Ls) x (j ∷ k ∷ w) p =
-      go (eqb b a && differs_from_first by h (get_or labs x None) j) refl
+      go (eqb p.0 a && differs_from_first by (first_arrival (arrivals by labs L a)) (get_or labs x None) j) refl
     where
-      b : ℕ
-      b = p.0
-
-      h : Option (Down S V)
-      h = first_arrival (arrivals_at (arrival_over by) a labs L)
-
-      f : ℕ → ℕ → ℕ → ℕ
-      f u j b = cond (eqb b a && differs_from_first by h (get_or labs u None) j) (suc (length M)) (suc b)
-
-      go : (q : Bool) → (eqb b a && differs_from_first by h (get_or labs x None) j) ≡ q → PathFrom (redirect f L ∷ (M ++ (node M a ∷ [])) ∷ Ls) x (j ∷ k ∷ w)
-      go true e = (
-        length M,
-        redirect-arc f L x j b p.1 ∙ ap (λ (z : Bool). cond z (suc (length M)) (suc b)) e,
-        (p.2.0, rw ((get_or_push M (node M a) [] (length M) refl), ← (eqb-true b a (and_parts (eqb b a) (differs_from_first by h (get_or labs x None) j) e).0)) p.2.1, p.2.2),
-      )
-      go false e = (
-        b,
-        redirect-arc f L x j b p.1 ∙ ap (λ (z : Bool). cond z (suc (length M)) (suc b)) e,
-        (p.2.0, rw (get_or_append_left M (node M a ∷ []) [] b (has-arc M b k p.2.0 p.2.1)) p.2.1, p.2.2),
-      )
+      go : (q : Bool) → (eqb p.0 a && differs_from_first by (first_arrival (arrivals by labs L a)) (get_or labs x None) j) ≡ q → PathFrom (redirect (moved by a labs L (length M)) L ∷ (M ++ (node M a ∷ [])) ∷ Ls) x (j ∷ k ∷ w)
+      go true e =
+          let same = eqb-true p.0 a (and_parts (eqb p.0 a) _ e).0 in
+          (length M, redirect-arc _ L x j p.0 p.1 ∙ rw e refl, (p.2.0, rw (get_or_push M (node M a) [] (length M) refl, ← same) p.2.1, p.2.2))
+      go false e = (p.0, redirect-arc _ L x j p.0 p.1 ∙ rw e refl, (p.2.0, rw (get_or_append_left M (node M a ∷ []) [] p.0 (has-arc M p.0 k p.2.0 p.2.1)) p.2.1, p.2.2))
   part-keeps (suc d) a labs (L ∷ Ls) x [] p = absurd p
   part-keeps (suc d) a labs (L ∷ Ls) x (j ∷ w) p = (p.0, p.1, part-keeps d a (labels_next by labs L (width Ls)) Ls p.0 w p.2)
 
@@ -247,11 +232,7 @@ module _ {S V : Type 0} (by : Setting S V) (self : (s : S) → by.rule.same s s 
     part-led : IsLed L → IsLed (redirect f L)
     part-led g u k =
         let s = g u (omega (arith, redirect-length f L)) in
-        go s.0 s.1 s.2 (eqb s.1 a && differs_from_first by h (get_or labs u None) s.0) refl
-      where
-        go : (j b : ℕ) → target (node L u) j ≡ suc b → (q : Bool) → (eqb b a && differs_from_first by h (get_or labs u None) j) ≡ q → (j : ℕ) × (b : ℕ) × (target (node (redirect f L) u) j ≡ suc b)
-        go j b e true t = (j, length M, moves-to u j b true e t)
-        go j b e false t = (j, b, moves-to u j b false e t)
+        (s.0, cond (eqb s.1 a && differs_from_first by h (get_or labs u None) s.0) (length M) s.1, redirect-arc f L u s.0 s.1 s.2 ∙ grind arith)
 
   -- with any labels of the layer before, as they may stand in records
   pub parted-tied : (d a : ℕ) (labs : List (Option (Down S V))) (Ls : Net) → a < length (get_or Ls (suc d) []) → all_agree by.rule (arrivals_at (arrival_over by) a labs (get_or Ls d [])) ≡ false → IsTied Ls → IsTied (parted_arcs by d a labs Ls)
