@@ -1,14 +1,14 @@
 -- Short words for the labels that are worked out from arcs, and for what calls and questions make of them. A device of the proofs.
-use Rattle.std.proofs.Common.{ℕ, zero, suc, Bool, ◌&&◌, List, [], ◌∷◌, get_or, Some, None, Option, unwrap_or}
+use Rattle.std.proofs.Common.{ℕ, zero, suc, Bool, ◌&&◌, List, [], ◌∷◌, get_or, Some, None, Option, unwrap_or, cond, eqb}
 use Rattle.rules.specs.Rules.{RuleSense}
 use Rattle.tallies.specs.Tallies.{TallySense}
 use Rattle.layers.specs.declared.node.Up.{Up}
-use Rattle.layers.specs.Net.{Net, width}
+use Rattle.layers.specs.Net.{Net, width, Layer}
 use Rattle.layers.specs.Flow.{end_label}
 use Rattle.layers.specs.Tidy.{tidied_arcs}
 use Rattle.layers.specs.Calls.{LayerLabels, kept_arcs, keeps_all_arcs, arrivals, parted_arcs, in_arcs_agree}
 use Rattle.round.specs.Clock.{finish}
-use Rattle.layers.specs.Labels.{leg, is_barred, is_above_ceiling, ups, no_up, first_labels, blank_label, arrival_over, merge, labels_next, all_agree}
+use Rattle.layers.specs.Labels.{leg, is_barred, is_above_ceiling, ups, no_up, first_labels, blank_label, arrival_over, merge, labels_next, all_agree, first_arrival, differs_from_first}
 use Rattle.layers.specs.Settings.{Setting}
 use Rattle.layers.specs.declared.node.Down.{Down}
 
@@ -52,6 +52,10 @@ module _ {S V : Type 0} (by : Setting S V) where
   -- d is the layer less one, a the place of the node
   abbrev pub part_at : ℕ → ℕ → List (Option (Down S V)) → Net → Net
   part_at d a labs Ls = parted_arcs by d a (labels_at d labs Ls) Ls
+
+  -- where parting the node at place a of a layer of m moves the arc by door j from place u to place b, in the layer before with the labels labs
+  abbrev pub moved : ℕ → List (Option (Down S V)) → Layer → ℕ → ℕ → ℕ → ℕ → ℕ
+  moved a labs L m u j b = cond (eqb b a && differs_from_first by (first_arrival (arrivals by labs L a)) (get_or labs u None) j) (suc m) (suc b)
 
   -- the in-arcs of the node at place a of layer d + 1 agree
   abbrev pub one_group : ℕ → ℕ → List (Option (Down S V)) → Net → Bool

@@ -3,6 +3,7 @@ use Rattle.std.proofs.Common.{◌≡◌, ℕ, zero, suc, ◌+◌, ◌-◌, ◌*�
 use Rattle.std.proofs.lemmas.Bool.Decides.{nat_tests}
 use Rattle.std.proofs.lemmas.Bool.{eqb-true, eq-eqb, and_parts}
 use Rattle.std.proofs.lemmas.List.{map-append, take_at}
+use Rattle.layers.specs.Lawful.{IsLawful}
 use Rattle.layers.specs.declared.node.Node.{Node}
 use Rattle.layers.specs.declared.node.Down.{Down}
 use Rattle.layers.specs.declared.node.Up.{Up}
@@ -15,9 +16,9 @@ use Rattle.layers.specs.declared.call.Call.{Call}
 use Rattle.layers.specs.declared.call.Call.TheVariants.{Sweep, Part, Join, Cut, Refine}
 use Rattle.layers.specs.Calls.{EachCut, kept_arcs, nodes, arcs, labels, layer, records_with, after_open, arcs_lost, after_sweep, sweep_answer, after_cut, count_of, part_answer, parted_records, after_part, join_answer, after_join, parts_of_layer, refinement_from, after_sweeps, refinement, after_call, after_calls, bound, is_settled, in_arcs_agree, value_in, one_group as oneGroupIn}
 use Rattle.layers.proofs.Model.{kept, sweep, cut, one_group, part_at, agrees, settles, bound as boundOf, settled as settled_of, labels_at}
-use Rattle.layers.proofs.Counts.{same_bool, sweep-fewer, settled-yes, settled-if}
-use Rattle.layers.proofs.Bridge.{Full, stood, map-table, full-first, layers-laid, drawn-stood, kept-stood, all-kept-stood, agrees-stood, stood-at, value-stood, laid-long, later-stays}
-use Rattle.layers.proofs.Proper.{Proper, even-of, proper-opened, proper-kept, proper-part, proper-join}
+use Rattle.layers.proofs.Counts.{same_bool, kept-same, sweep-fewer, settled-yes, settled-if}
+use Rattle.layers.proofs.Bridge.{Full, stood, map-table, full-first, layers-laid, drawn-stood, kept-stood, agrees-stood, stood-at, value-stood, laid-long, later-stays}
+use Rattle.layers.proofs.Proper.{proper-opened, proper-kept, proper-part, proper-join}
 use Rattle.layers.specs.Settings.{Setting}
 
 -- ---- what sweep, part, join and cut each keep, every list of calls keeps
@@ -87,7 +88,7 @@ nothing-less m k h = grind (arith, nat_tests)
 
 module _ {S V : Type 0} (by : Setting S V) (w : 1 ≤ by.width) (later : List (Node S V)) where
   abbrev Well : Net → Type 0
-  Well Ls = Proper by.round.n by.width Ls
+  Well Ls = IsLawful by.round.n by.width Ls
 
   abbrev first : List (Option (Down S V))
   first = first_labels by.rule by.tally
@@ -98,7 +99,7 @@ module _ {S V : Type 0} (by : Setting S V) (w : 1 ≤ by.width) (later : List (N
 
   pub full : (Ls : Net) → Well Ls → Full by w first Ls
   full [] p = absurd (omega (arith, p.deep, by.round.one))
-  full (L ∷ Ls) p = full-first by w L Ls p.one_first p.tied p.roomy (even-of by.round.n (L ∷ Ls) p.even)
+  full (L ∷ Ls) p = full-first by w L Ls p.one_first p.tied p.roomy p.even
 
   -- the nodes that stand are those of the arcs, with the labels worked out from the arcs
   pub nodes-X : (Ls : Net) → Well Ls → nodes by.round.n by.width (X Ls) ≡ stood by w first Ls
@@ -169,7 +170,10 @@ module _ {S V : Type 0} (by : Setting S V) (w : 1 ≤ by.width) (later : List (N
 
   pub settled-X : (Ls : Net) → Well Ls → is_settled by (X Ls) ≡ settled_of by Ls
   unfolding is_settled settled_of settles
-  settled-X Ls p = ap₂ ◌&&◌ (agrees-X Ls p) (rw (arcs-X Ls p, nodes-X Ls p) (all-kept-stood by w (is_barred by.round by.rule) 0 first Ls (full Ls p)))
+  settled-X Ls p =
+      let k = kept-stood by w (is_barred by.round by.rule) 0 first Ls (full Ls p) in
+      let t = kept-same (is_barred by.round by.rule) 0 Ls in
+      ap₂ ◌&&◌ (agrees-X Ls p) (rw (arcs-X Ls p, nodes-X Ls p) (sym (t _) ∙ ap (λ (z : Net). eqb (count_arcs z) (count_arcs Ls)) k ∙ t _))
 
   -- settled is yes exactly when the in-arcs agree and a sweep would answer 0
   pub settled-means-X : (Ls : Net) → Well Ls → is_settled by (X Ls) ≡ (in_arcs_agree by (arcs by.round.n by.width (X Ls)) (labels by.round.n by.width (X Ls)) && eqb (sweep_answer by (X Ls)) 0)

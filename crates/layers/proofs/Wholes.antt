@@ -8,7 +8,7 @@ use Rattle.layers.specs.declared.refined.Refined.{Refined}
 use Rattle.layers.specs.declared.refined.Refined.TheVariants.{Whole, Full}
 use Rattle.layers.specs.Net.{Layer, Net, node, target, width, redirect, count_arcs}
 use Rattle.layers.specs.Flow.{arrivals_at}
-use Rattle.layers.specs.Lawful.{IsTied, IsRoomy}
+use Rattle.layers.specs.Lawful.{IsLawful, IsRoomy, IsTied}
 use Rattle.layers.specs.Labels.{first_label, first_labels, arrival_over, merge, labels_next, agree, all_agree, first_arrival, differs_from_first}
 use Rattle.layers.specs.Calls.{arcs, parted_arcs, after_sweep, sweep_answer, count_of, one_group as oneGroupIn, parted_records, parts_of_layer, refinement_from, after_sweeps, refinement, after_open, after_calls, is_settled}
 use Rattle.layers.specs.SweepLaws.{RefineSweepsOutAlways}
@@ -17,10 +17,9 @@ use Rattle.layers.proofs.Flows.{Among, From, has-arc, ins-in, ins-from, next-som
 use Rattle.layers.proofs.Model.{sweep, part_at, one_group, or_blank}
 use Rattle.layers.proofs.Counts.{sweep-fewer, sweep-same, settled-if}
 use Rattle.layers.proofs.Tied.{redirect-back, redirect-length}
-use Rattle.layers.proofs.Lively.{labels_full}
-use Rattle.layers.proofs.Proper.{Proper}
+use Rattle.layers.proofs.Bridge.{labels_full}
 use Rattle.layers.proofs.Standing.{answer-X, settled-X, Reached, arcs-of, reached-sweep, count-of, group-of, reached-part, layers-refined, plain, after_end, run-reached}
-use Rattle.layers.proofs.Agreeing.{Agree, agree-self, agree-yes, agree-back, agree-merge, agree-arrive, pairs, by-pairs}
+use Rattle.layers.proofs.Exact.{Agree, agree-self, agree-yes, agree-back, agree-merge, agree-arrive, pairs, by-pairs}
 use Rattle.layers.proofs.Keys.{Keyed, KeyedTo, keyed-sweep, keyed-part, Fit, fit-first, fit_next, keyed-agrees}
 use Rattle.layers.specs.Settings.{Setting, setting}
 use Rattle.layers.specs.declared.node.Down.{Down}
@@ -31,7 +30,7 @@ roomy-at W zero (L ∷ Ls) h = h.0
 roomy-at W (suc i) (L ∷ Ls) h = roomy-at W i Ls h.1
 
 -- sweeps until one answers 0 leave what a further sweep leaves as it is: each before it takes out an arc, so there are enough of them
-swept-quiet : {S V : Type 0} (by : Setting S V) (w : 1 ≤ by.width) (later : List (Node S V)) (P : Net → Type 0) → ((Ls : Net) → Proper by.round.n by.width Ls → P Ls → P (sweep by Ls))
+swept-quiet : {S V : Type 0} (by : Setting S V) (w : 1 ≤ by.width) (later : List (Node S V)) (P : Net → Type 0) → ((Ls : Net) → IsLawful by.round.n by.width Ls → P Ls → P (sweep by Ls))
     → (k : ℕ) (xs : List (Node S V)) (r : Reached by w later P xs) → count_arcs r.net < k → Reached by w later (λ Ls. P Ls × (sweep by Ls ≡ Ls)) (after_sweeps by k xs)
 unfolding after_sweeps
 swept-quiet by w later P keep zero xs r h = absurd (not-suc-le-zero h)

@@ -2,6 +2,7 @@
 use Rattle.std.proofs.Common.{◌≡◌, ℕ, zero, suc, ◌+◌, ◌-◌, ◌*◌, ◌<◌, ◌≤◌, Bool, true, cond, eqb, List, ◌++◌, length, drop, sym, refl, ap, ◌∙◌, subst, ap₂, arith}
 use Rattle.std.proofs.lemmas.List.{length-append, length-drop}
 use Rattle.std.proofs.lemmas.Bool.{cond_both}
+use Rattle.layers.specs.Lawful.{IsLawful}
 use Rattle.layers.specs.declared.node.Node.{Node}
 use Rattle.layers.specs.declared.refined.Refined.{Refined}
 use Rattle.layers.specs.declared.refined.Refined.TheVariants.{Full}
@@ -12,7 +13,7 @@ use Rattle.layers.specs.Records.{labelled_records}
 use Rattle.layers.specs.Calls.{arcs, labels, kept_arcs, records_with, after_sweep, sweep_answer, parts_of_layer, refinement_from, after_sweeps, refinement}
 use Rattle.layers.specs.Shape.{IsShaped, IsTimely}
 use Rattle.layers.proofs.Bridge.{laid-long, later-stays}
-use Rattle.layers.proofs.Proper.{Proper, lawful, proper-kept}
+use Rattle.layers.proofs.Proper.{proper-kept}
 use Rattle.layers.proofs.Shaped.{relaid-shaped}
 use Rattle.labels.specs.Passes.{fits, relabelled}
 use Rattle.labels.proofs.Laying.{relabelled-lawful}
@@ -35,7 +36,7 @@ module _ {S V : Type 0} (by : Setting S V) (self : (s : S) → by.rule.same s s 
   abbrev left : Recs → Net
   left xs = tidied_arcs (kept_arcs (is_barred by.round by.rule) 0 (arcs n by.width xs) (labels n by.width xs))
 
-  left-proper : (xs : Recs) → fits n by.width (length xs) ≡ true → IsShaped n by.width xs → Proper n by.width (left xs)
+  left-proper : (xs : Recs) → fits n by.width (length xs) ≡ true → IsShaped n by.width xs → IsLawful n by.width (left xs)
   left-proper xs fit s = proper-kept by (room-facts n by.width (length xs) fit).low (is_barred by.round by.rule) (arcs n by.width xs) (labels n by.width xs) (proper by.round by.width xs fit s)
 
   abbrev later : Recs → Recs
@@ -64,7 +65,7 @@ module _ {S V : Type 0} (by : Setting S V) (self : (s : S) → by.rule.same s s 
       let zs = (layer_steps by i (after_sweep by xs)).1 in
       ap (λ (ys : Recs). ((layer_steps by i ys).0, relabelled by (layer_steps by i ys).1)) (sweep-words by xs fit s)
       ∙ ap₂ (λ (b : Bool) (ys : Recs). (b, ys)) q.answer
-      (relabelled-lawful by q.left.net zs (lawful n by.width q.left.net q.left.well) q.left.holds ∙ ap (λ (ys : Recs). labelled_records by q.left.net ++ ys) (q.tail ∙ kept-later xs fit s) ∙ sym q.left.is)
+      (relabelled-lawful by q.left.net zs q.left.well q.left.holds ∙ ap (λ (ys : Recs). labelled_records by q.left.net ++ ys) (q.tail ∙ kept-later xs fit s) ∙ sym q.left.is)
 
   -- records laid out anew have as many places
   relaid-long : (xs : Recs) (Ls : Net) → fits n by.width (length xs) ≡ true → length Ls ≡ n → length (records_with by xs Ls) ≡ length xs

@@ -3,6 +3,7 @@ use Rattle.std.proofs.Common.{◌≡◌, ℕ, zero, suc, ◌+◌, ◌-◌, ◌*�
 use Rattle.std.proofs.lemmas.List.{length-append}
 use Rattle.std.proofs.lemmas.Bool.Decides.{nat_tests}
 use Rattle.std.proofs.lemmas.Bool.{leb-false}
+use Rattle.layers.specs.Lawful.{IsLawful}
 use Rattle.layers.specs.declared.node.Node.{Node}
 use Rattle.layers.specs.Net.{Net, node, width}
 use Rattle.layers.specs.Flow.{arrivals_at}
@@ -11,8 +12,7 @@ use Rattle.layers.specs.Records.{nodes_in, downs_in, arcs_read, laid_arcs, label
 use Rattle.layers.specs.Calls.{parted_arcs, arcs, records_with, count_of, one_group as oneGroupIn, parted_records, parts_of_layer}
 use Rattle.layers.proofs.Bridge.{laid-long}
 use Rattle.layers.proofs.Model.{part_at, labels_at}
-use Rattle.layers.proofs.Places.{layer-at}
-use Rattle.layers.proofs.Proper.{Proper}
+use Rattle.layers.proofs.Shaped.{layer-at}
 use Rattle.layers.proofs.Shaped.{shaped-proper}
 use Rattle.layers.proofs.Standing.{arcs-X, written, at-X, Reached, count-of, group-of, reached-part}
 use Rattle.layers.proofs.Tied.{redirect-length}
@@ -109,7 +109,7 @@ module _ {S V : Type 0} (by : Setting S V) (w : 1 ≤ by.width) (later : List (N
       in-net : m ≡ length (get_or r.net (suc (i - 1)) [])
       in-net = em ∙ count-of by w later (State xs) zs r i (i - 1) back high
 
-      next-known : Proper by.round.n by.width Ms → State ys Ms
+      next-known : IsLawful by.round.n by.width Ms → State ys Ms
       next-known p =
           let k = r.holds.known in
           let d = i - 1 in
@@ -160,7 +160,7 @@ module _ {S V : Type 0} (by : Setting S V) (w : 1 ≤ by.width) (later : List (N
         next (leb-false m a e) (leb-false by.width m g) (sym (group-same xs zs r a) ∙ f))))
 
     -- ---- records that are laid out
-    module _ (Ls : Net) (p : Proper by.round.n by.width Ls) where
+    module _ (Ls : Net) (p : IsLawful by.round.n by.width Ls) where
       abbrev laid : List (Node S V)
       laid = labelled_records by Ls ++ later
 
