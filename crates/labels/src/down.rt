@@ -1,11 +1,11 @@
 //! The pass down: each arrival is added to its target, sources by number, then doors.
-ghost use Rattle.std.specs.Prelude.{◌≡◌, ℕ, ◌+◌, ◌*◌, ◌<◌, ◌≤◌, map, length, get_or, slice_index_or};
+ghost use Rattle.std.specs.Prelude.{◌≡◌, ℕ, ◌+◌, ◌-◌, ◌*◌, ◌<◌, ◌≤◌, map, length, take};
 ghost use Rattle.std.specs.List.{AllByRecursion};
 ghost use Rattle.round.specs.Clock.{latest_finish};
 ghost use Rattle.layers.specs.declared.node.Node.{Node as ANode};
 ghost use Rattle.layers.specs.Labels.{arrival_over, merge, first_label, blank_label};
 ghost use Rattle.layers.specs.Settings.{lent_setting};
-ghost use Rattle.labels.specs.Passes.{part, over, Early, cleared, first_layer, begun, layer_done, pass_down, landed, crossed, spread};
+ghost use Rattle.labels.specs.Passes.{Early, cleared, first_layer, next_layer, labelled_after, pass_down, landed, crossed, spread};
 
 use crate::leg::leg_from;
 use layers::node::{Down, Node};
@@ -138,25 +138,19 @@ fn clear<R: Rule, T: Tally>(rule: &R, tally: &T, vs: &mut [Node<R::State, T::Val
     }
 }
 
-/// Works out anew the labels of the `count` records from `at` on, from the layer of records at `from`.
+/// Works out anew the labels of the layer vs, from the layer us before it.
 fn relabel_layer<R: Rule, T: Tally>(
     by: &Setting<'_, R, T>,
-    nodes: &mut [Node<R::State, T::Value>],
-    from: usize,
-    count: usize,
-    at: usize,
+    us: &[Node<R::State, T::Value>],
+    vs: &mut [Node<R::State, T::Value>],
 )
-    requires width_bound { from + by.now.width ≤ at }
-    requires count_in_bounds { at + count ≤ length nodes.old }
-    requires all_early { AllByRecursion (Early (latest_finish 15)) (part from by.now.width nodes.old) }
+    requires { AllByRecursion (Early (latest_finish 15)) us.now }
     ensures { let by = lent_setting by.now (R.sense by.now.rule.now) (T.sense by.now.tally.now) in
-        nodes.new ≡ layer_done by from count at nodes.old }
+        vs.new ≡ next_layer by us.now vs.old }
 {
-    let (before, rest) = nodes.split_at_mut(at);
-    let targets = &mut rest[..count];
-    clear(by.rule, by.tally, targets);
-    for a in 0..by.width {
-        spread_node(by, &before[from + a], targets);
+    clear(by.rule, by.tally, vs);
+    for u in us {
+        spread_node(by, u, vs);
     }
 }
 
@@ -175,36 +169,48 @@ fn at_first<R: Rule, T: Tally>(rule: &R, tally: &T) -> Down<R::State, T::Value>
 }
 
 /// The layer of the first node.
-fn begin<R: Rule, T: Tally>(
-    rule: &R,
-    tally: &T,
-    nodes: &mut [Node<R::State, T::Value>],
-    width: usize,
-)
-    requires width_nonzero { 0 < width }
-    requires width_in_bounds { width ≤ length nodes.old }
-    ensures { nodes.new ≡ begun (R.sense rule.now) (T.sense tally.now) width nodes.old }
+fn begin<R: Rule, T: Tally>(rule: &R, tally: &T, us: &mut [Node<R::State, T::Value>])
+    requires { 0 < length us.old }
+    ensures { us.new ≡ first_layer (R.sense rule.now) (T.sense tally.now) us.old }
 {
-    clear(rule, tally, &mut nodes[..width]);
-    nodes[0].label.down = at_first(rule, tally);
+    clear(rule, tally, us);
+    us[0].label.down = at_first(rule, tally);
+}
+
+/// Works out anew the labels after a layer, which has its own, with `later` layers between it and the end.
+#[tactic(auto, using(crate::proofs::Rests::one_more))]
+fn label_after<R: Rule, T: Tally>(
+    by: &Setting<'_, R, T>,
+    nodes: &mut [Node<R::State, T::Value>],
+    later: usize,
+)
+    requires later_bound { later ≤ 15 }
+    requires records_in_bounds { later * by.now.width + by.now.width < length nodes.old }
+    requires all_early { AllByRecursion (Early (latest_finish (15 - later)))
+        (take by.now.width nodes.old) }
+    ensures { let by = lent_setting by.now (R.sense by.now.rule.now) (T.sense by.now.tally.now) in
+        nodes.new ≡ labelled_after by later nodes.old }
+{
+    let (us, rest) = nodes.split_at_mut(by.width);
+    if later == 0 {
+        relabel_layer(by, us, &mut rest[..1]);
+    } else {
+        relabel_layer(by, us, &mut rest[..by.width]);
+        label_after(by, rest, later - 1);
+    }
 }
 
 /// Works out anew all that is worked out from the first node.
+#[tactic(auto, using(crate::proofs::Rests::one_more), unfolding(crate::specs::Passes::pass_down))]
 pub(crate) fn label_down<R: Rule, T: Tally>(
     by: &Setting<'_, R, T>,
     nodes: &mut [Node<R::State, T::Value>],
 )
     requires one_le_width { 1 ≤ by.now.width }
-    requires width_bound { by.now.width ≤ 128 }
-    requires width_in_bounds { by.now.round.now.n * by.now.width + 1 ≤ length nodes.old }
+    requires width_in_bounds { by.now.round.now.n * by.now.width < length nodes.old }
     ensures { let by = lent_setting by.now (R.sense by.now.rule.now) (T.sense by.now.tally.now) in
         nodes.new ≡ pass_down by nodes.old }
 {
-    let n = by.round.n;
-    let width = by.width;
-    begin(by.rule, by.tally, nodes, width);
-    for i in 0..n - 1 {
-        relabel_layer(by, nodes, i * width, width, (i + 1) * width);
-    }
-    relabel_layer(by, nodes, (n - 1) * width, 1, n * width);
+    begin(by.rule, by.tally, &mut nodes[..by.width]);
+    label_after(by, nodes, by.round.n - 1);
 }
