@@ -2,13 +2,14 @@
 -- Nobody has to believe these steps: on the arcs of a diagram `labelled` of `relabel` says what they come to.
 use Rattle.std.specs.Prelude.{ℕ, zero, suc, ◌+◌, ◌-◌, ◌*◌, ◌≤◌, Bool, if◌then◌else◌, ◌&&◌, List, [], ◌∷◌, ◌++◌, map, length, take, drop, replicate, Some, None, fold, Option, ◌==◌, nat_le, slice_index, slice_index_or, slice_set}
 use Rattle.std.specs.List.{range_with_len, flat_map}
+use Rattle.round.specs.declared.table.Round.{Round}
 use Rattle.rules.specs.Rules.{RuleSense}
 use Rattle.tallies.specs.Tallies.{TallySense}
 use Rattle.layers.specs.declared.node.Node.{Node}
 use Rattle.layers.specs.declared.node.Down.{Down}
 use Rattle.layers.specs.declared.node.Up.{Up}
 use Rattle.layers.specs.Settings.{Setting}
-use Rattle.layers.specs.Labels.{arrival_over, merge, first_label, blank_label, climb, merge_up, no_up}
+use Rattle.layers.specs.Labels.{leg_step, arrival_over, merge, first_label, blank_label, climb, merge_up, no_up}
 
 -- ---- parts of the list
 -- `count` records from `at` on
@@ -25,6 +26,10 @@ with_up x u = record { arcs = x.arcs; label = record { down = x.label.down; up =
 -- no finish of the node is above m
 abbrev pub Early : {S V : Type 0} → ℕ → Node S V → Type 0
 Early m u = u.label.down.finish ≤ m
+
+-- the least drive to j from a member of the set m other than j, of the places below i
+abbrev pub nearest_of : Round → ℕ → ℕ → ℕ → Option ℕ
+nearest_of r m j i = fold (leg_step r m j) None (range_with_len 0 i)
 
 module _ {S V : Type 0} (rule : RuleSense S) (tally : TallySense V) where
   -- a record of which nothing is known

@@ -1,31 +1,32 @@
 //! The pass down: each arrival is added to its target, sources by number, then doors.
-ghost use Rattle.std.specs.Prelude.{◌≡◌, ℕ, ◌+◌, ◌-◌, ◌*◌, ◌<◌, ◌≤◌, map, length, take};
+ghost use Rattle.std.specs.Prelude.{◌≡◌, ℕ, ◌+◌, ◌-◌, ◌*◌, ◌<◌, ◌≤◌, map, length, take, slice_index};
 ghost use Rattle.std.specs.List.{AllByRecursion};
 ghost use Rattle.round.specs.Clock.{latest_finish};
 ghost use Rattle.layers.specs.declared.node.Node.{Node as ANode};
-ghost use Rattle.layers.specs.Labels.{arrival_over, merge, first_label, blank_label};
+ghost use Rattle.layers.specs.Labels.{leg, arrival_over, merge, first_label, blank_label};
 ghost use Rattle.layers.specs.Settings.{lent_setting};
 ghost use Rattle.labels.specs.Passes.{Early, cleared, first_layer, next_layer, labelled_after, pass_down, landed, crossed, spread};
 
-use crate::leg::leg_from;
+use crate::leg::legs;
 use layers::node::{Down, Node};
 use layers::setting::Setting;
 use rules::rule::Rule;
 use tallies::tally::Tally;
 
-/// What the arc by door j brings from a node with the label u.
+/// What the arc by door j brings from a node with the label u, `drive` minutes away.
 pub(crate) fn arrive<R: Rule, T: Tally>(
     by: &Setting<'_, R, T>,
     u: &Down<R::State, T::Value>,
     j: usize,
+    drive: u32,
 ) -> Down<R::State, T::Value>
     requires j_bound { j < 17 }
+    requires is_leg { drive ≡ leg by.now.round.now u.now.lasts j }
     requires finish_bound { u.now.finish ≤ latest_finish 15 }
     ensures { let by = lent_setting by.now (R.sense by.now.rule.now) (T.sense by.now.tally.now) in
         result ≡ arrival_over by u.now j }
 {
-    let leg = leg_from(by.round, u.lasts, j);
-    let minute = by.round.finish(u.finish, leg, j);
+    let minute = by.round.finish(u.finish, drive, j);
     let finish = minute as u32;
     let bit = 1u32 << j;
     Down {
@@ -34,7 +35,7 @@ pub(crate) fn arrive<R: Rule, T: Tally>(
         finish,
         lasts: bit,
         state: by.rule.step(u.state, j),
-        value: by.tally.step(u.value, j, leg, finish),
+        value: by.tally.step(u.value, j, drive, finish),
     }
 }
 
@@ -77,14 +78,16 @@ fn land<R: Rule, T: Tally>(
     vs[b].label.down = down;
 }
 
-/// Over the arc of u by the door k + 1, if there is one.
+/// Over the arc of u by the door k + 1, if there is one; `legs` are those of u.
 fn cross<R: Rule, T: Tally>(
     by: &Setting<'_, R, T>,
     u: &Node<R::State, T::Value>,
+    legs: &[u16; 16],
     vs: &mut [Node<R::State, T::Value>],
     k: usize,
 )
     requires k_bound { k < 16 }
+    requires is_leg { slice_index legs.now k ≡ leg by.now.round.now u.now.label.down.lasts (k + 1) }
     requires finish_bound { u.now.label.down.finish ≤ latest_finish 15 }
     ensures { let by = lent_setting by.now (R.sense by.now.rule.now) (T.sense by.now.tally.now) in
         vs.new ≡ crossed by u.now vs.old k }
@@ -93,7 +96,7 @@ fn cross<R: Rule, T: Tally>(
     if t == 0 || t > vs.len() {
         return;
     }
-    let x = arrive(by, &u.label.down, k + 1);
+    let x = arrive(by, &u.label.down, k + 1, u32::from(legs[k]));
     land(by.rule, by.tally, vs, t - 1, &x);
 }
 
@@ -110,8 +113,9 @@ fn spread_node<R: Rule, T: Tally>(
     if u.label.down.lasts == 0 {
         return;
     }
+    let legs = legs(by.round, u.label.down.lasts);
     for k in 0..16 {
-        cross(by, u, vs, k);
+        cross(by, u, &legs, vs, k);
     }
 }
 
