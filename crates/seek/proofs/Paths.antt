@@ -1,5 +1,5 @@
 -- A row worked out from the row below it says what paths there are, one layer further up.
-use Rattle.std.proofs.Common.{◌≡◌, ℕ, zero, suc, ◌+◌, ◌*◌, ◌<◌, Bool, true, false, ◌||◌, List, [], ◌∷◌, get_or, take, drop, map, set, replicate, refl, ◌∙◌, suc-mul, arith}
+use Rattle.std.proofs.Common.{◌≡◌, ℕ, zero, suc, ◌+◌, ◌*◌, ◌<◌, Bool, true, false, ◌||◌, List, [], ◌∷◌, get_or, take, drop, map, replicate, refl, ◌∙◌, suc-mul, arith}
 use mathlib.Core.Bool.{or-false, or_assoc}
 use Rattle.std.proofs.lemmas.Bool.Decides.{nat_tests}
 use Rattle.std.proofs.lemmas.List.{drop-drop}
@@ -53,11 +53,11 @@ module _ (i j : ℕ) where
   IsSeen row Ls = (t : ℕ) → get_or row t none ≡ seen_from i j Ls t
 
   -- ---- at the end
-  pub end_seen : IsSeen (set (replicate 256 none) 1 at_end) []
+  pub end_seen : (m : ℕ) → IsSeen (none ∷ at_end ∷ replicate m none) []
   unfolding has_path_with
-  end_seen zero = refl
-  end_seen (suc zero) = refl
-  end_seen (suc (suc b)) = grind (arith, nat_tests, is_none 254 b)
+  end_seen m zero = refl
+  end_seen m (suc zero) = refl
+  end_seen m (suc (suc b)) = grind (arith, nat_tests, is_none m b)
 
   -- ---- over the arcs of one node
   module _ (Ls : Net) where
@@ -105,9 +105,9 @@ module _ (i j : ℕ) where
     abbrev pub Reached : List Seen → ℕ → Type 0
     Reached row k = (m : ℕ) → m + k ≡ n → IsSeen row (arcs_of_layers n (layers w m (drop (k * w) xs)))
 
-    pub reached-end : Reached (set (replicate 256 none) 1 at_end) n
-    reached-end zero e t = end_seen t
-    reached-end (suc m) e t = absurd (omega arith)
+    pub reached-end : (q : ℕ) → Reached (none ∷ at_end ∷ replicate q none) n
+    reached-end q zero e t = end_seen q t
+    reached-end q (suc m) e t = absurd (omega arith)
 
     pub reached-more : (k : ℕ) (row up : List Seen) → k < n → ((t : ℕ) → get_or up t none ≡ get_or (row_of (λ u. by_first i j row u n) (take w (drop (k * w) xs))) t none) → Reached row (suc k) → Reached up k
     reached-more k row up lt new h zero e t = absurd (omega arith)

@@ -1,12 +1,13 @@
 -- What is seen of all doors at once, looked at for two doors.
-use Rattle.std.proofs.Common.{◌≡◌, ℕ, zero, suc, ◌^◌, ◌<◌, true, false, ◌&&◌, ◌||◌, ◌==◌, List, [], ◌∷◌, length, get_or, map, set, replicate, bit_or, refl, sym, ap₂, ◌∙◌, subst, arith}
+use Rattle.std.proofs.Common.{◌≡◌, ℕ, zero, suc, ◌+◌, ◌-◌, ◌^◌, ◌<◌, true, false, ◌&&◌, ◌||◌, ◌==◌, List, [], ◌∷◌, length, get_or, map, set, replicate, bit_or, refl, sym, ap, subst, add-one, arith}
 use Rattle.std.proofs.lemmas.Bool.Decides.{nat_tests}
-use Rattle.std.proofs.lemmas.List.{get_or-set_same, get_or-set_other, map-set}
+use Rattle.std.proofs.lemmas.List.{get_or-set_same, get_or-set_other, get_or_past, length-map, map-set}
 use Rattle.std.proofs.lemmas.Nat.Bits.{bit_at_or, bit_at-lt, bit_at-zero, bit_at-pow_same, bit_at-pow_other}
 use Rattle.doors.specs.Sets.{has}
 use Rattle.layers.specs.declared.node.Node.{Node}
 use Rattle.seek.specs.declared.onward.Onward.{Onward}
-use Rattle.seek.specs.Rows.{none, nothing, at_end, view, through, either}
+use Rattle.seek.specs.declared.seen.Seen.{Seen}
+use Rattle.seek.specs.Rows.{none, nothing, at_end, view, views, through, either}
 use Rattle.seek.proofs.Places.{IsRow, row-start}
 use Rattle.seek.proofs.Paths.{Reached, reached-end}
 
@@ -65,22 +66,39 @@ views-none i j zero = refl
 views-none i j (suc m) = rw (views-none i j m, view-nothing i j) refl
 
 -- a row of nothing
-pub views-start : (i j m : ℕ) → IsRow (map (view i j) (replicate m nothing)) []
-views-start i j m = rw (views-none i j m) (row-start m)
+pub views-start : (i j m : ℕ) → IsRow (views i j (replicate m nothing)) []
+views-start i j m = subst (λ row. IsRow (none ∷ row) []) (sym (views-none i j m)) (row-start (suc m))
+
+-- one place more
+pub views-set : (i j a : ℕ) (row : List Onward) (s : Onward) → views i j (set row a s) ≡ set (views i j row) (a + 1) (view i j s)
+views-set i j a row s = rw (add-one a) (ap (λ xs. none ∷ xs) (map-set (view i j) row a s))
 
 -- the row of the end
-view_end : (i j : ℕ) → view i j (record nothing { ends = true }) ≡ at_end
-view_end i j = rw (after_none i 17 j, has_none i) refl
+view-end : (i j : ℕ) → view i j (record nothing { ends = true }) ≡ at_end
+view-end i j = rw (after_none i 17 j, has_none i) refl
 
-views_end : (i j m : ℕ) → map (view i j) (set (replicate m nothing) 1 (record nothing { ends = true })) ≡ set (replicate m none) 1 at_end
-views_end i j m = map-set (view i j) (replicate m nothing) 1 (record nothing { ends = true }) ∙ ap₂ (λ row e. set row 1 e) (views-none i j m) (view_end i j)
+views-end : (i j m : ℕ) → views i j (record nothing { ends = true } ∷ replicate m nothing) ≡ none ∷ at_end ∷ replicate m none
+views-end i j m = rw (view-end i j, views-none i j m) refl
 
 module _ {S V : Type 0} (i j n w : ℕ) (xs : List (Node S V)) where
-  pub views-reached : Reached i j n w xs (map (view i j) (set (replicate 256 nothing) 1 (record nothing { ends = true }))) n
-  views-reached = subst (λ row. Reached i j n w xs row n) (sym (views_end i j 256)) (reached-end i j n w xs)
+  pub views-reached : (m : ℕ) → Reached i j n w xs (views i j (record nothing { ends = true } ∷ replicate m nothing)) n
+  views-reached m = subst (λ row. Reached i j n w xs row n) (sym (views-end i j m)) (reached-end i j n w xs m)
 
--- at a place past the row nothing is seen
-pub view-at : (i j : ℕ) (row : List Onward) (t : ℕ) → get_or (map (view i j) row) t none ≡ view i j (get_or row t (record { ends = false; some = 0; after = [] }))
-view-at i j [] t = rw (has_none i) refl
-view-at i j (s ∷ row) zero = refl
-view-at i j (s ∷ row) (suc t) = view-at i j row t
+-- ---- targets
+
+view-place : (i j : ℕ) (row : List Onward) (b : ℕ) → get_or (map (view i j) row) b none ≡ view i j (get_or row b (record { ends = false; some = 0; after = [] }))
+view-place i j [] b = rw (has_none i) refl
+view-place i j (s ∷ row) zero = refl
+view-place i j (s ∷ row) (suc b) = view-place i j row b
+
+-- target number t is the node at place t - 1
+pub view-target : (i j : ℕ) (row : List Onward) (t : ℕ) → 0 < t → get_or (views i j row) t none ≡ view i j (get_or row (t - 1) (record { ends = false; some = 0; after = [] }))
+view-target i j row zero l = absurd (omega arith)
+view-target i j row (suc b) l = let e : suc b - 1 ≡ b = omega arith in rw e (view-place i j row b)
+
+-- over an arc to no place nothing more is seen
+pub over-none : (i j d : ℕ) (row : List Onward) (t : ℕ) (x : Seen) → (0 < t → length row < t) → either x (through i j d (get_or (views i j row) t none)) ≡ x
+over-none i j d row zero x h = grind (arith, nat_tests)
+over-none i j d row (suc b) x h =
+    let e = get_or_past (map (view i j) row) b none (omega (arith, length-map row (view i j), h (omega arith))) in
+    grind (arith, nat_tests)

@@ -1,5 +1,5 @@
--- What is seen from the nodes of a layer, as the code works it out from the layer below. Nobody has to believe it: the contract of
--- `must` says what it comes to. A row has it by target number: 0 for no node, suc b for the node at place b.
+-- What is seen from the nodes of a layer, as the code works it out from the layer below. Nobody has to believe it: the contracts of
+-- `must` and `musts` say what it comes to. A row has it by target number: 0 for no node, suc b for the node at place b.
 use Rattle.std.specs.Prelude.{ℕ, zero, suc, ◌+◌, ◌*◌, Bool, true, false, not, ◌&&◌, ◌||◌, List, [], ◌∷◌, map, replicate, ◌==◌, nat_le, slice_index, slice_index_or}
 use Rattle.doors.specs.Orders.{is_door}
 use Rattle.doors.specs.Sets.{has}
@@ -33,6 +33,10 @@ nothing = record { ends = false; some = 0; after = replicate 17 0 }
 -- what is seen of all doors at once, looked at for i and j
 abbrev pub view : ℕ → ℕ → Onward → Seen
 view i j s = record { ends = s.ends; one = has s.some i; both = has (slice_index s.after j) i }
+
+-- a row of all doors, by places, looked at for i and j
+abbrev pub views : ℕ → ℕ → List Onward → List Seen
+views i j row = none ∷ map (view i j) row
 
 -- over an arc by the door d, to a node from which s is seen
 abbrev pub through : ℕ → ℕ → ℕ → Seen → Seen

@@ -5,7 +5,7 @@ ghost use Rattle.seek.specs.Musts.{musts, set_where};
 ghost use Rattle.seek.specs.Rows.{fits, is_behind};
 
 use crate::row::first_row;
-use crate::walk::walked;
+use crate::walk::top_row;
 use doors::{DoorSet, contains, with};
 use layers::node::Node;
 
@@ -68,9 +68,9 @@ pub fn musts<S: Copy, V: Copy>(nodes: &[Node<S, V>], n: usize, width: usize) -> 
     if !fits(n, width, nodes.len()) {
         return sets;
     }
-    let row = walked(nodes, n, width);
+    let row = top_row(nodes, n, width);
     for i in 0..17 {
-        sets[i] = behind(&row[1].after, n, i);
+        sets[i] = behind(&row[0].after, n, i);
     }
     sets
 }
