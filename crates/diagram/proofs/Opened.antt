@@ -6,8 +6,7 @@ use Rattle.layers.specs.Labels.{opening_arcs}
 use Rattle.layers.specs.Records.{labelled_records}
 use Rattle.layers.specs.Calls.{records_with, after_open}
 use Rattle.layers.proofs.Proper.{proper-opened}
-use Rattle.layers.proofs.Shaped.{relaid-shaped}
-use Rattle.layers.proofs.Shaped.{relaid-timely}
+use Rattle.layers.proofs.Shaped.{relaid-shaped, relaid-timely}
 use Rattle.labels.specs.Passes.{fits, relabelled}
 use Rattle.labels.proofs.Laying.{Arranged, relabelled-lawful}
 use Rattle.diagram.specs.Opening.{every_door, arcs_opened, arced}

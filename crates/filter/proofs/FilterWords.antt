@@ -14,8 +14,7 @@ use Rattle.layers.specs.Calls.{arcs, labels, kept_arcs, records_with, arcs_lost,
 use Rattle.layers.specs.Labels.{is_barred}
 use Rattle.layers.specs.Shape.{IsShaped, IsTimely}
 use Rattle.layers.proofs.Proper.{tied-ranged, RangedAll, Less, kept-less, proper-less}
-use Rattle.layers.proofs.Shaped.{shaped-proper, relaid-shaped, ended-one}
-use Rattle.layers.proofs.Shaped.{relaid-timely}
+use Rattle.layers.proofs.Shaped.{shaped-proper, relaid-shaped, ended-one, relaid-timely}
 use Rattle.labels.specs.Passes.{fits, blank_node}
 use Rattle.labels.proofs.Laying.{Arranged, Good, relabelled-lawful}
 use Rattle.labels.proofs.Rooms.{room-facts}

@@ -14,9 +14,8 @@ use Rattle.layers.specs.Lawful.{IsRanged, IsTied, IsRoomy, IsEven, IsLawful}
 use Rattle.layers.specs.Labels.{arrival_over, merge, first_label, first_labels, labels_next, climb, merge_up, no_up, ups, blank_label}
 use Rattle.layers.specs.Records.{arcs_read, laid_arcs, arcs_at, padded_targets, record_of_place, labelled_from, labelled_records}
 use Rattle.layers.proofs.Flows.{table_at, Among, ins-from}
-use Rattle.layers.proofs.Bridge.{table-long}
+use Rattle.layers.proofs.Bridge.{table-long, ups-full}
 use Rattle.layers.specs.Calls.{records_with}
-use Rattle.layers.proofs.Bridge.{ups-full}
 use Rattle.labels.specs.Passes.{with_down, with_up, blank_node, by_door, from_node, arrivals, gathered, labelled, next_layer, labelled_after, numbered, up_by, ups_of, gathered_up, risen, risen_from, cleared, first_layer, bare, pass_down, pass_up, relabelled}
 use Rattle.std.proofs.lemmas.Nat.{pow_pos}
 use Rattle.labels.proofs.Folds.{folded_keeps}

@@ -1,7 +1,7 @@
 -- What stands in records that were laid: their arcs can be read back, and the labels that stand are those worked out from the arcs.
 use Rattle.std.proofs.Common.{◌≡◌, ℕ, zero, suc, ◌+◌, ◌*◌, ◌<◌, ◌≤◌, Bool, true, false, cond, not, ◌&&◌, eqb, List, [], ◌∷◌, ◌++◌, map, length, get_or, take, drop, Some, None, Option, sym, refl, ap, ◌∙◌, ap₂, append_assoc, le_of_suc-le-suc, not-suc-le-zero, suc-mul, zero-mul, arith, length-append}
 use Rattle.std.proofs.lemmas.Bool.{ne_eqb}
-use Rattle.std.proofs.lemmas.List.{drop_at}
+use Rattle.std.proofs.lemmas.List.{drop_at, take_at}
 use Rattle.doors.specs.Sets.{has}
 use Rattle.layers.specs.declared.node.Node.{Node}
 use Rattle.layers.specs.declared.node.Up.{Up}
@@ -45,14 +45,6 @@ ups-full M (N ∷ Ls) led t a h =
     (q.0, q.1)
 
 -- ---- tables
-take-table : {A : Type 0} (m : ℕ) (f : ℕ → A) (rest : List A) → take m (table m f ++ rest) ≡ table m f
-take-table zero f rest = refl
-take-table (suc m) f rest = ap (λ (x : List _). f 0 ∷ x) (take-table m (λ k. f (suc k)) rest)
-
-drop-table : {A : Type 0} (m : ℕ) (f : ℕ → A) (rest : List A) → drop m (table m f ++ rest) ≡ rest
-drop-table zero f rest = refl
-drop-table (suc m) f rest = drop-table m (λ k. f (suc k)) rest
-
 pub map-table : {A B : Type 0} (f : A → B) (m : ℕ) (g : ℕ → A) → map f (table m g) ≡ table m (λ k. f (g k))
 map-table f zero g = refl
 map-table f (suc m) g = ap (λ (x : List _). f (g 0) ∷ x) (map-table f m (λ k. g (suc k)))
@@ -107,16 +99,12 @@ module _ {S V : Type 0} (by : Setting S V) (w : 1 ≤ by.width) where
 
   filled-first : Filled (first_labels by.rule by.tally) 1
   filled-first = record {
-    there = one-there;
+    there = λ a h. let z : a ≡ 0 = omega arith in (first_label by.rule by.tally, rw z);
     beyond = refl;
     long = refl;
     lasting = once;
   }
     where
-      one-there : (a : ℕ) → a < 1 → (l : Down S V) × (get_or (first_labels by.rule by.tally) a None ≡ Some l)
-      one-there zero h = (first_label by.rule by.tally, refl)
-      one-there (suc a) h = absurd (not-suc-le-zero (le_of_suc-le-suc h))
-
       once : (a : ℕ) (l : Down S V) → get_or (first_labels by.rule by.tally) a None ≡ Some l → eqb l.lasts 0 ≡ false
       once zero l e = let x : first_label by.rule by.tally ≡ l = cc in rw (← x) refl
       once (suc a) l e = absurd cc
@@ -173,7 +161,7 @@ module _ {S V : Type 0} (by : Setting S V) (w : 1 ≤ by.width) where
       ∙ rw (← f.filled.long) (table-back None labs)
 
   -- the end's node
-  end-top : (labs : Labs) (l : Down S V) → get_or labs 0 None ≡ Some l → eqb l.lasts 0 ≡ false → top labs [] ≡ record { arcs = record { to = padded_targets [] }; label = record { down = l; up = no_up } } ∷ []
+  pub end-top : (labs : Labs) (l : Down S V) → get_or labs 0 None ≡ Some l → eqb l.lasts 0 ≡ false → top labs [] ≡ record { arcs = record { to = padded_targets [] }; label = record { down = l; up = no_up } } ∷ []
   end-top labs l e q =
       let P : Option (Down S V) → Node S V = λ o. record { arcs = record { to = padded_targets [] }; label = record { down = or_blank by.rule by.tally o; up = no_up } } in
       rw e (ap (λ (z : Bool). cond (not z) (P (Some l) ∷ []) []) q)
@@ -218,8 +206,8 @@ module _ {S V : Type 0} (by : Setting S V) (w : 1 ≤ by.width) where
       let f' = record_of_place by L labs (ups (L ∷ Ls)) in
       let X = labelled_from by (labels_next by labs L (width Ls)) Ls in
       ap₂ (λ (x y : List (Node S V)). nodes_in x ∷ layers by.width (length Ls) y)
-      (ap (take by.width) (append_assoc (table by.width f') X later) ∙ take-table by.width f' (X ++ later))
-      (ap (drop by.width) (append_assoc (table by.width f') X later) ∙ drop-table by.width f' (X ++ later))
+      (ap (take by.width) (append_assoc (table by.width f') X later) ∙ take_at (table by.width f') (X ++ later) by.width (table-long by.width f'))
+      (ap (drop by.width) (append_assoc (table by.width f') X later) ∙ drop_at (table by.width f') (X ++ later) by.width (table-long by.width f'))
       ∙ ap₂ (λ (x : List (Node S V)) (y : List (List (Node S V))). x ∷ y) (one-row labs L Ls f.0) (layers-laid later (labels_next by labs L (width Ls)) Ls f.1)
 
   pub drawn-stood : (labs : Labs) (Ls : Net) → Full labs Ls → arcs_of_layers by.round.n (stood labs Ls) ≡ Ls
@@ -262,12 +250,9 @@ module _ {S V : Type 0} (by : Setting S V) (w : 1 ≤ by.width) where
   unfolding end_label labels_next
   value-stood labs [] f = go (get_or labs 0 None) refl
     where
-      P : Option (Down S V) → Node S V
-      P o = record { arcs = record { to = padded_targets [] }; label = record { down = or_blank by.rule by.tally o; up = no_up } }
-
-      go : (o : Option (Down S V)) → get_or labs 0 None ≡ o → value_in (nodes_in (P o ∷ [])) ≡ valueO by o
-      go None e = refl
-      go (Some l) e = ap (λ (z : Bool). value_in (cond (not z) (P (Some l) ∷ []) [])) (f 0 l e)
+      go : (o : Option (Down S V)) → get_or labs 0 None ≡ o → value_in (top labs []) ≡ valueO by o
+      go None e = rw e
+      go (Some l) e = ap value_in (end-top labs l e (f 0 l e))
   value-stood labs (L ∷ Ls) f = value-stood (labels_next by labs L (width Ls)) Ls f.1
 
   -- ---- later places

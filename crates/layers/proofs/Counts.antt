@@ -1,4 +1,4 @@
--- A sweep adds no arc; so refine's last sweeps end with one that answers 0. A tied diagram is left as it is by tidying.
+-- A sweep adds no arc, and where it takes out none, none is one that it takes out.
 use Rattle.layers.proofs.Tidying.{tidied-same}
 use Rattle.std.proofs.Common.{◌≡◌, ℕ, zero, suc, ◌≤◌, Bool, true, cond, not, eqb, List, [], ◌∷◌, length, get_or, Some, None, Option, refl, ap, ◌∙◌, ap₂, arith}
 use Rattle.std.proofs.lemmas.Bool.{not-true, and_parts, eqb-true, eq-eqb}

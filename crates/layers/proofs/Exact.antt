@@ -1,4 +1,4 @@
--- While settled answers yes, the labels are exact, so every path is an allowed order and the bound is the least cost.
+-- Labels that agree in all but the value. While settled answers yes, the labels are exact, so every path is an allowed order and the bound is the least cost.
 use Rattle.std.proofs.lemmas.Bool.Decides.{nat_tests}
 use Rattle.std.proofs.Common.{◌≡◌, ℕ, zero, suc, ◌+◌, ◌<◌, ◌≤◌, Bool, true, false, not, List, [], ◌∷◌, ◌++◌, length, get_or, Some, None, fold, Option, sym, refl, ap, ◌∙◌, inl, inr, append-nil, not-suc-le-zero, arith}
 use lib.Bits.{bit_or, bit_and, and_self, or_self}
@@ -178,7 +178,7 @@ module _ {S V : Type 0} {Keeps : List ℕ → Type 0} {Stands : S → List ℕ �
   clear i h j l None e = absurd (true≢false e)
   clear i h j l (Some u) e = record { new = grind (arith, e); early = grind (arith, nat_tests, e); free = grind (arith, e) }
 
-  -- bit_of door on
+  -- one door on
   pub record Onward (l : Down S V) (p : List ℕ) (j : ℕ) : Type 0 where
     pub sound : Sound (p ++ (j ∷ []))
     pub exact : Exact (arrival_over by l j) (p ++ (j ∷ []))
@@ -287,7 +287,7 @@ module _ {S V : Type 0} {Keeps : List ℕ → Type 0} {Stands : S → List ℕ �
       long = length-snoc c.way f.door ∙ ap suc c.long;
     }
 
-    -- to whatever gathered it: bit_of of the arrivals has its value
+    -- to whatever gathered it: one of the arrivals has its value
     over : (Ls : Net) (L : Layer) (i k : ℕ) (labs : List (Option (Down S V))) (b : ℕ) (m : Down S V) → k < 16 → EvenLayer by.round.n L → settles by i labs (L ∷ Ls) ≡ true
         → ((a : ℕ) (l : Down S V) → get_or labs a None ≡ Some l → Reached (L ∷ Ls) k a l) → gather (merge by.rule by.tally) (arrivals_at (arrival_over by) b labs L) ≡ Some m
         → (x : Down S V) × Among x (arrivals_at (arrival_over by) b labs L) × (x.value ≡ m.value) × Reached Ls (suc k) b x

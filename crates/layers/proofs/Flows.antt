@@ -237,15 +237,15 @@ module _ {A : Type 0} (arrival_over : A → ℕ → A) where
           record { source = 0; door = suc q.0; label = l; arc = q.1; labelled = refl; is = q.2 ∙ ap (arrival_over l) (omega arith) }
       go (inr h) f = let q = f h in record { source = suc q.source; door = q.door; label = q.label; arc = q.arc; labelled = q.labelled; is = q.is }
 
-pub table-some : {A : Type 0} (n k : ℕ) (f : ℕ → Option A) (x : A) → get_or (table n f) k None ≡ Some x → f k ≡ Some x
-table-some zero k f x e = absurd cc
-table-some (suc n) zero f x e = e
-table-some (suc n) (suc k) f x e = table-some n k (λ m. f (suc m)) x e
+table-get : {A : Type 0} (n k : ℕ) (f : ℕ → Option A) (x : A) → get_or (table n f) k None ≡ Some x → (k < n) × (f k ≡ Some x)
+table-get zero k f x e = absurd cc
+table-get (suc n) zero f x e = (omega arith, e)
+table-get (suc n) (suc k) f x e = let q = table-get n k (λ m. f (suc m)) x e in (omega arith, q.1)
 
 pub next-some : {A : Type 0} (arrival_over : A → ℕ → A) (merge : A → A → A) (labs : List (Option A)) (L : Layer) (count b : ℕ) (m : A)
     → get_or (next arrival_over merge labs L count) b None ≡ Some m → gather merge (arrivals_at arrival_over b labs L) ≡ Some m
 unfolding next
-next-some arrival_over merge labs L count b m e = table-some count b (λ c. gather merge (arrivals_at arrival_over c labs L)) m e
+next-some arrival_over merge labs L count b m e = (table-get count b (λ c. gather merge (arrivals_at arrival_over c labs L)) m e).1
 
 -- what each arrival has and merging keeps, the label has
 pub gather-all : {A : Type 0} (merge : A → A → A) (P : A → Type 0) → ((x y : A) → P x → P y → P (merge x y))
@@ -258,15 +258,10 @@ gather-all {A} merge P keep (x ∷ xs) m f e = let y : fold merge x xs ≡ m = c
     go y [] p g = p
     go y (z ∷ ys) p g = go (merge y z) ys (keep y z p (g z (inl refl))) (λ t i. g t (inr i))
 
-pub table-within : {A : Type 0} (n k : ℕ) (f : ℕ → Option A) (x : A) → get_or (table n f) k None ≡ Some x → k < n
-table-within zero k f x e = absurd cc
-table-within (suc n) zero f x e = omega arith
-table-within (suc n) (suc k) f x e = let h = table-within n k (λ m. f (suc m)) x e in omega arith
-
 pub next-within : {A : Type 0} (arrival_over : A → ℕ → A) (merge : A → A → A) (labs : List (Option A)) (L : Layer) (count b : ℕ) (m : A)
     → get_or (next arrival_over merge labs L count) b None ≡ Some m → b < count
 unfolding next
-next-within arrival_over merge labs L count b m e = table-within count b (λ c. gather merge (arrivals_at arrival_over c labs L)) m e
+next-within arrival_over merge labs L count b m e = (table-get count b (λ c. gather merge (arrivals_at arrival_over c labs L)) m e).0
 
 pub gather-any : {A : Type 0} (merge : A → A → A) (l : List A) (m : A) → gather merge l ≡ Some m → (x : A) × Among x l
 unfolding gather

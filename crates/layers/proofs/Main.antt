@@ -1,4 +1,4 @@
--- The claim: first on the arcs of the records that a run leaves.
+-- The claim: no call loses an allowed order that no ceiling rules out, what must answers, and what a settled diagram shows.
 use Rattle.std.proofs.Common.{◌≡◌, ℕ, ◌≤◌, true, List, [], ◌∷◌, Some, sym, ap, ◌∙◌, inl, inr, arith, zero, suc, Bool, false, cond, not, ◌++◌, length, get_or, None, Option, refl, subst, append-nil, ◌+◌, eqb, ◌⊎◌, fold}
 use Rattle.std.proofs.lemmas.Bool.Decides.{nat_tests}
 use Rattle.std.proofs.lemmas.Bool.{both_ways, not-true, not-false, false≢true, eqb-true, eq-eqb, and_parts, or_cases}

@@ -1,6 +1,6 @@
--- What the labels mean, carried from the arcs to the records that a run leaves.
+-- What the labels mean: along the arcs, downward and upward, and so in the records that a run leaves.
 use Rattle.layers.proofs.Tidying.{path-push, ranged-at, leads-at}
-use Rattle.std.proofs.Common.{◌≡◌, ℕ, zero, suc, ◌<◌, ◌≤◌, Bool, cond, not, List, [], ◌∷◌, length, get_or, drop, Some, None, Option, sym, refl, ap, subst, le_of_suc-le-suc, not-suc-le-zero, arith, true, ◌⊎◌, ◌++◌, ◌∙◌, inl, inr}
+use Rattle.std.proofs.Common.{◌≡◌, ℕ, zero, suc, ◌<◌, ◌≤◌, List, [], ◌∷◌, length, get_or, drop, Some, None, Option, sym, refl, ap, subst, le_of_suc-le-suc, not-suc-le-zero, arith, true, ◌⊎◌, ◌++◌, ◌∙◌, inl, inr}
 use Rattle.round.specs.Clock.{latest_finish}
 use Rattle.rules.specs.Rules.{RuleLaws, RuleSense}
 use Rattle.tallies.specs.Tallies.{TallyLaws, TallySense}
@@ -9,13 +9,13 @@ use Rattle.layers.specs.Net.{Net, width, PathFrom, Layer, node, target}
 use Rattle.layers.specs.Flow.{up, arrivals_at, gather, climbs_of}
 use Rattle.layers.specs.Lawful.{IsEven, IsLawful, IsTied}
 use Rattle.layers.specs.Labels.{first_labels, labels_next, no_up, ups, bit_of, climb, merge_up, first_label, arrival_over, merge}
-use Rattle.layers.specs.Records.{nodes_in, padded_targets, record_of_place}
+use Rattle.layers.specs.Records.{record_of_place}
 use Rattle.layers.specs.Calls.{arcs, layer}
 use Rattle.layers.specs.LabelLaws.{LeadsTo, Labelled, LabelsMean, PathTo, OnEvery, OnOne, Exactly}
 use Rattle.layers.proofs.Flows.{table_at, EvenLayer, Climbs, outs-from, map-some, From, ins-from, next-some, next-at, gather-all}
 use Rattle.layers.proofs.Model.{or_blank, or_no_up, labels_at}
 use Rattle.layers.proofs.Walk.{Good, path-up, good-first, good-next}
-use Rattle.layers.proofs.Bridge.{Labs, Full, top, stood, table-long}
+use Rattle.layers.proofs.Bridge.{Labs, Full, top, stood, table-long, end-top}
 use Rattle.layers.proofs.Standing.{X, full, nodes-X, arcs-X, after_end, run-reached}
 use Rattle.layers.specs.Settings.{Setting, setting}
 use Rattle.layers.specs.declared.node.Down.{Down}
@@ -56,7 +56,7 @@ owed-merge a s a' s' P x y = record {
   some-from = λ j h. elim (or_split s s' j h) [ inl p ↦ x.some-from j p | inr p ↦ y.some-from j p ];
 }
 
--- bit_of door k more, at either end of the path
+-- one door k more, at either end of the path
 pub record Longer (k : ℕ) (more : List ℕ → List ℕ) : Type 0 where
   pub here : (w : List ℕ) → StandsIn k (more w)
   pub stays : (j : ℕ) (w : List ℕ) → StandsIn j w → StandsIn j (more w)
@@ -205,7 +205,7 @@ tells-up Ls a u e w p =
     let x : q.0 ≡ u = cc q.1 in
     rw (← x) (record { all_in = q.2.all; in_some = q.2.some })
 
--- the sets of a node, also of bit_of from which no path leads to the end
+-- the sets of a node, also of one from which no path leads to the end
 pub up-exact : (Ls : Net) (a : ℕ) → let u = or_no_up (get_or (ups Ls) a None) in Exactly u.allup (OnEvery (PathFrom Ls a)) × Exactly u.someup (OnOne (PathFrom Ls a))
 up-exact Ls a = go (get_or (ups Ls) a None) refl
   where
@@ -228,20 +228,14 @@ module _ {S V : Type 0} {Keeps : List ℕ → Type 0} {Stands : S → List ℕ �
 
   top-at : (labs : Labs by w1) (Ls : Net) (a : ℕ) (other : Node S V) → Full by w1 labs Ls → a < length (top by w1 labs Ls)
       → Stands-at labs Ls a (get_or (top by w1 labs Ls) a other)
-  top-at labs [] a other f h = go (get_or labs 0 None) refl h
+  top-at labs [] a other f h = go (get_or labs 0 None) refl
     where
-      P : Option (Down S V) → Node S V
-      P o = record { arcs = record { to = padded_targets [] }; label = record { down = or_blank by.rule by.tally o; up = no_up } }
-
-      one : (a : ℕ) (l : Down S V) → get_or labs 0 None ≡ Some l → a < 1 → Stands-at labs [] a (get_or (P (Some l) ∷ []) a other)
-      one zero l e k = record { inner = k; label = l; labelled = e; down = refl; up = unfold ups up in refl }
-      one (suc a) l e k = absurd (not-suc-le-zero (le_of_suc-le-suc k))
-
-      go : (o : Option (Down S V)) → get_or labs 0 None ≡ o → a < length (nodes_in (P o ∷ [])) → Stands-at labs [] a (get_or (nodes_in (P o ∷ [])) a other)
-      go None e k = absurd (not-suc-le-zero k)
-      go (Some l) e k =
-          let s : nodes_in (P (Some l) ∷ []) ≡ P (Some l) ∷ [] = ap (λ (z : Bool). cond (not z) (P (Some l) ∷ []) []) (f 0 l e) in
-          subst (λ (N : List (Node S V)). Stands-at labs [] a (get_or N a other)) (sym s) (one a l e (subst (λ (N : List (Node S V)). a < length N) s k))
+      go : (o : Option (Down S V)) → get_or labs 0 None ≡ o → Stands-at labs [] a (get_or (top by w1 labs []) a other)
+      go None e = absurd (omega (arith, rw e at h))
+      go (Some l) e =
+          let s = end-top by w1 labs l e (f 0 l e) in
+          let z : a ≡ 0 = omega (arith, ap (λ (N : List (Node S V)). length N) s) in
+          rw (s, z) (record { inner = omega arith; label = l; labelled = e; down = refl; up = unfold ups up in refl })
   top-at labs (L ∷ Ls) a other f h =
       let F = record_of_place by L labs (ups (L ∷ Ls)) in
       let k : a < length L = omega (arith, table-long (length L) F) in
@@ -262,13 +256,13 @@ module _ {S V : Type 0} {Keeps : List ℕ → Type 0} {Stands : S → List ℕ �
 
   module _ {Allows : ℕ → V → Type 0} (tallied : TallyLaws by.round.n by.tally Allows) where
     -- on the arcs
-    labelled : (D : Net) → IsLawful by.round.n by.width D → IsEven by.round.n D → (i a : ℕ) (x : Node S V) → i ≤ length D
+    labelled : (D : Net) → IsLawful by.round.n by.width D → (i a : ℕ) (x : Node S V) → i ≤ length D
         → Stands-at (labels_at by i (first_labels by.rule by.tally) D) (drop i D) a x → Labelled Allows D i a x
-    labelled D p even i a x h s =
+    labelled D p i a x h s =
         let o = owed-at by ruled w1 D i h a s.label s.labelled in
         let t : (w : List ℕ) → LeadsTo D i a w → Tells s.label.all s.label.some w =
         λ w q. let y = tells_at by ruled w1 D p.tied i h a w q in let e : y.0 ≡ s.label = cc (y.1, s.labelled) in rw (← e) y.2 in
-        let g : Allows i s.label.value × (s.label.finish ≤ latest_finish i) = unfold Good in good-at by ruled w1 D tallied (omega (arith, p.deep, by.round.most)) even i h a s.label s.labelled in
+        let g : Allows i s.label.value × (s.label.finish ≤ latest_finish i) = unfold Good in good-at by ruled w1 D tallied (omega (arith, p.deep, by.round.most)) p.even i h a s.label s.labelled in
         let u = up-exact (drop i D) a in
         record {
           reached = o.way;
@@ -289,7 +283,7 @@ module _ {S V : Type 0} {Keeps : List ℕ → Type 0} {Stands : S → List ℕ �
         let h' : i ≤ length D = omega (arith, p.deep) in
         let e : layer by.round.n by.width i (X by w1 later D) ≡ top by w1 labs (drop i D) = rw (nodes-X by w1 later D p) (stood-top i (first_labels by.rule by.tally) D h') in
         let s = top-at labs (drop i D) a other (full_at i (first_labels by.rule by.tally) D h' (full by w1 later D p)) (rw (← e) k) in
-        rw (arcs-X by w1 later D p, e) (labelled D p p.even i a (get_or (top by w1 labs (drop i D)) a other) h' s)
+        rw (arcs-X by w1 later D p, e) (labelled D p i a (get_or (top by w1 labs (drop i D)) a other) h' s)
 
 pub labels-mean : {S V : Type 0} {Keeps : List ℕ → Type 0} {Stands : S → List ℕ → Type 0} {Allows : ℕ → V → Type 0} (A B : ℕ → Type 0) (rule : RuleSense S) (tally : TallySense V)
     → ((n : ℕ) → A n → RuleLaws n rule Keeps Stands) → ((n : ℕ) → B n → TallyLaws n tally Allows) → LabelsMean A rule B tally Allows

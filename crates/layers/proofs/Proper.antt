@@ -1,4 +1,4 @@
--- What the arcs of every diagram are, and that filters, parting and joining keep it.
+-- The arcs that opening lays are lawful, and filters, parting and joining keep lawful arcs so.
 use Rattle.std.proofs.Common.{◌≡◌, ℕ, zero, suc, ◌<◌, ◌≤◌, Bool, true, false, cond, List, [], ◌∷◌, length, get_or, set, Some, None, Option, refl, ap, ◌∙◌, inl, inr, le_of_suc-le-suc, not-suc-le-zero, arith, length-set}
 use Rattle.std.proofs.lemmas.Bool.{cases_eq, cases_lt}
 use Rattle.std.proofs.lemmas.List.{get_or-set_same, get_or-set_other}
@@ -12,10 +12,9 @@ use Rattle.layers.specs.Labels.{first_labels, arrival_over, all_agree, opening_a
 use Rattle.layers.specs.Calls.{LayerLabels, parted_arcs, kept_arcs}
 use Rattle.layers.proofs.Ways.{length-snoc}
 use Rattle.layers.proofs.Flows.{EvenLayer, table-long, compress-at}
-use Rattle.layers.proofs.Ties.{drop-below, drop-above}
+use Rattle.layers.proofs.Ties.{drop-below, drop-above, opened-tied, more-even, drop-length, parted-tied, join_tied}
 use Rattle.layers.proofs.Model.{one_group, part_at, labels_at}
 use Rattle.layers.proofs.Tied.{redirect-length, redirect-long, compress-back, tidied-tied, kept-back}
-use Rattle.layers.proofs.Ties.{opened-tied, more-even, drop-length, parted-tied, join_tied}
 use Rattle.layers.specs.Settings.{Setting}
 use Rattle.layers.specs.declared.node.Down.{Down}
 

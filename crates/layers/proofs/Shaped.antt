@@ -1,4 +1,4 @@
--- Records that have the shape of a diagram have arcs that a diagram may have, and arcs that are laid out anew have that shape.
+-- Where the nodes stand in the flat list. Records of the shape of a diagram have lawful arcs, and lawful arcs that are laid out anew have that shape, and finishes in time.
 use Rattle.std.proofs.Common.{◌≡◌, ℕ, zero, suc, ◌+◌, ◌-◌, ◌*◌, ◌<◌, ◌≤◌, Bool, cond, List, [], ◌∷◌, ◌++◌, map, length, get_or, take, drop, Some, None, Option, sym, refl, ap, ◌∙◌, inl, inr, ⊎_elim, suc-mul, suc-add, zero-add, arith, eqb, le_of_suc-le-suc, not-suc-le-zero, zero-mul, subst, append_assoc}
 use lib.ListN.{length-map}
 use Rattle.std.proofs.lemmas.List.{length-take, length-take-le, drop-drop, drop_more}

@@ -1,4 +1,4 @@
--- Tidying in the subject's words: the paths stay, and exactly the nodes on a path, numbered anew in their order.
+-- Tidying in the subject's words: the paths stay, and exactly the nodes on a path, numbered anew in their order. A tied diagram is left as it is.
 use Rattle.layers.proofs.Ways.{length-snoc}
 use Rattle.layers.specs.Lawful.{IsLed, IsTied, IsRanged}
 use Rattle.std.proofs.Common.{◌≡◌, ℕ, zero, suc, ◌<◌, ◌≤◌, Bool, true, false, ◌⊎◌, List, [], ◌∷◌, length, get_or, drop, Some, None, Option, sym, refl, ap, ◌∙◌, subst, inl, inr, not-suc-le-zero, arith, ◌++◌, le_of_suc-le-suc}

@@ -1,4 +1,4 @@
--- Opening, part and join keep every node on a path.
+-- Part and join keep every path; and opening, part and join keep every node on a path.
 use Rattle.std.proofs.Common.{◌≡◌, ℕ, zero, suc, ◌-◌, ◌<◌, ◌≤◌, Bool, true, false, cond, not, ◌&&◌, eqb, ltb, ◌⊎◌, List, [], ◌∷◌, ◌++◌, length, get_or, set, Some, None, Option, sym, refl, ap, ◌∙◌, inl, inr, le_of_suc-le-suc, not-suc-le-zero, arith, length-set}
 use Rattle.std.proofs.lemmas.Bool.Decides.{nat_tests}
 use Rattle.std.proofs.lemmas.Bool.{true≢false, ltb-true, ltb-false, eqb-true, eq-eqb, cases_lt, cases_eq, and_cases, and_parts}
@@ -144,10 +144,9 @@ more-back M nd c h = elim (cases_lt c (length M)) [ inl k ↦ inl (k, get_or_app
 module _ (M : Layer) (a : ℕ) (inn : a < length M) where
   more-ranged : (m : ℕ) → IsRanged M m → IsRanged (M ++ (node M a ∷ [])) m
   more-ranged m h c j b e =
-      elim (more-back M (node M a) c (let z = has-arc (M ++ (node M a ∷ [])) c j b e in omega (arith, length-snoc M (node M a)))) [
-        | inl q ↦ h c j b (rw (← q.1) e)
-        | inr q ↦ h a j b (rw (← q.1) e)
-      ]
+      let k = has-arc (M ++ (node M a ∷ [])) c j b e in
+      let q = more-back M (node M a) c (omega (arith, length-snoc M (node M a))) in
+      grind (arith, e, q, h c j b, h a j b)
 
   pub more-even : (n : ℕ) → EvenLayer n M → EvenLayer n (M ++ (node M a ∷ []))
   more-even n h c k = elim (more-back M (node M a) c (omega (arith, length-snoc M (node M a)))) [ inl x ↦ rw x.1 (h c x.0) | inr x ↦ rw x.1 (h a inn) ]
@@ -199,7 +198,7 @@ module _ {S V : Type 0} (by : Setting S V) (self : (s : S) → by.rule.same s s 
     h = first_arrival (arrivals_at (arrival_over by) a labs L)
 
     abbrev f : ℕ → ℕ → ℕ → ℕ
-    f u j b = cond (eqb b a && differs_from_first by h (get_or labs u None) j) (suc (length M)) (suc b)
+    f = moved by a labs L (length M)
 
     part-ranged : IsRanged L (length M) → IsRanged (redirect f L) (length (M ++ (node M a ∷ [])))
     part-ranged g u j c e = let q = redirect-back f L u j c e in let k = g u j q.0 q.1 in let z = length-snoc M (node M a) in let y = q.2 in grind (arith, k, y, z)
@@ -242,10 +241,7 @@ module _ {S V : Type 0} (by : Setting S V) (self : (s : S) → by.rule.same s s 
   parted-tied zero a labs (L ∷ []) k e t = t
   parted-tied zero a labs (L ∷ M ∷ Ls) k e t =
       (part-ranged a labs L M k e t.0, part-fed a labs L M k e t.1, more-led M a k t.2, more-tied M a k Ls t.3)
-  parted-tied (suc d) a labs (L ∷ []) k e t = absurd (not-suc-le-zero (none-there d a k))
-    where
-      none-there : (d a : ℕ) → a < length {A = Outs} (get_or [] (suc d) []) → a < 0
-      none-there d a k = k
+  parted-tied (suc d) a labs (L ∷ []) k e t = absurd (not-suc-le-zero k)
   parted-tied (suc zero) a labs (L ∷ M ∷ []) k e t = t
   parted-tied (suc zero) a labs (L ∷ M ∷ N ∷ Ls) k e t =
       let rest = parted-tied zero a labs (M ∷ N ∷ Ls) k e t.3 in
@@ -260,18 +256,6 @@ drop-length zero [] h = absurd (not-suc-le-zero h)
 drop-length (suc i) [] h = absurd (not-suc-le-zero h)
 drop-length zero (x ∷ M) h = refl
 drop-length (suc i) (x ∷ M) h = ap suc (drop-length i M (le_of_suc-le-suc h))
-
-moved-below : (lo hi c : ℕ) → c < hi → place_after_join lo hi c ≡ c
-unfolding place_after_join
-moved-below lo hi c h = grind (arith, nat_tests)
-
-moved-above : (lo hi c : ℕ) → hi ≤ c → place_after_join lo hi (suc c) ≡ c
-unfolding place_after_join
-moved-above lo hi c h = grind (arith, nat_tests)
-
-moved_at : (lo hi : ℕ) → place_after_join lo hi hi ≡ lo
-unfolding place_after_join
-moved_at lo hi = grind (arith, nat_tests)
 
 module _ (M : Layer) (lo hi : ℕ) (lt : lo < hi) (inn : hi < length M) (nc : clash (node M lo) (node M hi) ≡ false) where
   abbrev X : Layer
@@ -303,7 +287,8 @@ module _ (M : Layer) (lo hi : ℕ) (lt : lo < hi) (inn : hi < length M) (nc : cl
 
   -- a place of the new layer comes from a place of the old
   from : (c : ℕ) → c < length M' → (b : ℕ) × (b < length M) × (place_after_join lo hi b ≡ c)
-  from c k = elim (cases_lt c hi) [ inl h ↦ (c, omega (arith, long), moved-below lo hi c h) | inr h ↦ (suc c, omega (arith, long), moved-above lo hi c h) ]
+  unfolding place_after_join
+  from c k = elim (cases_lt c hi) [ inl h ↦ (c, omega (arith, long), grind (arith, nat_tests, h)) | inr h ↦ (suc c, omega (arith, long), grind (arith, nat_tests, h)) ]
 
   to : (b : ℕ) → b < length M → place_after_join lo hi b < length M'
   unfolding place_after_join

@@ -21,14 +21,13 @@ use Rattle.layers.specs.Net.{Outs, Layer, Net, node, target, width, PathFrom}
 use Rattle.layers.specs.Flow.{arrivals_at, up}
 use Rattle.layers.specs.Labels.{bit_of, leg, climb, merge_up, no_up, ups, first_label, arrival_over, merge, first_labels, labels_next, is_barred}
 use Rattle.layers.proofs.Flows.{EvenLayer, redirect-arc, inside, has-arc, next-at, up_at, tidy-keeps, From, ins-from, next-some, gather-all}
-use Rattle.layers.proofs.Ways.{or_left, or_right, or_split, and_left, and_right, one-self, one_only, none_has, ones_in}
-use Rattle.layers.proofs.Ways.{in_split, in-snd, part-tail, trip-snoc, van-snoc, length-snoc, snoc-assoc, TimelyFrom, timely-from, leg-le, leg-bound}
+use Rattle.layers.proofs.Ways.{or_left, or_right, or_split, and_left, and_right, one-self, one_only, none_has, ones_in, in_split, in-snd, part-tail, trip-snoc, van-snoc, length-snoc, snoc-assoc, TimelyFrom, timely-from, leg-le, leg-bound}
 use Rattle.layers.proofs.Model.{sweeps, sweep}
 use Rattle.layers.specs.Settings.{Setting}
 use Rattle.layers.specs.declared.node.Down.{Down}
 use Rattle.layers.specs.Calls.{kept_arcs}
 
--- a finish of fewer than 16 doors and bit_of more
+-- a finish of fewer than 16 doors and one more
 pub within : (k f : ℕ) → k < 16 → f ≤ latest_finish (suc k) → f ≤ latest_finish 16
 within k f h e = omega arith
 
@@ -154,7 +153,7 @@ module _ {S V : Type 0} {Keeps : List ℕ → Type 0} {Stands : S → List ℕ �
             k d g dl early (within (length p) _ k s) fine t.fine f.value);
       }
 
-  -- ---- every label's value is bit_of that the by.tally allows
+  -- ---- every label's value is one that the tally allows
   unfoldable pub Good : ℕ → List (Option (Down S V)) → Type 0
   Good k labs = (a : ℕ) (l : Down S V) → get_or labs a None ≡ Some l → (Allows k l.value) × (l.finish ≤ latest_finish k)
 

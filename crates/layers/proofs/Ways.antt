@@ -1,4 +1,4 @@
--- Part orders and their beginnings, the van on its way, and legs.
+-- Sets of doors by the test `has`; part orders and their beginnings, the van on its way, and legs.
 use Rattle.std.proofs.lemmas.Bool.Decides.{nat_tests}
 use Rattle.std.proofs.Common.{◌≡◌, ℕ, zero, suc, ◌+◌, ◌<◌, ◌≤◌, true, false, eqb, ◌⊎◌, List, [], ◌∷◌, ◌++◌, length, Some, None, fold, Option, unwrap_or, refl, ap, subst, inl, inr, append_assoc, arith, length-append, ⊎_elim}
 use Rattle.std.proofs.lemmas.List.Sums.{fold_push}
@@ -69,7 +69,7 @@ length-snoc p j = omega (arith, length-append p (j ∷ []))
 pub snoc-assoc : (p w : List ℕ) (j : ℕ) → (p ++ (j ∷ [])) ++ w ≡ p ++ (j ∷ w)
 snoc-assoc p w j = append_assoc p (j ∷ []) w
 
--- ---- bit_of door more
+-- ---- one door more
 pub trip-snoc : {V : Type 0} (r : Round) (tally : TallySense V) (p : List ℕ) (j : ℕ) → trip_after r tally (p ++ (j ∷ [])) ≡ next_trip r tally (trip_after r tally p) j
 trip-snoc r tally p j = fold_push (next_trip r tally) (record { van = yard; cost = tally.start }) p j
 

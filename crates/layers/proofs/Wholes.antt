@@ -1,6 +1,7 @@
--- Refine that answers whole leaves a settled diagram: each layer that it has parted through has keys, and keeps them while later layers are swept and parted.
-use Rattle.std.proofs.Common.{◌≡◌, ℕ, zero, suc, ◌+◌, ◌-◌, ◌<◌, ◌≤◌, Bool, true, false, cond, ◌&&◌, eqb, leb, ltb, ◌⊎◌, List, [], ◌∷◌, length, get_or, Some, None, Option, sym, refl, ap, ◌∙◌, subst, inl, inr, not-suc-le-zero, arith}
-use Rattle.std.proofs.lemmas.Bool.{true≢false, not-false, leb-false, ltb-true, ltb-false, eqb-true, eqb-false, eq-eqb, cases_eq, cond_both}
+-- Refine that answers whole leaves a settled diagram: each layer that it has parted through has keys, and keeps them while later layers are swept and parted. Its last sweep leaves nothing to sweep.
+use Rattle.std.proofs.lemmas.Bool.Decides.{nat_tests}
+use Rattle.std.proofs.Common.{◌≡◌, ℕ, zero, suc, ◌+◌, ◌-◌, ◌<◌, ◌≤◌, Bool, true, false, eqb, leb, ltb, ◌⊎◌, List, [], ◌∷◌, length, get_or, Some, None, Option, sym, refl, ap, ◌∙◌, subst, inl, inr, not-suc-le-zero, arith}
+use Rattle.std.proofs.lemmas.Bool.{true≢false, leb-false, ltb-true, ltb-false, eqb-true, eqb-false, cases_eq, cond_both}
 use Rattle.rules.specs.Rules.{RuleLaws, RuleSense}
 use Rattle.tallies.specs.Tallies.{TallySense}
 use Rattle.layers.specs.declared.node.Node.{Node}
@@ -9,12 +10,12 @@ use Rattle.layers.specs.declared.refined.Refined.TheVariants.{Whole, Full}
 use Rattle.layers.specs.Net.{Layer, Net, node, target, width, redirect, count_arcs}
 use Rattle.layers.specs.Flow.{arrivals_at}
 use Rattle.layers.specs.Lawful.{IsLawful, IsRoomy, IsTied}
-use Rattle.layers.specs.Labels.{first_label, first_labels, arrival_over, merge, labels_next, agree, all_agree, first_arrival, differs_from_first}
+use Rattle.layers.specs.Labels.{first_label, first_labels, arrival_over, merge, labels_next, agree, all_agree, first_arrival}
 use Rattle.layers.specs.Calls.{arcs, parted_arcs, after_sweep, sweep_answer, count_of, one_group as oneGroupIn, parted_records, parts_of_layer, refinement_from, after_sweeps, refinement, after_open, after_calls, is_settled}
 use Rattle.layers.specs.SweepLaws.{RefineSweepsOutAlways}
 use Rattle.layers.specs.Claim.{WholeSettlesAlways}
-use Rattle.layers.proofs.Flows.{Among, From, has-arc, ins-in, ins-from, next-some, next-at, gather-all}
-use Rattle.layers.proofs.Model.{sweep, part_at, one_group, or_blank}
+use Rattle.layers.proofs.Flows.{Among, has-arc, ins-in, ins-from, next-some, next-at, gather-all}
+use Rattle.layers.proofs.Model.{sweep, part_at, one_group, or_blank, moved}
 use Rattle.layers.proofs.Counts.{sweep-fewer, sweep-same, settled-if}
 use Rattle.layers.proofs.Tied.{redirect-back, redirect-length}
 use Rattle.layers.proofs.Bridge.{labels_full}
@@ -60,7 +61,7 @@ module _ {S V : Type 0} {Keeps : List ℕ → Type 0} {Stands : S → List ℕ �
     h = first_arrival (arrivals a L)
 
     abbrev f : ℕ → ℕ → ℕ → ℕ
-    f u j b = cond (eqb b a && differs_from_first by h (get_or labs u None) j) (suc (length M)) (suc b)
+    f = moved by a labs L (length M)
 
     -- an arrival at an old node was there before, and did not leave
     record Was (b : ℕ) (y : Down S V) : Type 0 where
@@ -71,18 +72,13 @@ module _ {S V : Type 0} {Keeps : List ℕ → Type 0} {Stands : S → List ℕ �
     was b y k i =
         let w = ins-from (arrival_over by) b labs (redirect f L) y i in
         let s = redirect-back f L w.source w.door b w.arc in
-        go w s.0 s.1 (eqb s.0 a && differs_from_first by h (get_or labs w.source None) w.door) refl s.2
-      where
-        go : (w : From (arrival_over by) b labs (redirect f L) y) (c : ℕ) → target (node L w.source) w.door ≡ suc c → (q : Bool) → (eqb c a && differs_from_first by h (get_or labs w.source None) w.door) ≡ q
-            → cond q (suc (length M)) (suc c) ≡ suc b → Was b y
-        go w c e true t g = absurd (omega arith)
-        go w c e false t g =
-            let z : c ≡ b = omega arith in record {
-              here = rw w.is (ins-in (arrival_over by) (merge by.rule by.tally) b labs L w.source w.door w.label (e ∙ ap suc z) w.labelled);
-              stays = λ n x m. not-false (agree by.rule x y)
-                  (rw w.is (sym (rw (eq-eqb c a (z ∙ n), m, w.labelled) refl)
-                  ∙ t));
-            }
+        let t = s.2 in
+        let z : s.0 ≡ b = grind (arith, nat_tests, t, k) in
+        let m = w.labelled in
+        let y = w.is in record {
+          here = rw y (ins-in (arrival_over by) (merge by.rule by.tally) b labs L w.source w.door w.label (s.1 ∙ ap suc z) m);
+          stays = λ n x e. grind (arith, nat_tests, t, z, n, e, m, y);
+        }
 
     head_of : (l : List (Down S V)) (y : Down S V) → Among y l → (x : Down S V) × (first_arrival l ≡ Some x)
     head_of [] y i = absurd i

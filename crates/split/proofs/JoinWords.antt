@@ -10,8 +10,7 @@ use Rattle.layers.specs.Records.{padded_targets}
 use Rattle.layers.specs.Calls.{Outcome, arcs, records_with, join_answer, after_join}
 use Rattle.layers.specs.Shape.{IsShaped, IsTimely}
 use Rattle.layers.specs.Targets.{targets}
-use Rattle.layers.proofs.Shaped.{relaid-shaped}
-use Rattle.layers.proofs.Shaped.{relaid-timely}
+use Rattle.layers.proofs.Shaped.{relaid-shaped, relaid-timely}
 use Rattle.layers.proofs.Proper.{proper-join}
 use Rattle.labels.specs.Passes.{part, blank_node, relabelled}
 use Rattle.labels.proofs.Overs.{get_d_part}

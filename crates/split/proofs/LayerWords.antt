@@ -12,8 +12,7 @@ use Rattle.layers.specs.Records.{nodes_in, downs_in, arcs_read, laid_arcs, label
 use Rattle.layers.specs.Calls.{parted_arcs, arcs, records_with, count_of, one_group as oneGroupIn, parted_records, parts_of_layer}
 use Rattle.layers.proofs.Bridge.{laid-long}
 use Rattle.layers.proofs.Model.{part_at, labels_at}
-use Rattle.layers.proofs.Shaped.{layer-at}
-use Rattle.layers.proofs.Shaped.{shaped-proper}
+use Rattle.layers.proofs.Shaped.{layer-at, shaped-proper}
 use Rattle.layers.proofs.Standing.{arcs-X, written, at-X, Reached, count-of, group-of, reached-part}
 use Rattle.layers.proofs.Tied.{redirect-length}
 use Rattle.layers.proofs.Ways.{length-snoc}

@@ -9,8 +9,7 @@ use Rattle.layers.specs.Labels.{all_agree}
 use Rattle.layers.specs.Records.{nodes_in, arcs_in, downs_in, labelled_records}
 use Rattle.layers.specs.Calls.{Outcome, arcs, layer, parted_arcs, records_with, one_group, part_answer, parted_records, after_part, arrivals as arrivalsIn}
 use Rattle.layers.specs.Shape.{IsShaped, IsTimely}
-use Rattle.layers.proofs.Shaped.{layer-at, relaid-shaped}
-use Rattle.layers.proofs.Timely.{relaid-timely}
+use Rattle.layers.proofs.Shaped.{layer-at, relaid-shaped, relaid-timely}
 use Rattle.layers.proofs.Proper.{proper-parted-at}
 use Rattle.labels.specs.Passes.{part, relabelled}
 use Rattle.labels.proofs.Laying.{Arranged, relabelled-lawful}
