@@ -16,6 +16,7 @@ use Rattle.labels.specs.Passes.{arrivals, with_down, Early, blank_node, by_door,
 use Rattle.labels.proofs.Folds.{folded_keeps}
 use Rattle.labels.proofs.Legs.{leg-most}
 use Rattle.layers.specs.Settings.{Setting}
+use Rattle.layers.specs.Records.{is_used, nodes_in}
 
 pub all-mono : {X : Type 0} (P Q : X → Type 0) → ((x : X) → P x → Q x) → (xs : List X) → All P xs → All Q xs
 all-mono P Q f [] h = tt
@@ -24,6 +25,10 @@ all-mono P Q f (x ∷ xs) h = (f x h.0, all-mono P Q f xs h.1)
 pub all-joined : {X A : Type 0} (P : A → Type 0) (Q : X → Type 0) (F : X → List A) → ((x : X) → Q x → All P (F x)) → (xs : List X) → All Q xs → All P (flat_map F xs)
 all-joined P Q F f [] h = tt
 all-joined P Q F f (x ∷ xs) h = All-append P (F x) (flat_map F xs) (f x h.0) (all-joined P Q F f xs h.1)
+
+all_nodes : {S V : Type 0} (P : Node S V → Type 0) (us : List (Node S V)) → All P us → All P (nodes_in us)
+all_nodes P [] h = tt
+all_nodes P (u ∷ us) h = cond_both (is_used u) (u ∷ nodes_in us) [] (All P) (λ _. (h.0, all_nodes P us h.1)) (λ _. tt)
 
 all_any : {X : Type 0} (xs : List X) → All (λ _. Unit {0}) xs
 all_any [] = tt
@@ -64,7 +69,7 @@ module _ {S V : Type 0} (by : Setting S V) where
       let n = length vs in
       All-from_get_or (Early (latest_finish (suc k))) (map f (range_with_len 0 n)) (blank_node by.rule by.tally)
       (λ b lt. subst (Early (latest_finish (suc k))) (sym (get_or-map-range_with_len f 0 n b b (blank_node by.rule by.tally) (omega (arith, length-map-range_with_len f 0 n)) (omega arith)))
-      (gathered-soon (latest_finish (suc k)) (arrivals by (b + 1) us) (arrives-soon k (b + 1) us h)))
+      (gathered-soon (latest_finish (suc k)) (arrivals by (b + 1) (nodes_in us)) (arrives-soon k (b + 1) (nodes_in us) (all_nodes (Early (latest_finish k)) us h))))
 
   pub first_early : (us : List (Node S V)) → All (Early (latest_finish 0)) (first_layer by.rule by.tally us)
   first_early [] = tt

@@ -9,6 +9,7 @@ use Rattle.layers.specs.declared.node.Node.{Node}
 use Rattle.layers.specs.declared.node.Down.{Down}
 use Rattle.layers.specs.declared.node.Up.{Up}
 use Rattle.layers.specs.Settings.{Setting}
+use Rattle.layers.specs.Records.{nodes_in}
 use Rattle.layers.specs.Labels.{leg_step, arrival_over, merge, first_label, blank_label, climb, merge_up, no_up}
 
 -- ---- parts of the list
@@ -80,10 +81,10 @@ module _ {S V : Type 0} (by : Setting S V) where
   abbrev pub arrivals : ℕ → List (Node S V) → List (Down S V)
   arrivals t us = flat_map (from_node t) us
 
-  -- record b of the layer vs, with the label that it gathers out of the layer us before it
+  -- record b of the layer vs, with the label that it gathers out of the nodes of the layer us before it
   unfoldable pub labelled : List (Node S V) → List (Node S V) → ℕ → Node S V
   unfolding gathered from_node
-  labelled us vs b = with_down (slice_index_or vs b (blank_node by.rule by.tally)) (gathered by.rule by.tally (arrivals (b + 1) us))
+  labelled us vs b = with_down (slice_index_or vs b (blank_node by.rule by.tally)) (gathered by.rule by.tally (arrivals (b + 1) (nodes_in us)))
 
   unfoldable pub next_layer : List (Node S V) → List (Node S V) → List (Node S V)
   unfolding labelled
@@ -125,10 +126,10 @@ module _ {S V : Type 0} where
   unfoldable pub up_by : List (Node S V) → Node S V → ℕ → List Up
   up_by vs u k = map (λ v. climb v.label.up (k + 1)) (numbered (slice_index u.arcs.to k) vs)
 
-  -- by door
+  -- by door; to one that is not in use nothing climbs
   unfoldable pub ups_of : List (Node S V) → Node S V → List Up
   unfolding up_by
-  ups_of vs u = flat_map (up_by vs u) (range_with_len 0 16)
+  ups_of vs u = if u.label.down.lasts == 0 then [] else flat_map (up_by vs u) (range_with_len 0 16)
 
   -- a record, with what it gathers from the layer vs after it
   unfoldable pub risen : List (Node S V) → Node S V → Node S V

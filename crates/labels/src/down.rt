@@ -1,5 +1,5 @@
 //! The pass down: each arrival is added to its target, sources by number, then doors.
-ghost use Rattle.std.specs.Prelude.{◌≡◌, ℕ, ◌+◌, ◌-◌, ◌*◌, ◌<◌, ◌≤◌, map, length, take, slice_index};
+ghost use Rattle.std.specs.Prelude.{◌≡◌, ◌≢◌, ℕ, ◌+◌, ◌-◌, ◌*◌, ◌<◌, ◌≤◌, map, length, take, slice_index};
 ghost use Rattle.std.specs.List.{AllByRecursion};
 ghost use Rattle.round.specs.Clock.{latest_finish};
 ghost use Rattle.layers.specs.declared.node.Node.{Node as ANode};
@@ -100,19 +100,17 @@ fn cross<R: Rule, T: Tally>(
     land(by.rule, by.tally, vs, t - 1, &x);
 }
 
-/// Over all arcs of u.
+/// Over all arcs of the node u.
 fn spread_node<R: Rule, T: Tally>(
     by: &Setting<'_, R, T>,
     u: &Node<R::State, T::Value>,
     vs: &mut [Node<R::State, T::Value>],
 )
-    requires { u.now.label.down.finish ≤ latest_finish 15 }
+    requires in_use { u.now.label.down.lasts ≢ 0 }
+    requires finish_bound { u.now.label.down.finish ≤ latest_finish 15 }
     ensures { let by = lent_setting by.now (R.sense by.now.rule.now) (T.sense by.now.tally.now) in
         vs.new ≡ spread by vs.old u.now }
 {
-    if u.label.down.lasts == 0 {
-        return;
-    }
     let legs = legs(by.round, u.label.down.lasts);
     for k in 0..16 {
         cross(by, u, &legs, vs, k);
@@ -142,7 +140,7 @@ fn clear<R: Rule, T: Tally>(rule: &R, tally: &T, vs: &mut [Node<R::State, T::Val
     }
 }
 
-/// Works out anew the labels of the layer vs, from the layer us before it.
+/// Works out anew the labels of the layer vs, from the nodes of the layer us before it, which stand first.
 fn relabel_layer<R: Rule, T: Tally>(
     by: &Setting<'_, R, T>,
     us: &[Node<R::State, T::Value>],
@@ -154,6 +152,9 @@ fn relabel_layer<R: Rule, T: Tally>(
 {
     clear(by.rule, by.tally, vs);
     for u in us {
+        if u.label.down.lasts == 0 {
+            break;
+        }
         spread_node(by, u, vs);
     }
 }

@@ -53,9 +53,13 @@ fn climb_by<S: Copy, V: Copy>(
     take_up(got, climb_from(&vs[t - 1], k + 1))
 }
 
+/// What u gathers from the layer vs after it; a place that is not in use gathers nothing.
 fn climb_all<S: Copy, V: Copy>(vs: &[Node<S, V>], u: &Node<S, V>) -> Up
     ensures { result ≡ gathered_up (ups_of vs.now u.now) }
 {
+    if u.label.down.lasts == 0 {
+        return NONE;
+    }
     let mut got: Option<Up> = None;
     for k in 0..16 {
         got = climb_by(vs, u, k, got);
