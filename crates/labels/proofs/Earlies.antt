@@ -1,8 +1,8 @@
 -- No finish of a layer is above what the clock allows after so many steps.
-use Rattle.std.proofs.Common.{◌≡◌, ℕ, zero, suc, ◌+◌, ◌-◌, ◌≤◌, ◌≢◌, eqb, List, [], ◌∷◌, ◌++◌, map, length, get_or, take, drop, sym, refl, ap, ◌∙◌, subst, arith}
+use Rattle.std.proofs.Common.{◌≡◌, ℕ, zero, suc, ◌+◌, ◌-◌, ◌≤◌, ◌≢◌, List, [], ◌∷◌, ◌++◌, map, length, take, drop, sym, refl, ap, ◌∙◌, subst, arith}
 use Rattle.std.proofs.lemmas.List.{length-map, take_at, length-take-le}
-use Rattle.std.specs.List.{range_with_len, flat_map, AllByRecursion as All}
-use Rattle.std.proofs.ByRecursion.{All-append, All-from_get_or}
+use Rattle.std.specs.List.{range_with_len, AllByRecursion as All}
+use Rattle.std.proofs.ByRecursion.{All-from_get_or}
 use Rattle.std.proofs.lemmas.List.FromFn.{get_or-map-range_with_len, length-map-range_with_len}
 use Rattle.std.proofs.lemmas.Bool.{cond_both}
 use Rattle.round.specs.Clock.{latest_finish}
@@ -12,27 +12,16 @@ use Rattle.tallies.specs.Tallies.{TallySense}
 use Rattle.layers.specs.declared.node.Node.{Node}
 use Rattle.layers.specs.declared.node.Down.{Down}
 use Rattle.layers.specs.Labels.{leg, arrival_over, merge, blank_label}
-use Rattle.labels.specs.Passes.{arrivals, with_down, Early, blank_node, by_door, from_node, gathered, labelled, next_layer, labelled_after, first_layer}
-use Rattle.labels.proofs.Folds.{folded_keeps}
+use Rattle.labels.specs.Passes.{arrivals, cleared, with_down, Early, blank_node, gathered, labelled, next_layer, labelled_after, first_layer}
+use Rattle.labels.proofs.Folds.{all_mono, folded_keeps}
+use Rattle.labels.proofs.Scattered.{all-arrivals}
 use Rattle.labels.proofs.Legs.{leg-most}
 use Rattle.layers.specs.Settings.{Setting}
 use Rattle.layers.specs.Records.{is_used, nodes_in}
 
-pub all-mono : {X : Type 0} (P Q : X → Type 0) → ((x : X) → P x → Q x) → (xs : List X) → All P xs → All Q xs
-all-mono P Q f [] h = tt
-all-mono P Q f (x ∷ xs) h = (f x h.0, all-mono P Q f xs h.1)
-
-pub all-joined : {X A : Type 0} (P : A → Type 0) (Q : X → Type 0) (F : X → List A) → ((x : X) → Q x → All P (F x)) → (xs : List X) → All Q xs → All P (flat_map F xs)
-all-joined P Q F f [] h = tt
-all-joined P Q F f (x ∷ xs) h = All-append P (F x) (flat_map F xs) (f x h.0) (all-joined P Q F f xs h.1)
-
 all_nodes : {S V : Type 0} (P : Node S V → Type 0) (us : List (Node S V)) → All P us → All P (nodes_in us)
 all_nodes P [] h = tt
 all_nodes P (u ∷ us) h = cond_both (is_used u) (u ∷ nodes_in us) [] (All P) (λ _. (h.0, all_nodes P us h.1)) (λ _. tt)
-
-all_any : {X : Type 0} (xs : List X) → All (λ _. Unit {0}) xs
-all_any [] = tt
-all_any (x ∷ xs) = (tt, all_any xs)
 
 pub first-long : {S V : Type 0} (R : RuleSense S) (T : TallySense V) (us : List (Node S V)) → length (first_layer R T us) ≡ length us
 first-long R T [] = refl
@@ -46,17 +35,6 @@ module _ {S V : Type 0} (by : Setting S V) where
   unfolding arrival_over
   arrive-soon k u j h = (clock-laws by.round).bound k u.finish (leg by.round u.lasts j) j h (leg-most by.round u.lasts j)
 
-  arrives-soon : (k t : ℕ) (us : List (Node S V)) → All (Early (latest_finish k)) us → All (Soon (latest_finish (suc k))) (arrivals by t us)
-  unfolding from_node by_door
-  arrives-soon i t us h =
-      let P = Soon (latest_finish (suc i)) in
-      all-joined P (Early (latest_finish i)) (from_node by t)
-      (λ u e. cond_both (eqb u.label.down.lasts 0) [] (flat_map (by_door by t u) (range_with_len 0 16)) (All P) (λ _. tt)
-      (λ _. all-joined P (λ _. Unit {0}) (by_door by t u)
-      (λ k _. cond_both (eqb (get_or u.arcs.to k 0) t) (arrival_over by u.label.down (k + 1) ∷ []) [] (All P) (λ _. (arrive-soon i u.label.down (k + 1) e, tt)) (λ _. tt))
-      (range_with_len 0 16) (all_any (range_with_len 0 16))))
-      us h
-
   gathered-soon : (m : ℕ) (xs : List (Down S V)) → All (Soon m) xs → (gathered by.rule by.tally xs).finish ≤ m
   unfolding gathered merge
   gathered-soon m [] h = omega arith
@@ -69,13 +47,13 @@ module _ {S V : Type 0} (by : Setting S V) where
       let n = length vs in
       All-from_get_or (Early (latest_finish (suc k))) (map f (range_with_len 0 n)) (blank_node by.rule by.tally)
       (λ b lt. subst (Early (latest_finish (suc k))) (sym (get_or-map-range_with_len f 0 n b b (blank_node by.rule by.tally) (omega (arith, length-map-range_with_len f 0 n)) (omega arith)))
-      (gathered-soon (latest_finish (suc k)) (arrivals by (b + 1) (nodes_in us)) (arrives-soon k (b + 1) (nodes_in us) (all_nodes (Early (latest_finish k)) us h))))
+      (gathered-soon (latest_finish (suc k)) (arrivals by (b + 1) (nodes_in us)) (all-arrivals by (Soon (latest_finish (suc k))) (Early (latest_finish k)) (λ u j e. arrive-soon k u.label.down j e) (b + 1) (nodes_in us) (all_nodes (Early (latest_finish k)) us h))))
 
   pub first_early : (us : List (Node S V)) → All (Early (latest_finish 0)) (first_layer by.rule by.tally us)
   first_early [] = tt
   first_early (u ∷ us) = (omega arith, rest us)
     where
-      rest : (us : List (Node S V)) → All (Early (latest_finish 0)) (map (λ v. with_down v (blank_label by.rule by.tally)) us)
+      rest : (us : List (Node S V)) → All (Early (latest_finish 0)) (map (cleared by.rule by.tally) us)
       rest [] = tt
       rest (u ∷ us) = (omega arith, rest us)
 
@@ -85,7 +63,7 @@ module _ {S V : Type 0} (by : Setting S V) where
 
 -- with so many layers between this one and the end, of at most sixteen
 pub early_at_last : {S V : Type 0} (later : ℕ) (us : List (Node S V)) → All (Early (latest_finish (15 - later))) us → All (Early (latest_finish 15)) us
-early_at_last later us h = all-mono (Early (latest_finish (15 - later))) (Early (latest_finish 15)) (λ u e. omega arith) us h
+early_at_last later us h = all_mono (Early (latest_finish (15 - later))) (Early (latest_finish 15)) (λ u e. omega arith) us h
 
 -- and the layer after it
 pub early_on : {S V : Type 0} (by : Setting S V) (later : ℕ) (us rest : List (Node S V)) → later ≢ 0 → later ≤ 15 → by.width ≤ length rest → All (Early (latest_finish (15 - later))) us
@@ -102,4 +80,4 @@ after_more by zero xs ne = absurd (ne refl)
 after_more by (suc k) xs ne = let e : suc k - 1 ≡ k = omega arith in rw e
 
 pub early_first : {S V : Type 0} (by : Setting S V) (n : ℕ) (us rest : List (Node S V)) → length us ≡ by.width → All (Early (latest_finish n)) (take by.width (first_layer by.rule by.tally us ++ rest))
-early_first by n us rest e = rw (take_at (first_layer by.rule by.tally us) rest by.width (first-long by.rule by.tally us ∙ e)) (all-mono (Early (latest_finish 0)) (Early (latest_finish n)) (λ u h. omega arith) (first_layer by.rule by.tally us) (first_early by us))
+early_first by n us rest e = rw (take_at (first_layer by.rule by.tally us) rest by.width (first-long by.rule by.tally us ∙ e)) (all_mono (Early (latest_finish 0)) (Early (latest_finish n)) (λ u h. omega arith) (first_layer by.rule by.tally us) (first_early by us))

@@ -1,7 +1,9 @@
 -- What the code's pass adds up at a record is what flows in over the arcs.
-use Rattle.std.proofs.Common.{◌≡◌, ℕ, zero, suc, ◌+◌, ◌<◌, ◌≤◌, Bool, true, false, cond, eqb, List, [], ◌∷◌, ◌++◌, length, get_or, Some, None, Option, refl, ap, ◌∙◌, ap₂, zero-add, add-one, arith}
+use Rattle.std.proofs.Common.{◌≡◌, ℕ, zero, suc, ◌+◌, ◌<◌, ◌≤◌, Bool, true, false, cond, eqb, List, [], ◌∷◌, ◌++◌, length, get_or, Some, None, Option, sym, refl, ap, ◌∙◌, ap₂, zero-add, add-one, arith}
 use Rattle.std.specs.List.{range_with_len, flat_map}
 use Rattle.std.proofs.lemmas.Bool.{cond-false, cond_both, ne_eqb}
+use Rattle.std.proofs.lemmas.List.{get_or_past}
+use Rattle.labels.proofs.Folds.{by-doors}
 use Rattle.layers.specs.declared.node.Node.{Node}
 use Rattle.layers.specs.declared.node.Down.{Down}
 use Rattle.layers.specs.Net.{table, Outs, Layer, node}
@@ -36,27 +38,10 @@ module _ {S V : Type 0} (by : Setting S V) where
   pub doors-in : (b : ℕ) (l : Down S V) (ts to : List ℕ) (a m : ℕ) → length ts ≤ m → ((i : ℕ) → i < m → get_or to (a + i) 0 ≡ get_or ts i 0)
       → flat_map (over-door (suc b) to l) (range_with_len a m) ≡ arrivals_by_door (arrival_over by) b l (suc a) ts
   unfolding arrivals_by_door
-  doors-in b l [] to a zero h e = refl
-  doors-in b l (x ∷ ts) to a zero h e = absurd (omega arith)
-  doors-in b l [] to a (suc m) h e =
-      ap (λ ys. ys ++ flat_map (over-door (suc b) to l) (range_with_len (a + 1) m)) (no-door b to l a (here ∙ e 0 (omega arith)))
-      ∙ doors-in b l [] to (a + 1) m (omega arith) (λ i g. ap (λ (k : ℕ). get_or to k 0) (there i) ∙ e (suc i) (omega arith))
-    where
-      here : get_or to a 0 ≡ get_or to (a + 0) 0
-      here = ap (λ (k : ℕ). get_or to k 0) (omega arith)
-
-      there : (i : ℕ) → a + 1 + i ≡ a + suc i
-      there i = omega arith
-  doors-in b l (x ∷ ts) to a (suc m) h e =
-      ap₂ (λ (d : ℕ) (j : ℕ). cond (eqb d (suc b)) (arrival_over by l j ∷ []) [] ++ flat_map (over-door (suc b) to l) (range_with_len (a + 1) m)) (here ∙ e 0 (omega arith)) (add-one a)
-      ∙ ap (λ ys. cond (eqb x (suc b)) (arrival_over by l (suc a) ∷ []) [] ++ ys) (doors-in b l ts to (a + 1) m (omega arith) (λ i g. ap (λ (k : ℕ). get_or to k 0) (there i) ∙ e (suc i) (omega arith)) ∙ ap (λ (k : ℕ). arrivals_by_door (arrival_over by) b l (suc k) ts) (add-one a))
-      ∙ put-cond (eqb x (suc b)) (arrival_over by l (suc a)) (arrivals_by_door (arrival_over by) b l (suc (suc a)) ts)
-    where
-      here : get_or to a 0 ≡ get_or to (a + 0) 0
-      here = ap (λ (k : ℕ). get_or to k 0) (omega arith)
-
-      there : (i : ℕ) → a + 1 + i ≡ a + suc i
-      there i = omega arith
+  doors-in b l ts to a m h e =
+      by-doors (over-door (suc b) to l) (arrivals_by_door (arrival_over by) b l) ts a m h (λ j. refl)
+      (λ k i q ge lt. no-door b to l k (ap (λ (k : ℕ). get_or to k 0) (sym q) ∙ e i lt ∙ get_or_past ts i 0 ge))
+      (λ k i rest q lt. rw (← q, e i (omega arith), q, add-one k) (put-cond (eqb (get_or ts i 0) (suc b)) (arrival_over by l (suc k)) (arrivals_by_door (arrival_over by) b l (suc (suc k)) rest)))
 
   -- a record with these targets and this label
   abbrev made : Outs → Down S V → Node S V

@@ -1,24 +1,31 @@
 -- The two passes over records with the arcs of a net leave the net laid out with its labels.
-use Rattle.std.proofs.Common.{◌≡◌, ℕ, zero, suc, ◌+◌, ◌-◌, ◌*◌, ◌<◌, ◌≤◌, Bool, true, false, cond, eqb, List, [], ◌∷◌, ◌++◌, map, length, get_or, take, drop, Some, None, fold, Option, sym, refl, ap, ◌∙◌, subst, ap₂, inl, ⊎_elim, append_assoc, suc-mul, suc-add, zero-add, zero-mul, add-one, arith}
+use Rattle.std.proofs.Common.{◌≡◌, ℕ, zero, suc, ◌+◌, ◌-◌, ◌*◌, ◌<◌, ◌≤◌, Bool, true, false, cond, eqb, List, [], ◌∷◌, ◌++◌, map, length, get_or, take, drop, Some, None, fold, Option, sym, refl, ap, ◌∙◌, subst, ap₂, inl, ⊎_elim, append_assoc, suc-mul, zero-add, zero-mul, add-one, arith}
 use Rattle.std.specs.List.{range_with_len, flat_map}
 use Rattle.std.proofs.lemmas.List.FromFn.{get_or-map-range_with_len, length-map-range_with_len}
-use Rattle.std.proofs.lemmas.List.{same_lists, get_or-map, get_or_past, length-map, drop-drop, drop_at, take_at, length-take-le, length-drop}
+use Rattle.std.proofs.Math.Seq.{take-add}
+use Rattle.std.proofs.lemmas.List.{map-append, same_lists, get_or-map, get_or_past, length-map, drop-drop, drop_at, take_at, length-take-le, length-drop}
 use Rattle.std.proofs.lemmas.Bool.{cases_lt, cond_both, ne_eqb}
 use Rattle.layers.specs.declared.node.Arcs.{Arcs}
 use Rattle.layers.specs.declared.node.Node.{Node}
 use Rattle.layers.specs.declared.node.Down.{Down}
 use Rattle.layers.specs.declared.node.Up.{Up}
 use Rattle.layers.specs.Net.{table, Outs, Layer, Net, node, target, width}
-use Rattle.layers.specs.Flow.{arrivals_at, gather, next, cons_if_some, climbs_of, up}
+use Rattle.layers.specs.Flow.{arrivals_at, gather, next, read, cons_if_some, climbs_of, up}
 use Rattle.layers.specs.Lawful.{IsRanged, IsTied, IsRoomy, IsEven, IsLawful}
-use Rattle.layers.specs.Labels.{arrival_over, merge, first_label, first_labels, labels_next, climb, merge_up, no_up, ups, blank_label}
+use Rattle.layers.specs.Labels.{arrival_over, merge, first_label, first_labels, labels_next, climb, merge_up, no_up, ups}
 use Rattle.layers.specs.Records.{is_used, nodes_in, arcs_read, laid_arcs, arcs_at, padded_targets, record_of_place, labelled_from, labelled_records}
 use Rattle.layers.proofs.Flows.{table_at, Among, ins-from}
 use Rattle.layers.proofs.Bridge.{table-long, labels_full, ups-full}
 use Rattle.layers.specs.Calls.{records_with}
+<<<<<<< HEAD
 use Rattle.labels.specs.Passes.{with_down, with_up, blank_node, by_door, from_node, arrivals, gathered, labelled, next_layer, labelled_after, numbered, up_by, ups_of, gathered_up, risen, risen_from, cleared, first_layer, bare, pass_down, pass_up, relabelled}
+=======
+use Rattle.layers.proofs.Proper.{RangedAll, tied-ranged}
+use Rattle.layers.proofs.Lively.{labels_full, ups-full}
+use Rattle.labels.specs.Passes.{with_up, blank_node, by_door, from_node, arrivals, gathered, labelled, next_layer, labelled_after, numbered, up_by, ups_of, gathered_up, risen, risen_from, cleared, first_layer, bare, pass_down, pass_up, relabelled}
+>>>>>>> f2df8e0bdc3380190045f7fb0393940bdb3e42f6
 use Rattle.std.proofs.lemmas.Nat.{pow_pos}
-use Rattle.labels.proofs.Folds.{folded_keeps}
+use Rattle.labels.proofs.Folds.{by-doors, folded_keeps}
 use Rattle.labels.proofs.Scattered.{or_some}
 use Rattle.labels.proofs.Inward.{Standing, Narrow, arrivals-in, gathered-is}
 use Rattle.labels.proofs.Earlies.{first-long}
@@ -28,6 +35,19 @@ use Rattle.layers.specs.Settings.{Setting}
 -- ---- lists
 pub table-list : {X : Type 0} (m : ℕ) (f : ℕ → X) (xs : List X) → length xs ≡ m → ((k : ℕ) (d : X) → k < m → get_or xs k d ≡ f k) → xs ≡ table m f
 table-list m f xs e h = same_lists xs (table m f) (e ∙ sym (table-long m f)) (λ k d lt. h k d (omega arith) ∙ sym (table_at m k f d (omega arith)))
+
+-- f of each is what g gives at its place
+pub mapped-long : {X Y : Type 0} (f : X → Y) (g : ℕ → Y) (w : ℕ) (us : List X) → map f us ≡ table w g → length us ≡ w
+mapped-long f g w us e = sym (length-map us f) ∙ ap length e ∙ table-long w g
+
+pub mapped-at : {X Y : Type 0} (f : X → Y) (g : ℕ → Y) (w : ℕ) (us : List X) (a : ℕ) (d : X) → map f us ≡ table w g → a < w → f (get_or us a d) ≡ g a
+mapped-at f g w us a d e lt = sym (get_or-map f us a d (g a) (omega (arith, mapped-long f g w us e))) ∙ ap (λ xs. get_or xs a (g a)) e ∙ table_at w a g (g a) lt
+
+pub mapped-is : {X Y : Type 0} (f : X → Y) (g : ℕ → Y) (w : ℕ) (us : List X) → length us ≡ w → ((a : ℕ) (d : X) → a < w → f (get_or us a d) ≡ g a) → map f us ≡ table w g
+mapped-is f g zero [] e h = refl
+mapped-is f g zero (u ∷ us) e h = absurd (omega arith)
+mapped-is f g (suc w) [] e h = absurd (omega arith)
+mapped-is f g (suc w) (u ∷ us) e h = ap₂ (λ y ys. y ∷ ys) (h 0 u (omega arith)) (mapped-is f (λ k. g (suc k)) w us (omega arith) (λ a d lt. h (suc a) d (omega arith)))
 
 -- ---- arcs alone
 abbrev pub arcs_of : {S V : Type 0} → Node S V → Arcs
@@ -46,20 +66,14 @@ Good w (L ∷ Ls) = ((a : ℕ) → length (node L a) ≤ 16) × (length L ≤ w)
 pub few : (n : ℕ) (L : Layer) → n ≤ 16 → ((a : ℕ) → a < length L → length (node L a) ≡ n) → (a : ℕ) → length (node L a) ≤ 16
 few n L h e a = ⊎_elim (λ lt. omega (arith, e a lt)) (λ ge. let z = ap length (get_or_past L a [] ge) in omega arith) (cases_lt a (length L))
 
-pub good : (n w : ℕ) (Ls : Net) → n ≤ 16 → IsEven n Ls → IsRoomy w Ls → IsTied Ls → Good w Ls
-good n w [] h even room t = tt
-good n w (L ∷ []) h even room t = (few n L h even.0, room.0, t, tt)
-good n w (L ∷ M ∷ Ls) h even room t = (few n L h even.0, room.0, t.0, good n w (M ∷ Ls) h even.1 room.1 t.3)
+-- few doors, few nodes, and no arc out of the next layer
+pub good-net : (n w : ℕ) (Ls : Net) → n ≤ 16 → IsEven n Ls → IsRoomy w Ls → RangedAll Ls → Good w Ls
+good-net n w [] h even room t = tt
+good-net n w (L ∷ Ls) h even room t = (few n L h even.0, room.0, t.0, good-net n w Ls h even.1 room.1 t.1)
 
 -- ---- the flat list of arcs
 pub split : {X Y : Type 0} (f : X → Y) (w m : ℕ) (xs : List X) → map f (take (w + m) xs) ≡ map f (take w xs) ++ map f (take m (drop w xs))
-split f zero m xs = ap (λ (k : ℕ). map f (take k xs)) (zero-add m)
-split f (suc w) m [] = ap (λ (k : ℕ). map f (take k [])) (suc-add w m) ∙ sym (none m)
-  where
-    none : (m : ℕ) → map f (take m []) ≡ []
-    none zero = refl
-    none (suc m) = refl
-split f (suc w) m (x ∷ xs) = ap (λ (k : ℕ). map f (take k (x ∷ xs))) (suc-add w m) ∙ ap (λ ys. f x ∷ ys) (split f w m xs)
+split f w m xs = ap (map f) (take-add w m xs) ∙ map-append f (take w xs) (take m (drop w xs))
 
 pub arranged-of : {S V : Type 0} (w : ℕ) (Ls : Net) (xs : List (Node S V)) → length Ls * w + 1 ≤ length xs → arcs_read (take (length Ls * w + 1) xs) ≡ laid_arcs w Ls → Arranged w Ls xs
 arranged-of w [] xs h e = let one : 1 ≡ 0 * w + 1 = omega (arith, zero-mul w) in ap (λ (k : ℕ). map arcs_of (take k xs)) one ∙ e
@@ -109,18 +123,12 @@ module _ {S V : Type 0} (by : Setting S V) where
   next-label : (b m : ℕ) (labs : List (Option (Down S V))) (L : Layer) → IsRanged L m
       → or_blank by.rule by.tally (gather (merge by.rule by.tally) (arrivals_at (arrival_over by) b labs L)) ≡ or_blank by.rule by.tally (get_or (labels_next by labs L m) b None)
   unfolding labels_next next gather
-  next-label b m labs L g = ⊎_elim inside beyond (cases_lt b m)
-    where
-      f : ℕ → Option (Down S V)
-      f b = gather (merge by.rule by.tally) (arrivals_at (arrival_over by) b labs L)
-
-      inside : b < m → or_blank by.rule by.tally (gather (merge by.rule by.tally) (arrivals_at (arrival_over by) b labs L)) ≡ or_blank by.rule by.tally (get_or (table m (λ b. gather (merge by.rule by.tally) (arrivals_at (arrival_over by) b labs L))) b None)
-      inside h = ap (or_blank by.rule by.tally) (sym (table_at m b (λ b. gather (merge by.rule by.tally) (arrivals_at (arrival_over by) b labs L)) None h))
-
-      beyond : m ≤ b → or_blank by.rule by.tally (gather (merge by.rule by.tally) (arrivals_at (arrival_over by) b labs L)) ≡ or_blank by.rule by.tally (get_or (table m (λ b. gather (merge by.rule by.tally) (arrivals_at (arrival_over by) b labs L))) b None)
-      beyond h =
-          ap (λ xs. or_blank by.rule by.tally (gather (merge by.rule by.tally) xs)) (in-nothing b m labs L g h)
-          ∙ ap (or_blank by.rule by.tally) (sym (get_or_past (table m (λ b. gather (merge by.rule by.tally) (arrivals_at (arrival_over by) b labs L))) b None (omega (arith, table-long m (λ b. gather (merge by.rule by.tally) (arrivals_at (arrival_over by) b labs L))))))
+  next-label b m labs L g =
+      let f : ℕ → Option (Down S V) = λ b. gather (merge by.rule by.tally) (arrivals_at (arrival_over by) b labs L) in
+      ⊎_elim
+      (λ h. ap (or_blank by.rule by.tally) (sym (table_at m b f None h)))
+      (λ h. ap (λ xs. or_blank by.rule by.tally (gather (merge by.rule by.tally) xs)) (in-nothing b m labs L g h) ∙ ap (or_blank by.rule by.tally) (sym (get_or_past (table m f) b None (omega (arith, table-long m f)))))
+      (cases_lt b m)
 
   -- the m records after the layer us
   next-block : (w m cnt : ℕ) (labs : List (Option (Down S V))) (L M : Layer) (us vs : List (Node S V)) → Standing by labs L → Narrow by L → length L ≤ w → IsRanged L cnt
@@ -128,31 +136,20 @@ module _ {S V : Type 0} (by : Setting S V) where
       → map bare (next_layer by us vs) ≡ table m (record_of_place by M (labels_next by labs L cnt) [])
   unfolding next_layer labelled
   next-block w m cnt labs L M us vs g n fits ranged eu ev =
-      table-list m (record_of_place by M (labels_next by labs L cnt) []) (map bare (map f (range_with_len 0 (length vs)))) (long ∙ many) at_each
+      let f = labelled by us vs in
+      let count = length vs in
+      let z = blank_node by.rule by.tally in
+      let many : count ≡ m = mapped-long arcs_of (arcs_at M) m vs ev in
+      mapped-is bare (record_of_place by M (labels_next by labs L cnt) []) m (map f (range_with_len 0 count)) (length-map-range_with_len f 0 count ∙ many)
+      (λ b d h.
+      ap bare (get_or-map-range_with_len f 0 count b b d (omega (arith, many)) (omega arith))
+      ∙ ap₂ (λ (a : Arcs) (l : Down S V). record { arcs = a; label = record { down = l; up = no_up } }) (mapped-at arcs_of (arcs_at M) m vs b z ev h) (label_same b))
     where
-      f : ℕ → Node S V
-      f b = with_down (get_or vs b (blank_node by.rule by.tally)) (gathered by.rule by.tally (arrivals by (b + 1) (nodes_in us)))
-
-      long : length (map bare (map f (range_with_len 0 (length vs)))) ≡ length vs
-      long = length-map (map f (range_with_len 0 (length vs))) bare ∙ length-map-range_with_len f 0 (length vs)
-
-      many : length vs ≡ m
-      many = sym (length-map vs arcs_of) ∙ ap length ev ∙ table-long m (arcs_at M)
-
-      arcs-same : (b : ℕ) → b < m → (get_or vs b (blank_node by.rule by.tally)).arcs ≡ arcs_at M b
-      arcs-same b h = sym (get_or-map arcs_of vs b (blank_node by.rule by.tally) (arcs_at M b) (omega (arith, many))) ∙ ap (λ xs. get_or xs b (arcs_at M b)) ev ∙ table_at m b (arcs_at M) (arcs_at M b) h
-
       label_same : (b : ℕ) → gathered by.rule by.tally (arrivals by (b + 1) (nodes_in us)) ≡ or_blank by.rule by.tally (get_or (labels_next by labs L cnt) b None)
       label_same b =
           ap (λ (t : ℕ). gathered by.rule by.tally (arrivals by t (nodes_in us))) (add-one b)
           ∙ ap (gathered by.rule by.tally) (sym (bare-from (suc b) us) ∙ ap (λ xs. flat_map (from_node by (suc b)) (nodes_in xs)) eu ∙ arrivals-in by b w labs L g n fits)
           ∙ gathered-is by (arrivals_at (arrival_over by) b labs L) ∙ next-label b cnt labs L ranged
-
-      at_each : (b : ℕ) (d : Node S V) → b < m → get_or (map bare (map f (range_with_len 0 (length vs)))) b d ≡ record_of_place by M (labels_next by labs L cnt) [] b
-      at_each b d h =
-          get_or-map bare (map f (range_with_len 0 (length vs))) b d d (omega (arith, many, length-map-range_with_len f 0 (length vs)))
-          ∙ ap bare (get_or-map-range_with_len f 0 (length vs) b b d (omega (arith, many)) (omega arith))
-          ∙ ap₂ (λ (a : Arcs) (l : Down S V). record { arcs = a; label = record { down = l; up = no_up } }) (arcs-same b h) (label_same b)
 
   some-last : (b : ℕ) (labs : List (Option (Down S V))) (L : Layer) (l : Down S V) → gather (merge by.rule by.tally) (arrivals_at (arrival_over by) b labs L) ≡ Some l → 0 < l.lasts
   unfolding gather merge arrival_over
@@ -179,9 +176,6 @@ module _ {S V : Type 0} (by : Setting S V) where
   Half labs [] ys = map bare (take 1 ys) ≡ table 1 (record_of_place by [] labs [])
   Half labs (L ∷ Ls) ys = (map bare (take by.width ys) ≡ table by.width (record_of_place by L labs [])) × Half (labels_next by labs L (width Ls)) Ls (drop by.width ys)
 
-  half-long : (w : ℕ) (f : ℕ → Node S V) (us : List (Node S V)) → map bare us ≡ table w f → length us ≡ w
-  half-long w f us e = sym (length-map us bare) ∙ ap length e ∙ table-long w f
-
   down-laid : (k : ℕ) (labs : List (Option (Down S V))) (L : Layer) (Ls : Net) (xs : List (Node S V)) → length Ls ≡ k → Good by.width (L ∷ Ls) → IsTied (L ∷ Ls) → Standing by labs L
       → map bare (take by.width xs) ≡ table by.width (record_of_place by L labs []) → Arranged by.width Ls (drop by.width xs)
       → Half labs (L ∷ Ls) (labelled_after by k xs) × (past by.width (suc k) (labelled_after by k xs) ≡ past by.width (suc k) xs)
@@ -191,8 +185,8 @@ module _ {S V : Type 0} (by : Setting S V) where
       let N = next_layer by us (take 1 (drop by.width xs)) in
       let D = drop 1 (drop by.width xs) in
       let nb = next-block by.width 1 1 labs L [] us (take 1 (drop by.width xs)) last good.0 good.1 good.2 here arr in
-      let us-long = half-long by.width (record_of_place by L labs []) us here in
-      let n-long = half-long 1 (record_of_place by [] (labels_next by labs L 1) []) N nb in
+      let us-long = mapped-long bare (record_of_place by L labs []) by.width us here in
+      let n-long = mapped-long bare (record_of_place by [] (labels_next by labs L 1) []) 1 N nb in
       rw (take_at us (N ++ D) by.width us-long, drop_at us (N ++ D) by.width us-long, take_at N D 1 n-long, drop_at N D 1 n-long) ((here, nb), refl)
   down-laid zero labs L (M ∷ Ls) xs k good tied last here arr = absurd (omega arith)
   down-laid (suc k) labs L [] xs e good tied last here arr = absurd (omega arith)
@@ -202,8 +196,8 @@ module _ {S V : Type 0} (by : Setting S V) where
       let N = next_layer by us (take by.width (drop by.width xs)) in
       let D = drop by.width (drop by.width xs) in
       let nb = next-block by.width by.width (length M) labs L M us (take by.width (drop by.width xs)) last good.0 good.1 good.2 here arr.0 in
-      let us-long = half-long by.width (record_of_place by L labs []) us here in
-      let n-long = half-long by.width (record_of_place by M labs' []) N nb in
+      let us-long = mapped-long bare (record_of_place by L labs []) by.width us here in
+      let n-long = mapped-long bare (record_of_place by M labs' []) by.width N nb in
       let Z = labelled_after by k (N ++ D) in
       let ih = down-laid k labs' M Ls (N ++ D) (omega arith) good.3 tied.3 (standing-next labs L M Ls good.3.1 tied last) (rw (take_at N D by.width n-long) nb) (rw (drop_at N D by.width n-long) arr.1) in
       rw (take_at us Z by.width us-long, drop_at us Z by.width us-long) ((here, ih.0), ih.1 ∙ ap (past by.width k) (drop_at N D by.width n-long))
@@ -226,17 +220,11 @@ module _ {S V : Type 0} where
 
   -- the record with the number suc b has the upward sets that the net gives it
   abbrev Linked : List (Option Up) → List (Node S V) → ℕ → Type 0
-  Linked us vs b = (x : Up) × (get_or us b None ≡ Some x) × (numbered (suc b) vs ≡ [] → ⊥) × ((v : Node S V) (rest : List (Node S V)) → numbered (suc b) vs ≡ v ∷ rest → (rest ≡ []) × (v.label.up ≡ x))
+  Linked us vs b = (v : Node S V) × (numbered (suc b) vs ≡ v ∷ []) × (get_or us b None ≡ Some v.label.up)
 
-  climb-link : (us : List (Option Up)) (vs : List (Node S V)) (b j : ℕ) (rest : List Up) → Linked us vs b → map (λ v. climb v.label.up j) (numbered (suc b) vs) ++ rest ≡ cons_if_some climb j (get_or us b None) rest
-  climb-link us vs b j rest (x, e, some, one) = go (numbered (suc b) vs) refl
-    where
-      go : (ns : List (Node S V)) → numbered (suc b) vs ≡ ns → map (λ v. climb v.label.up j) (numbered (suc b) vs) ++ rest ≡ cons_if_some climb j (get_or us b None) rest
-      go [] n = absurd (some n)
-      go (v ∷ more) n =
-          let q = one v more n in
-          ap (λ ns. map (λ v. climb v.label.up j) ns ++ rest) n ∙ ap (λ ys. climb v.label.up j ∷ (map (λ v. climb v.label.up j) ys ++ rest)) q.0
-          ∙ ap (λ (u : Up). climb u j ∷ rest) q.1 ∙ ap (λ o. cons_if_some climb j o rest) (sym e)
+  climb-at : (us : List (Option Up)) (vs : List (Node S V)) (t j : ℕ) (rest : List Up) → ((b : ℕ) → t ≡ suc b → Linked us vs b) → map (λ v. climb v.label.up j) (numbered t vs) ++ rest ≡ cons_if_some climb j (read us t) rest
+  climb-at us vs zero j rest g = refl
+  climb-at us vs (suc b) j rest g = let v = g b refl in rw v.2 (ap (λ ns. map (λ (v : Node S V). climb v.label.up j) ns ++ rest) v.1)
 
   climb-none : (vs : List (Node S V)) (to : List ℕ) (k : ℕ) → get_or to k 0 ≡ 0 → climbing vs to k ≡ []
   climb-none vs to k e = ap (λ (t : ℕ). map (λ v. climb v.label.up (k + 1)) (numbered t vs)) e
@@ -244,24 +232,10 @@ module _ {S V : Type 0} where
   doors-up : (us : List (Option Up)) (vs : List (Node S V)) (ts to : List ℕ) (a m : ℕ) → length ts ≤ m → ((i : ℕ) → i < m → get_or to (a + i) 0 ≡ get_or ts i 0) → ((i b : ℕ) → get_or ts i 0 ≡ suc b → Linked us vs b)
       → flat_map (climbing vs to) (range_with_len a m) ≡ climbs_of climb us (suc a) ts
   unfolding climbs_of
-  doors-up us vs [] to a zero h e g = refl
-  doors-up us vs (x ∷ ts) to a zero h e g = absurd (omega arith)
-  doors-up us vs [] to a (suc m) h e g =
-      let here : get_or to a 0 ≡ 0 = ap (λ (k : ℕ). get_or to k 0) (omega arith) ∙ e 0 (omega arith) in
-      ap (λ ys. ys ++ flat_map (climbing vs to) (range_with_len (a + 1) m)) (climb-none vs to a here)
-      ∙ doors-up us vs [] to (a + 1) m (omega arith) (λ i lt. ap (λ (k : ℕ). get_or to k 0) (omega arith) ∙ e (suc i) (omega arith)) (λ i b q. absurd (omega arith))
-  doors-up us vs (zero ∷ ts) to a (suc m) h e g =
-      let here : get_or to a 0 ≡ 0 = ap (λ (k : ℕ). get_or to k 0) (omega arith) ∙ e 0 (omega arith) in
-      ap (λ ys. ys ++ flat_map (climbing vs to) (range_with_len (a + 1) m)) (climb-none vs to a here)
-      ∙ doors-up us vs ts to (a + 1) m (omega arith) (λ i lt. ap (λ (k : ℕ). get_or to k 0) (omega arith) ∙ e (suc i) (omega arith)) (λ i b q. g (suc i) b q)
-      ∙ ap (λ (k : ℕ). climbs_of climb us (suc k) ts) (add-one a)
-  doors-up us vs (suc b ∷ ts) to a (suc m) h e g =
-      let here : get_or to a 0 ≡ suc b = ap (λ (k : ℕ). get_or to k 0) (omega arith) ∙ e 0 (omega arith) in
-      ap (λ (t : ℕ). map (λ v. climb v.label.up (a + 1)) (numbered t vs) ++ flat_map (climbing vs to) (range_with_len (a + 1) m)) here
-      ∙ ap (λ ys. map (λ v. climb v.label.up (a + 1)) (numbered (suc b) vs) ++ ys)
-      (doors-up us vs ts to (a + 1) m (omega arith) (λ i lt. ap (λ (k : ℕ). get_or to k 0) (omega arith) ∙ e (suc i) (omega arith)) (λ i b q. g (suc i) b q) ∙ ap (λ (k : ℕ). climbs_of climb us (suc k) ts) (add-one a))
-      ∙ climb-link us vs b (a + 1) (climbs_of climb us (suc (suc a)) ts) (g 0 b refl)
-      ∙ ap (λ (j : ℕ). cons_if_some climb j (get_or us b None) (climbs_of climb us (suc (suc a)) ts)) (add-one a)
+  doors-up us vs ts to a m h e g =
+      by-doors (climbing vs to) (climbs_of climb us) ts a m h (λ j. refl)
+      (λ k i q ge lt. climb-none vs to k (ap (λ (k : ℕ). get_or to k 0) (sym q) ∙ e i lt ∙ get_or_past ts i 0 ge))
+      (λ k i rest q lt. rw (← q, e i (omega arith), q, add-one k) (climb-at us vs (get_or ts i 0) (suc k) (climbs_of climb us (suc (suc k)) rest) (λ b r. g i b r)))
 
 numbered-at : {X : Type 0} (b : ℕ) (vs : List X) (d : X) → b < length vs → numbered (suc b) vs ≡ get_or vs b d ∷ []
 numbered-at b vs d h =
@@ -270,13 +244,7 @@ numbered-at b vs d h =
     ∙ ap (λ (k : ℕ). take 1 (drop k vs)) less ∙ first_of b vs d h
 
 linked : {S V : Type 0} (us : List (Option Up)) (vs : List (Node S V)) (b : ℕ) (d : Node S V) (x : Up) → b < length vs → get_or us b None ≡ Some x → (get_or vs b d).label.up ≡ x → Linked us vs b
-linked us vs b d x h e q =
-    let n = numbered-at b vs d h in (
-      x,
-      e,
-      (λ z. let c : ◌≡◌ {A = ℕ} 0 1 = cc in omega arith),
-      (λ v rest m. let v-is : get_or vs b d ≡ v = cc in let r-is : [] ≡ rest = cc in (sym r-is, subst (λ (y : Node _ _). y.label.up ≡ x) v-is q)),
-    )
+linked us vs b d x h e q = (get_or vs b d, numbered-at b vs d h, e ∙ ap Some (sym q))
 
 module _ {S V : Type 0} (by : Setting S V) where
   node-ups : (L : Layer) (Ls : Net) (labs : List (Option (Down S V))) (vs : List (Node S V)) (a : ℕ) → Standing by labs L → length (node L a) ≤ 16 → ((j b : ℕ) → target (node L a) j ≡ suc b → Linked (ups Ls) vs b)
@@ -301,15 +269,9 @@ module _ {S V : Type 0} (by : Setting S V) where
       → ((a : ℕ) → gathered_up (ups_of vs (record_of_place by L labs [] a)) ≡ or_no_up (get_or U a None)) → map (risen vs) us ≡ table by.width (record_of_place by L labs U)
   unfolding risen ups_of up_by
   risen-block L labs U us vs e g =
-      let many : length us ≡ by.width = half-long by by.width (record_of_place by L labs []) us e in
-      table-list by.width (record_of_place by L labs U) (map (risen vs) us) (length-map us (risen vs) ∙ many)
-      (λ a d h.
-      let z = get_or us a d in
-      let is : bare z ≡ record_of_place by L labs [] a =
-      sym (get_or-map bare us a d (record_of_place by L labs [] a) (omega (arith, many))) ∙ ap (λ xs. get_or xs a (record_of_place by L labs [] a)) e ∙ table_at by.width a (record_of_place by L labs []) (record_of_place by L labs [] a) h in
-      get_or-map (risen vs) us a d d (omega (arith, many))
-      ∙ ap (λ (y : Node S V). with_up y (gathered_up (ups_of vs y))) is
-      ∙ ap (with_up (record_of_place by L labs [] a)) (g a))
+      let R = record_of_place by L labs [] in
+      mapped-is (risen vs) (record_of_place by L labs U) by.width us (mapped-long bare R by.width us e)
+      (λ a d h. ap (λ (y : Node S V). with_up y (gathered_up (ups_of vs y))) (mapped-at bare R by.width us a d e h) ∙ ap (with_up (R a)) (g a))
 
   up-laid : (k : ℕ) (labs : List (Option (Down S V))) (L : Layer) (Ls : Net) (ys : List (Node S V)) → length Ls ≡ k → Good by.width (L ∷ Ls) → IsTied (L ∷ Ls) → Standing by labs L → Half by labs (L ∷ Ls) ys
       → risen_from by.width k ys ≡ labelled_from by labs (L ∷ Ls) ++ past by.width (suc k) ys
@@ -345,22 +307,16 @@ module _ {S V : Type 0} (by : Setting S V) where
   -- ---- both passes
   first_block : (L : Layer) (us : List (Node S V)) → map arcs_of us ≡ table by.width (arcs_at L) → map bare (first_layer by.rule by.tally us) ≡ table by.width (record_of_place by L (first_labels by.rule by.tally) [])
   first_block L us e =
-      let many : length us ≡ by.width = sym (length-map us arcs_of) ∙ ap length e ∙ table-long by.width (arcs_at L) in
-      table-list by.width (record_of_place by L (first_labels by.rule by.tally) []) (map bare (first_layer by.rule by.tally us)) (length-map (first_layer by.rule by.tally us) bare ∙ first-long by.rule by.tally us ∙ many)
+      let R = record_of_place by L (first_labels by.rule by.tally) [] in
+      mapped-is bare R by.width (first_layer by.rule by.tally us) (first-long by.rule by.tally us ∙ mapped-long arcs_of (arcs_at L) by.width us e)
       (λ a d h.
-      let arcs : (get_or us a (blank_node by.rule by.tally)).arcs ≡ arcs_at L a =
-      sym (get_or-map arcs_of us a (blank_node by.rule by.tally) (arcs_at L a) (omega (arith, many))) ∙ ap (λ xs. get_or xs a (arcs_at L a)) e ∙ table_at by.width a (arcs_at L) (arcs_at L a) h in
-      at_first us a d (omega (arith, many)) ∙ ap (λ (x : Arcs). record { arcs = x; label = record { down = or_blank by.rule by.tally (get_or (first_labels by.rule by.tally) a None); up = no_up } }) arcs)
+      at_first us a d (omega (arith, mapped-long arcs_of (arcs_at L) by.width us e))
+      ∙ ap (λ (x : Arcs). record { arcs = x; label = record { down = or_blank by.rule by.tally (get_or (first_labels by.rule by.tally) a None); up = no_up } }) (mapped-at arcs_of (arcs_at L) by.width us a d e h))
     where
-      at_rest : (us : List (Node S V)) (a : ℕ) (d : Node S V) → a < length us → get_or (map bare (map (cleared by.rule by.tally) us)) a d ≡ record { arcs = (get_or us a (blank_node by.rule by.tally)).arcs; label = record { down = blank_label by.rule by.tally; up = no_up } }
-      at_rest [] a d h = absurd (omega arith)
-      at_rest (u ∷ us) zero d h = refl
-      at_rest (u ∷ us) (suc a) d h = at_rest us a d (omega arith)
-
-      at_first : (us : List (Node S V)) (a : ℕ) (d : Node S V) → a < length us → get_or (map bare (first_layer by.rule by.tally us)) a d ≡ record { arcs = (get_or us a (blank_node by.rule by.tally)).arcs; label = record { down = or_blank by.rule by.tally (get_or (first_labels by.rule by.tally) a None); up = no_up } }
+      at_first : (us : List (Node S V)) (a : ℕ) (d : Node S V) → a < length us → bare (get_or (first_layer by.rule by.tally us) a d) ≡ record { arcs = (get_or us a d).arcs; label = record { down = or_blank by.rule by.tally (get_or (first_labels by.rule by.tally) a None); up = no_up } }
       at_first [] a d h = absurd (omega arith)
       at_first (u ∷ us) zero d h = refl
-      at_first (u ∷ us) (suc a) d h = at_rest us a d (omega arith)
+      at_first (u ∷ us) (suc a) d h = ap bare (get_or-map (cleared by.rule by.tally) us a d d (omega arith))
 
   standing-first : (L : Layer) → length L ≡ 1 → Standing by (first_labels by.rule by.tally) L
   standing-first L e zero lt = (first_label by.rule by.tally, refl, refl)
@@ -373,7 +329,7 @@ module _ {S V : Type 0} (by : Setting S V) where
       let us = take by.width xs in
       let F = first_layer by.rule by.tally us in
       let D = drop by.width xs in
-      let long : length F ≡ by.width = first-long by.rule by.tally us ∙ sym (length-map us arcs_of) ∙ ap length arr.0 ∙ table-long by.width (arcs_at L) in
+      let long : length F ≡ by.width = first-long by.rule by.tally us ∙ mapped-long arcs_of (arcs_at L) by.width us arr.0 in
       let d = down-laid by k (first_labels by.rule by.tally) L Ls (F ++ D) el good tied (standing-first L first) (rw (take_at F D by.width long) (first_block L us arr.0)) (rw (drop_at F D by.width long) arr.1) in
       let p : by.round.n - 1 ≡ k = omega arith in
       rw p
@@ -386,7 +342,7 @@ module _ {S V : Type 0} (by : Setting S V) where
   relabelled-lawful [] xs p arr = let none : 0 ≡ by.round.n = p.deep in absurd (omega (arith, by.round.one))
   relabelled-lawful (L ∷ Ls) xs p arr =
       let deep : suc (length Ls) ≡ by.round.n = p.deep in
-      relabelled-laid (length Ls) L Ls xs (sym deep) refl p.one_first (good by.round.n by.width (L ∷ Ls) by.round.most p.even p.roomy p.tied) p.tied arr
+      relabelled-laid (length Ls) L Ls xs (sym deep) refl p.one_first (good-net by.round.n by.width (L ∷ Ls) by.round.most p.even p.roomy (tied-ranged (L ∷ Ls) p.tied)) p.tied arr
 
   -- the same, of the flat list of arcs
   pub relabelled-read : (Ls : Net) (xs : List (Node S V)) → IsLawful by.round.n by.width Ls → by.round.n * by.width + 1 ≤ length xs → arcs_read (take (by.round.n * by.width + 1) xs) ≡ laid_arcs by.width Ls → relabelled by xs ≡ records_with by xs Ls

@@ -6,7 +6,7 @@ use Rattle.round.specs.Clock.{drive}
 use Rattle.doors.specs.Sets.{has}
 use Rattle.layers.specs.Labels.{nearest, leg_step, leg}
 use Rattle.labels.specs.Passes.{nearest_of}
-use Rattle.labels.proofs.Folds.{folded_keeps, folded-counting}
+use Rattle.labels.proofs.Folds.{folded_keeps, folded_counting}
 
 picked-most : (t : Bool) (o : Option ℕ) (d : ℕ) → d ≤ 999 → unwrap_or o 0 ≤ 999 → unwrap_or (cond t (nearest o d) o) 0 ≤ 999
 picked-most true None d h p = h
@@ -32,12 +32,12 @@ far-step (Some a) false d h p = omega arith
 pub nearest_with : (r : Round) (m j i : ℕ) → has m i ≡ true → unwrap_or (nearest_of r m j (i + 1)) 1000 ≡ min (unwrap_or (nearest_of r m j i) 1000) (cond (eqb i j) 1000 (drive r i j))
 unfolding leg_step
 nearest_with r m j i h =
-    ap (λ o. unwrap_or o 1000) (folded-counting (leg_step r m j) None i)
+    ap (λ o. unwrap_or o 1000) (folded_counting (leg_step r m j) None i)
     ∙ rw h (far-step (nearest_of r m j i) (eqb i j) (drive r i j) (r.legs i j) (nearest-most r m j i))
 
 pub nearest_without : (r : Round) (m j i : ℕ) → has m i ≡ false → nearest_of r m j (i + 1) ≡ nearest_of r m j i
 unfolding leg_step
-nearest_without r m j i h = folded-counting (leg_step r m j) None i ∙ rw h
+nearest_without r m j i h = folded_counting (leg_step r m j) None i ∙ rw h
 
 far-none : (o : Option ℕ) → unwrap_or o 0 ≤ 999 → unwrap_or o 1000 ≡ 1000 → unwrap_or o 0 ≡ 0
 far-none None h e = omega arith

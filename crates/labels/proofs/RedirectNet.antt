@@ -7,8 +7,7 @@ use Rattle.layers.specs.declared.node.Node.{Node}
 use Rattle.layers.specs.Net.{table, Outs, Layer, node, target, each_door, each_node, redirect}
 use Rattle.layers.specs.Records.{padded_targets, arcs_at}
 use Rattle.layers.proofs.Flows.{table_at, has-arc}
-use Rattle.layers.proofs.Bridge.{table-long}
-use Rattle.labels.proofs.Laying.{arcs_of}
+use Rattle.labels.proofs.Laying.{arcs_of, mapped-long, mapped-at, mapped-is}
 pub use Rattle.labels.proofs.Laying.{table-list}
 use Rattle.layers.proofs.Tied.{each_door-length}
 use Rattle.layers.specs.Targets.{targets, redirected, at_door}
@@ -53,12 +52,10 @@ redirect-node f L a = each_node-at f 0 L a a (zero-add a)
 -- ---- records
 module _ {S V : Type 0} where
   pub arranged-long : (w : ℕ) (L : Layer) (us : List (Node S V)) → map arcs_of us ≡ table w (arcs_at L) → length us ≡ w
-  arranged-long w L us e = sym (length-map us arcs_of) ∙ ap length e ∙ table-long w (arcs_at L)
+  arranged-long w L us e = mapped-long arcs_of (arcs_at L) w us e
 
   pub arcs-arranged : (w : ℕ) (L : Layer) (us : List (Node S V)) (a : ℕ) (d : Node S V) → map arcs_of us ≡ table w (arcs_at L) → a < w → (get_or us a d).arcs ≡ arcs_at L a
-  arcs-arranged w L us a d e lt =
-      sym (get_or-map arcs_of us a d (arcs_at L a) (omega (arith, arranged-long w L us e)))
-      ∙ ap (λ xs. get_or xs a (arcs_at L a)) e ∙ table_at w a (arcs_at L) (arcs_at L a) lt
+  arcs-arranged w L us a d e lt = mapped-at arcs_of (arcs_at L) w us a d e lt
 
   pub targets-is : (x : Node S V) (nd : Outs) → x.arcs.to ≡ padded_targets nd → targets x ≡ padded_targets nd
   unfolding targets
@@ -76,28 +73,14 @@ module _ {S V : Type 0} where
   pub redirect-arranged : (w : ℕ) (L : Layer) (us : List (Node S V)) (F : Node S V → ℕ → ℕ → ℕ) (f : ℕ → ℕ → ℕ → ℕ) → length L ≤ w → map arcs_of us ≡ table w (arcs_at L)
       → ((d : Node S V) (a j b : ℕ) → a < length L → target (node L a) j ≡ suc b → F (get_or us a d) j b ≡ f a j b)
       → map arcs_of (map (λ u. redirected (F u) u) us) ≡ table w (arcs_at (redirect f L))
-  redirect-arranged w L [] F f le e s =
-      let none : w ≡ 0 = sym (arranged-long w L [] e) in
-      sym (ap (λ (k : ℕ). table k (arcs_at (redirect f L))) none)
-  redirect-arranged w L (u ∷ us) F f le e s = table-list w (arcs_at (redirect f L)) (map arcs_of (map r xs)) (length-map (map r xs) arcs_of ∙ length-map xs r ∙ many) (λ k d lt.
-      get_or-map arcs_of (map r xs) k u d (omega (arith, many, length-map xs r))
-      ∙ ap (λ (x : Node S V). x.arcs) (get_or-map r xs k u u (omega (arith, many)))
-      ∙ at k lt)
-    where
-      xs : List (Node S V)
-      xs = u ∷ us
-
-      many : length xs ≡ w
-      many = arranged-long w L xs e
-
-      r : Node S V → Node S V
-      r x = redirected (F x) x
-
-      agree : (k j b : ℕ) → target (node L k) j ≡ suc b → F (get_or xs k u) j b ≡ f k j b
-      agree k j b t = s u k j b (has-arc L k j b t) t
-
-      at : (k : ℕ) → k < w → (r (get_or xs k u)).arcs ≡ arcs_at (redirect f L) k
-      at k lt = redirected-arcs (F (get_or xs k u)) (get_or xs k u)
-          ∙ ap (λ (ts : List ℕ). record { to = each_door (F (get_or xs k u)) 1 ts }) (targets-arranged w L xs k u e lt)
-          ∙ ap (λ (ts : List ℕ). record { to = ts }) (each-padded (F (get_or xs k u)) (f k) (node L k) (agree k))
-          ∙ ap (λ (nd : Outs). record { to = padded_targets nd }) (sym (redirect-node f L k))
+  redirect-arranged w L us F f le e s =
+      let r = λ (u : Node S V). redirected (F u) u in
+      let many = arranged-long w L us e in
+      mapped-is arcs_of (arcs_at (redirect f L)) w (map r us) (length-map us r ∙ many)
+      (λ a d lt.
+      let u = get_or us a d in
+      ap (λ (x : Node S V). x.arcs) (get_or-map r us a d d (omega (arith, many)))
+      ∙ redirected-arcs (F u) u
+      ∙ ap (λ (ts : List ℕ). record { to = each_door (F u) 1 ts }) (targets-arranged w L us a d e lt)
+      ∙ ap (λ (ts : List ℕ). record { to = ts }) (each-padded (F u) (f a) (node L a) (λ j b t. s d a j b (has-arc L a j b t) t))
+      ∙ ap (λ (nd : Outs). record { to = padded_targets nd }) (sym (redirect-node f L a)))

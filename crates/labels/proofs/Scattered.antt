@@ -3,7 +3,6 @@ use Rattle.std.proofs.Common.{◌≡◌, ℕ, ◌+◌, ◌-◌, ◌<◌, cond, e
 use lib.Bits.{bit_or, or_add_and, and_le_r}
 use Rattle.std.specs.List.{range_with_len, flat_map, AllByRecursion as All}
 use Rattle.std.proofs.lemmas.Nat.{pow_pos}
-use Rattle.std.proofs.ByRecursion.{All-append}
 use Rattle.std.proofs.lemmas.List.{length-set, length-map, get_or-set_same, get_or-set_other, get_or-map}
 use Rattle.std.proofs.lemmas.List.FromFn.{fill_by_all}
 use Rattle.std.proofs.lemmas.Bool.{cases_eq, eq-eqb, ne_eqb, cond-false, cond_both}
@@ -11,7 +10,7 @@ use Rattle.layers.specs.declared.node.Node.{Node}
 use Rattle.layers.specs.declared.node.Down.{Down}
 use Rattle.layers.specs.Labels.{arrival_over, merge, blank_label}
 use Rattle.labels.specs.Passes.{arrivals, with_down, blank_node, by_door, from_node, gathered, labelled, next_layer, cleared, taken, landed, hit, crossed, spread}
-use Rattle.labels.proofs.Folds.{folded_keeps, folded-view}
+use Rattle.labels.proofs.Folds.{all_any, all_joined, folded_keeps, folded-view}
 use Rattle.layers.specs.Settings.{Setting}
 use Rattle.layers.specs.Records.{nodes_in}
 
@@ -104,17 +103,19 @@ module _ {S V : Type 0} (by : Setting S V) where
   taken-gathered [] h = refl
   taken-gathered (x ∷ xs) h = taken-merged x xs h.0
 
-  all-joined : {X A : Type 0} (P : A → Type 0) (F : X → List A) (xs : List X) → ((x : X) → All P (F x)) → All P (flat_map F xs)
-  all-joined P F [] h = tt
-  all-joined P F (x ∷ xs) h = All-append P (F x) (flat_map F xs) (h x) (all-joined P F xs h)
+  -- what holds of each arrival
+  pub all-arrivals : (P : Down S V → Type 0) (Q : Node S V → Type 0) → ((u : Node S V) (j : ℕ) → Q u → P (arrival_over by u.label.down j)) → (t : ℕ) (us : List (Node S V)) → All Q us → All P (arrivals by t us)
+  unfolding from_node by_door
+  all-arrivals P Q f t =
+      all_joined P Q (from_node by t)
+      (λ u q. cond_both (eqb u.label.down.lasts 0) [] (flat_map (by_door by t u) (range_with_len 0 16)) (All P) (λ _. tt)
+      (λ _. all_joined P (λ _. Unit {0}) (by_door by t u)
+      (λ k _. cond_both (eqb (get_or u.arcs.to k 0) t) (arrival_over by u.label.down (k + 1) ∷ []) [] (All P) (λ _. (f u (k + 1) q, tt)) (λ _. tt))
+      (range_with_len 0 16) (all_any (range_with_len 0 16))))
 
   reached : (t : ℕ) (us : List (Node S V)) → All Reached (arrivals by t us)
-  unfolding from_node by_door arrival_over
-  reached t us =
-      all-joined Reached (from_node by t) us
-      (λ u. cond_both (eqb u.label.down.lasts 0) [] (flat_map (by_door by t u) (range_with_len 0 16)) (All Reached) (λ _. tt)
-      (λ _. all-joined Reached (by_door by t u) (range_with_len 0 16)
-      (λ k. cond_both (eqb (get_or u.arcs.to k 0) t) (arrival_over by u.label.down (k + 1) ∷ []) [] (All Reached) (λ _. (pow_pos (k + 1), tt)) (λ _. tt))))
+  unfolding arrival_over
+  reached t us = all-arrivals Reached (λ _. Unit {0}) (λ u j _. pow_pos j) t us (all_any us)
 
   -- ---- the whole layer
   pub spreads-layer : (us vs : List (Node S V)) → fold (spread by) (map (cleared by.rule by.tally) vs) (nodes_in us) ≡ next_layer by us vs

@@ -15,19 +15,22 @@ folded-counting-more f F a k =
     ∙ ap (fold f a) (sym (flat_map_more F [] (range_with_len 0 k) k))
     ∙ fold-append f a (flat_map F (range_with_len 0 k)) (F k)
 
+pub folded_more : {A B : Type 0} (f : B → A → B) (F : ℕ → List A) (a : B) (k : ℕ) → fold f a (flat_map F (range_with_len 0 (k + 1))) ≡ fold f (fold f a (flat_map F (range_with_len 0 k))) (F k)
+folded_more f F a k = folded-counting-more f F a k
+
 taken-some : (a : Up) (xs : List Up) → fold taken_up (Some a) xs ≡ Some (fold merge_up a xs)
 taken-some a [] = refl
 taken-some a (x ∷ xs) = taken-some (merge_up a x) xs
 
-pub taken-gathered : (xs : List Up) → unwrap_or (fold taken_up None xs) no_up ≡ gathered_up xs
+pub taken_gathered : (xs : List Up) → unwrap_or (fold taken_up None xs) no_up ≡ gathered_up xs
 unfolding gathered_up
-taken-gathered [] = refl
-taken-gathered (x ∷ xs) = ap (λ o. unwrap_or o no_up) (taken-some x xs)
+taken_gathered [] = refl
+taken_gathered (x ∷ xs) = ap (λ o. unwrap_or o no_up) (taken-some x xs)
 
-pub climb-one : {S V : Type 0} (vs : List (Node S V)) (b j : ℕ) (x : Up) → b < length vs → ((d : Node S V) → x ≡ climb (get_or vs b d).label.up j) → map (λ (v : Node S V). climb v.label.up j) (take 1 (drop b vs)) ≡ x ∷ []
-climb-one [] b j x lt h = absurd (omega arith)
-climb-one (v ∷ vs) zero j x lt h = ap (λ y. y ∷ []) (sym (h v))
-climb-one (v ∷ vs) (suc b) j x lt h = climb-one vs b j x (omega arith) h
+pub climb_one : {S V : Type 0} (vs : List (Node S V)) (b j : ℕ) (x : Up) → b < length vs → ((d : Node S V) → x ≡ climb (get_or vs b d).label.up j) → map (λ (v : Node S V). climb v.label.up j) (take 1 (drop b vs)) ≡ x ∷ []
+climb_one [] b j x lt h = absurd (omega arith)
+climb_one (v ∷ vs) zero j x lt h = ap (λ y. y ∷ []) (sym (h v))
+climb_one (v ∷ vs) (suc b) j x lt h = climb_one vs b j x (omega arith) h
 
 -- ---- from a layer on
 module _ {S V : Type 0} (w : ℕ) where

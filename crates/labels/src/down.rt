@@ -40,6 +40,7 @@ pub(crate) fn arrive<R: Rule, T: Tally>(
 }
 
 /// What two arrivals have together.
+#[tactic(auto, unfolding(layers::specs::Labels::merge))]
 fn merge<R: Rule, T: Tally>(
     rule: &R,
     tally: &T,
@@ -59,6 +60,7 @@ fn merge<R: Rule, T: Tally>(
 }
 
 /// The node at place b takes in the arrival x; it has gathered nothing yet while it has no last place.
+#[tactic(auto, unfolding(crate::specs::Passes::landed, crate::specs::Passes::taken))]
 fn land<R: Rule, T: Tally>(
     rule: &R,
     tally: &T,
@@ -79,6 +81,7 @@ fn land<R: Rule, T: Tally>(
 }
 
 /// Over the arc of u by the door k + 1, if there is one; `legs` are those of u.
+#[tactic(auto, unfolding(crate::specs::Passes::crossed, crate::specs::Passes::hit, crate::specs::Passes::landed))]
 fn cross<R: Rule, T: Tally>(
     by: &Setting<'_, R, T>,
     u: &Node<R::State, T::Value>,
@@ -101,6 +104,7 @@ fn cross<R: Rule, T: Tally>(
 }
 
 /// Over all arcs of the node u.
+#[tactic(auto, using(crate::proofs::Folds::folded_counting), unfolding(crate::specs::Passes::spread))]
 fn spread_node<R: Rule, T: Tally>(
     by: &Setting<'_, R, T>,
     u: &Node<R::State, T::Value>,

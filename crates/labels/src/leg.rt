@@ -17,6 +17,7 @@ fn nearer(best: Option<u32>, d: u32) -> Option<u32>
 }
 
 /// The least drive to j from a member of `lasts` other than j, or 0.
+#[tactic(auto, using(crate::proofs::Folds::folded_counting), unfolding(layers::specs::Labels::leg, layers::specs::Labels::leg_step))]
 pub fn leg_from(round: &Round, lasts: DoorSet, j: usize) -> u32
     ensures { result ≡ leg round.now lasts j }
 {

@@ -37,6 +37,7 @@ fn take_up(got: Option<Up>, x: Up) -> Option<Up>
 }
 
 /// Over the arc of u by the door k + 1, if there is one.
+#[tactic(auto, using(crate::proofs::Steps::climb_one), unfolding(crate::specs::Passes::up_by))]
 fn climb_by<S: Copy, V: Copy>(
     vs: &[Node<S, V>],
     u: &Node<S, V>,
@@ -54,6 +55,7 @@ fn climb_by<S: Copy, V: Copy>(
 }
 
 /// What u gathers from the layer vs after it; a place that is not in use gathers nothing.
+#[tactic(auto, using(crate::proofs::Steps::folded_more, crate::proofs::Steps::taken_gathered), unfolding(crate::specs::Passes::ups_of, crate::specs::Passes::gathered_up))]
 fn climb_all<S: Copy, V: Copy>(vs: &[Node<S, V>], u: &Node<S, V>) -> Up
     ensures { result ≡ gathered_up (ups_of vs.now u.now) }
 {

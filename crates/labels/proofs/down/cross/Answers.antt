@@ -1,5 +1,4 @@
-use Rattle.std.proofs.Common.{◌-◌, get_or, sym, ap, ◌∙◌, arith}
-use Rattle.layers.specs.Settings.{lent_setting}
+use Rattle.std.proofs.Common.{◌-◌, get_or, sym, arith}
 use Rattle.std.proofs.lemmas.Bool.{eq-eqb, ne_eqb}
 use Rattle.std.proofs.lemmas.List.{set_past}
 use Rattle.labels.specs.Passes.{landed, hit, crossed}
@@ -16,11 +15,3 @@ returns-then-t-eq0 g c =
           let e = ne_eqb t 0 w.if-t-eq0.false in
           rw e (sym (set_past c.args.vs.now (t - 1) _ (omega (arith, w.if-t-vs.true)))))
     ]
-
-pub returns : goal.returns
-unfolding crossed hit
-returns g c =
-    let by = lent_setting c.args.by.now (g.R.Rule.sense c.args.by.now.rule.now) (g.T.Tally.sense c.args.by.now.tally.now) in
-    let t = get_or c.args.u.now.arcs.to c.args.k 0 in
-    let e = ne_eqb t 0 c.if-t-eq0.false in
-    rw e (c.land.ensures ∙ ap (landed by.rule by.tally c.args.vs.now (t - 1)) c.arrive-x.ensures)
