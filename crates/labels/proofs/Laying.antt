@@ -17,13 +17,8 @@ use Rattle.layers.specs.Records.{is_used, nodes_in, arcs_read, laid_arcs, arcs_a
 use Rattle.layers.proofs.Flows.{table_at, Among, ins-from}
 use Rattle.layers.proofs.Bridge.{table-long, labels_full, ups-full}
 use Rattle.layers.specs.Calls.{records_with}
-<<<<<<< HEAD
-use Rattle.labels.specs.Passes.{with_down, with_up, blank_node, by_door, from_node, arrivals, gathered, labelled, next_layer, labelled_after, numbered, up_by, ups_of, gathered_up, risen, risen_from, cleared, first_layer, bare, pass_down, pass_up, relabelled}
-=======
 use Rattle.layers.proofs.Proper.{RangedAll, tied-ranged}
-use Rattle.layers.proofs.Lively.{labels_full, ups-full}
 use Rattle.labels.specs.Passes.{with_up, blank_node, by_door, from_node, arrivals, gathered, labelled, next_layer, labelled_after, numbered, up_by, ups_of, gathered_up, risen, risen_from, cleared, first_layer, bare, pass_down, pass_up, relabelled}
->>>>>>> f2df8e0bdc3380190045f7fb0393940bdb3e42f6
 use Rattle.std.proofs.lemmas.Nat.{pow_pos}
 use Rattle.labels.proofs.Folds.{by-doors, folded_keeps}
 use Rattle.labels.proofs.Scattered.{or_some}

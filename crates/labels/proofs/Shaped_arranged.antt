@@ -4,18 +4,11 @@ use Rattle.round.specs.declared.table.Round.{Round}
 use Rattle.layers.specs.declared.node.Arcs.{Arcs}
 use Rattle.layers.specs.declared.node.Node.{Node}
 use Rattle.layers.specs.Net.{Net}
-<<<<<<< HEAD
-use Rattle.layers.specs.Lawful.{IsEven, IsLawful, IsRoomy}
+use Rattle.layers.specs.Lawful.{IsLawful}
 use Rattle.layers.specs.Records.{arcs_read, laid_arcs}
 use Rattle.layers.specs.Calls.{arcs}
 use Rattle.layers.specs.Shape.{targets_of, IsShaped}
-use Rattle.layers.proofs.Proper.{tied-ranged, RangedAll}
-=======
-use Rattle.layers.specs.Records.{arcs_read, laid_arcs}
-use Rattle.layers.specs.Calls.{arcs}
-use Rattle.layers.specs.Shape.{targets_of, IsShaped}
-use Rattle.layers.proofs.Proper.{Proper, even-of, tied-ranged}
->>>>>>> f2df8e0bdc3380190045f7fb0393940bdb3e42f6
+use Rattle.layers.proofs.Proper.{tied-ranged}
 use Rattle.layers.proofs.Shaped.{shaped-proper}
 use Rattle.labels.proofs.Laying.{Arranged, Good, arranged-of}
 pub use Rattle.labels.proofs.Laying.{good-net}
@@ -34,15 +27,5 @@ shaped-arranged r W xs h s =
     let e : length D * W + 1 ≡ r.n * W + 1 = ap (λ (k : ℕ). k * W + 1) (shaped-proper r W xs s).deep in
     arranged-of W D xs (omega (arith, e)) (ap (λ (k : ℕ). arcs_read (take k xs)) e ∙ same-arcs (arcs_read (take (r.n * W + 1) xs)) (laid_arcs W D) s.written)
 
-<<<<<<< HEAD
--- few doors, few nodes, and no arc out of the next layer
-pub good-net : (n W : ℕ) (Ls : Net) → n ≤ 16 → IsEven n Ls → IsRoomy W Ls → RangedAll Ls → Good W Ls
-good-net n W [] h even room t = tt
-good-net n W (L ∷ Ls) h even room t = (few n L h even.0, room.0, t.0, good-net n W Ls h even.1 room.1 t.1)
-
 pub proper-good : (r : Round) (W : ℕ) (Ls : Net) → IsLawful r.n W Ls → Good W Ls
 proper-good r W Ls p = good-net r.n W Ls r.most p.even p.roomy (tied-ranged Ls p.tied)
-=======
-pub proper-good : (r : Round) (W : ℕ) (Ls : Net) → Proper r.n W Ls → Good W Ls
-proper-good r W Ls p = good-net r.n W Ls r.most (even-of r.n Ls p.even) p.roomy (tied-ranged Ls p.tied)
->>>>>>> f2df8e0bdc3380190045f7fb0393940bdb3e42f6
