@@ -7,7 +7,7 @@ use crate::round::Round;
 use std::process::ExitCode;
 
 #[derive(Clone, Copy, Debug)]
-enum Call {
+pub enum Call {
     Sweep,
     Part(u32, u32),
     Join(u32, u32, u32),
@@ -39,7 +39,7 @@ impl Call {
         }
     }
 
-    fn words(self) -> [u32; 4] {
+    pub fn words(self) -> [u32; 4] {
         match self {
             Call::Sweep => [1, 0, 0, 0],
             Call::Part(i, a) => [2, i, a, 0],
@@ -49,7 +49,7 @@ impl Call {
         }
     }
 
-    fn make(self, d: &mut Diagram) -> usize {
+    pub fn make(self, d: &mut Diagram) -> usize {
         match self {
             Call::Sweep => d.sweep(),
             Call::Part(i, a) => d.part(i as usize, a as usize),
@@ -64,7 +64,7 @@ impl Call {
     }
 }
 
-fn bytes(words: impl IntoIterator<Item = u32>) -> Vec<u8> {
+pub fn bytes(words: impl IntoIterator<Item = u32>) -> Vec<u8> {
     words.into_iter().flat_map(u32::to_le_bytes).collect()
 }
 

@@ -1,10 +1,10 @@
 //! Compares the static library with a twin written from the definitions, and measures both.
 //!
 //!     morvuges-bench compare [ROUNDS]    the same answers on so many rounds by chance
-//!     morvuges-bench measure             open and refine at 16 doors: times and ratios
+//!     morvuges-bench measure             calls at 16 doors: times and ratios
 //!     morvuges-bench stack               how much stack a call of the library takes
 //!     morvuges-bench texts | sheets      rounds by chance, and their sheets as the twin works them out
-//!     morvuges-bench repeat library|twin WIDTH TIMES    one of the two alone, for a profiler
+//!     morvuges-bench repeat library|twin WIDTH TIMES ROUNDS    open and refine in one of the two alone, for a profiler
 
 mod chance;
 mod clock;
@@ -34,11 +34,14 @@ fn main() -> ExitCode {
             sheets::print_sheets();
             ExitCode::SUCCESS
         }
-        ["repeat", who, width, times] => {
-            measure::repeat(who, width.parse().expect("a width"), times.parse().expect("how many times"))
-        }
+        ["repeat", who, width, times, rounds] => measure::repeat(
+            who,
+            width.parse().expect("a width"),
+            times.parse().expect("how many times"),
+            rounds.parse().expect("how many rounds, 24 at most"),
+        ),
         _ => {
-            eprintln!("usage: morvuges-bench compare [ROUNDS] | measure | stack | texts | sheets | repeat library|twin WIDTH TIMES");
+            eprintln!("usage: morvuges-bench compare [ROUNDS] | measure | stack | texts | sheets | repeat library|twin WIDTH TIMES ROUNDS");
             ExitCode::from(2)
         }
     }

@@ -1,7 +1,8 @@
-//! The time of open and refine at 16 doors, in the library and in the twin.
+//! The times of calls at 16 doors, in the library and in the twin.
 
 use crate::chance::Chance;
 use crate::clock;
+use crate::compare::{Call, bytes};
 use crate::diagram::Diagram;
 use crate::library;
 use crate::round::Round;
@@ -10,6 +11,7 @@ use std::process::ExitCode;
 
 const ROUNDS: usize = 24;
 const TRIES: usize = 5;
+const WIDTHS: [usize; 4] = [16, 32, 64, 128];
 
 /// Rounds of 16 doors with hours that leave the order open here and there.
 fn tight() -> Vec<Round> {
@@ -47,37 +49,163 @@ fn least(times: usize, mut f: impl FnMut() -> i64) -> f64 {
         .fold(f64::MAX, f64::min)
 }
 
+/// Times of library and twin over the rounds, and the ratio of one round, least and most.
+struct Sums {
+    library: f64,
+    twin: f64,
+    rounds: usize,
+    least: f64,
+    most: f64,
+}
+
+impl Sums {
+    fn new() -> Sums {
+        Sums { library: 0.0, twin: 0.0, rounds: 0, least: f64::MAX, most: 0.0 }
+    }
+
+    fn add(&mut self, library: f64, twin: f64) {
+        self.library += library;
+        self.twin += twin;
+        self.rounds += 1;
+        self.least = self.least.min(library / twin);
+        self.most = self.most.max(library / twin);
+    }
+
+    fn library(&self) -> f64 {
+        self.library / self.rounds as f64
+    }
+
+    fn print(&self, what: &str) {
+        let (library, twin) = (self.library(), self.twin / self.rounds as f64);
+        let Sums { rounds, least, most, .. } = *self;
+        println!("{what}  {rounds:6}  {library:7.1}  {twin:7.1}  {:5.2} ({least:.2} to {most:.2})", library / twin);
+    }
+}
+
+/// Open and refine, for one width.
+fn refines(rounds: &[Round], width: usize) -> Option<(Sums, usize)> {
+    let times = 256 / width;
+    let (mut sums, mut full) = (Sums::new(), 0);
+    for round in rounds {
+        let text = round.text();
+        let answer = of_twin(round, width, 1);
+        if of_library(text.as_bytes(), width, 1) != answer {
+            println!("answers differ at width {width}");
+            return None;
+        }
+        full += usize::from(answer != 0);
+        let library = least(times, || of_library(text.as_bytes(), width, times));
+        sums.add(library, least(times, || of_twin(round, width, times)));
+    }
+    Some((sums, full))
+}
+
+/// How often a single call is made after a refine, so that its time stands out.
+const OFTEN: usize = 16;
+
+/// The calls of a kind that are made on a refined diagram.
+fn single(kind: &str, d: &Diagram) -> Option<[Call; 2]> {
+    match kind {
+        "sweep" => Some([Call::Sweep; 2]),
+        "cut" => d.bound().map(|(doors, minutes)| [Call::Cut(doors, minutes); 2]),
+        "join, part" => Some([Call::Join(8, 1, 2), Call::Part(8, 1)]),
+        _ => None,
+    }
+}
+
+/// The library's time for one of these calls: that of a sheet with them less that of one without.
+fn single_of_library(text: &[u8], width: usize, calls: &[Call]) -> f64 {
+    let refine = [Call::Refine];
+    let mut out = vec![0; 88 + 4 * (OFTEN + 1)];
+    let mut sheet = |calls: &[Call]| {
+        let asked = bytes(calls.iter().flat_map(|call| call.words()));
+        least(1, || library::sheet(black_box(text), width, &asked, &mut out))
+    };
+    let with: Vec<Call> = refine.iter().chain(calls.iter().cycle().take(OFTEN)).copied().collect();
+    ((sheet(&with) - sheet(&refine)) / OFTEN as f64).max(0.0)
+}
+
+/// The twin's time for one of them.
+fn single_of_twin(round: &Round, width: usize, calls: &[Call]) -> f64 {
+    let mut d = Diagram::new(black_box(round), width);
+    (0..TRIES)
+        .map(|_| {
+            d.open();
+            d.refine();
+            let start = clock::now();
+            for call in calls.iter().cycle().take(OFTEN) {
+                black_box(call.make(&mut d));
+            }
+            (clock::now() - start).as_secs_f64() * 1e6 / OFTEN as f64
+        })
+        .fold(f64::MAX, f64::min)
+}
+
+/// One kind of call on refined diagrams, for one width.
+fn singles(rounds: &[Round], width: usize, kind: &str) -> Sums {
+    let mut sums = Sums::new();
+    for round in rounds {
+        let mut d = Diagram::new(round, width);
+        d.open();
+        d.refine();
+        if let Some(calls) = single(kind, &d) {
+            let library = single_of_library(round.text().as_bytes(), width, &calls);
+            sums.add(library, single_of_twin(round, width, &calls));
+        }
+    }
+    sums
+}
+
+/// What a refined diagram is asked: whether it is settled, its bound and all musts; in the library with the reading of the text.
+fn asks(rounds: &[Round], width: usize) -> Sums {
+    let mut sums = Sums::new();
+    let refine = bytes(Call::Refine.words());
+    let mut out = vec![0; 92];
+    for round in rounds {
+        let text = round.text();
+        let all = least(1, || library::sheet(text.as_bytes(), width, &refine, &mut out));
+        let without = least(1, || of_library(text.as_bytes(), width, 1));
+        let mut d = Diagram::new(round, width);
+        d.open();
+        d.refine();
+        let twin = least(OFTEN, || {
+            (0..OFTEN).map(|_| d.settled() as i64 + d.musts()[1] as i64 + d.bound().is_some() as i64).sum()
+        });
+        sums.add((all - without).max(0.0), twin);
+    }
+    sums
+}
+
 pub fn measure() -> ExitCode {
     let rounds = tight();
-    println!("open and refine, 16 doors, {ROUNDS} rounds, least of {TRIES} tries, microseconds of processor time each");
-    println!("width  full  library     twin  ratio (least to most)");
-    for width in [16, 32, 64, 128] {
-        let times = 256 / width;
-        let (mut library, mut twin, mut full) = (0.0, 0.0, 0);
-        let (mut low, mut high) = (f64::MAX, 0.0f64);
-        for round in &rounds {
-            let text = round.text();
-            let answer = of_twin(round, width, 1);
-            if of_library(text.as_bytes(), width, 1) != answer {
-                println!("answers differ at width {width}");
-                return ExitCode::FAILURE;
-            }
-            full += usize::from(answer != 0);
-            let a = least(times, || of_library(text.as_bytes(), width, times));
-            let b = least(times, || of_twin(round, width, times));
-            library += a;
-            twin += b;
-            low = low.min(a / b);
-            high = high.max(a / b);
+    println!("16 doors, {ROUNDS} rounds, least of {TRIES} tries, microseconds of processor time each");
+    println!("width  full  rounds  library     twin  ratio (least to most)   open and refine");
+    let mut before: Option<f64> = None;
+    for width in WIDTHS {
+        let Some((sums, full)) = refines(&rounds, width) else {
+            return ExitCode::FAILURE;
+        };
+        sums.print(&format!("{width:5}  {full:4}"));
+        if let Some(narrow) = before {
+            println!("             the library's own time grows by {:.2}", sums.library() / narrow);
         }
-        let (a, b) = (library / ROUNDS as f64, twin / ROUNDS as f64);
-        println!("{width:5}  {full:4}  {a:7.0}  {b:7.0}  {:5.2} ({low:.2} to {high:.2})", a / b);
+        before = Some(sums.library());
+    }
+    for kind in ["sweep", "cut", "join, part"] {
+        println!("width        rounds  library     twin  ratio (least to most)   {kind}, on a refined diagram");
+        for width in WIDTHS {
+            singles(&rounds, width, kind).print(&format!("{width:5}      "));
+        }
+    }
+    println!("width        rounds  library     twin  ratio (least to most)   settled, bound and all musts");
+    for width in WIDTHS {
+        asks(&rounds, width).print(&format!("{width:5}      "));
     }
     ExitCode::SUCCESS
 }
 
-pub fn repeat(who: &str, width: usize, times: usize) -> ExitCode {
-    for round in &tight() {
+pub fn repeat(who: &str, width: usize, times: usize, rounds: usize) -> ExitCode {
+    for round in &tight()[..rounds] {
         let answer = match who {
             "library" => of_library(round.text().as_bytes(), width, times),
             "twin" => of_twin(round, width, times),

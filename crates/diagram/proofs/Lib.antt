@@ -1,3 +1,4 @@
 mod Arcs_laid
+mod Musts_each
 mod Opened
 mod Runs

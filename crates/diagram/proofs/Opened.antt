@@ -5,9 +5,8 @@ use Rattle.layers.specs.declared.node.Node.{Node}
 use Rattle.layers.specs.Labels.{opening_arcs}
 use Rattle.layers.specs.Records.{labelled_records}
 use Rattle.layers.specs.Calls.{records_with, after_open}
-use Rattle.layers.proofs.Proper.{lawful, proper-opened}
-use Rattle.layers.proofs.Shaped.{relaid-shaped}
-use Rattle.layers.proofs.Timely.{relaid-timely}
+use Rattle.layers.proofs.Proper.{proper-opened}
+use Rattle.layers.proofs.Shaped.{relaid-shaped, relaid-timely}
 use Rattle.labels.specs.Passes.{fits, relabelled}
 use Rattle.labels.proofs.Laying.{Arranged, relabelled-lawful}
 use Rattle.diagram.specs.Opening.{every_door, arcs_opened, arced}
@@ -29,7 +28,7 @@ module _ {S V : Type 0} (by : Setting S V) (a : 1 ≤ by.width) (b : by.width �
   unfolding after_open records_with
   laid-opened =
       let m = by.round.n * by.width + 1 in
-      relabelled-lawful by (opening_arcs by.round.n) ys (lawful by.round.n by.width (opening_arcs by.round.n) (proper-opened by a)) in-layers
+      relabelled-lawful by (opening_arcs by.round.n) ys (proper-opened by a) in-layers
       ∙ ap (λ zs. labelled_records by (opening_arcs by.round.n) ++ zs) (after-all (arcs_opened (every_door by.round.n) by.round.n by.width) m xs)
 
   pub room : fits by.round.n by.width (length ys) ≡ true

@@ -1,2 +1,4 @@
+pub mod Answers
 pub mod Words
+pub mod Musts
 pub mod Opening

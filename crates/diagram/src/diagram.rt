@@ -8,6 +8,7 @@ use layers::node::Node;
 
 pub mod asks;
 pub mod calls;
+pub mod musts;
 pub mod opening;
 
 /// A diagram of a round: its round and width, and the list of records that is lent to it, with what arcs decide of these as facts.

@@ -2,6 +2,7 @@
 use Rattle.std.proofs.Common.{◌≡◌, ℕ, zero, suc, ◌+◌, ◌-◌, ◌*◌, ◌≤◌, Bool, true, List, [], ◌++◌, length, get_or, drop, Option, sym, refl, ap, ◌∙◌, subst, ap₂, arith}
 use Rattle.std.proofs.lemmas.List.{drop-drop}
 use Rattle.round.specs.declared.table.Round.{Round}
+use Rattle.layers.specs.Lawful.{IsLawful}
 use Rattle.layers.specs.declared.node.Node.{Node}
 use Rattle.layers.specs.Net.{Net, node, target, count_arcs}
 use Rattle.layers.specs.Tidy.{tidied_arcs}
@@ -12,9 +13,8 @@ use Rattle.layers.specs.declared.node.Up.{Up}
 use Rattle.layers.specs.Calls.{arcs, labels, kept_arcs, records_with, arcs_lost, after_sweep}
 use Rattle.layers.specs.Labels.{is_barred}
 use Rattle.layers.specs.Shape.{IsShaped, IsTimely}
-use Rattle.layers.proofs.Proper.{Proper, even-of, lawful, tied-ranged, RangedAll, Less, kept-less, proper-less}
-use Rattle.layers.proofs.Shaped.{shaped-proper, relaid-shaped, ended-one}
-use Rattle.layers.proofs.Timely.{relaid-timely}
+use Rattle.layers.proofs.Proper.{tied-ranged, RangedAll, Less, kept-less, proper-less}
+use Rattle.layers.proofs.Shaped.{shaped-proper, relaid-shaped, ended-one, relaid-timely}
 use Rattle.labels.specs.Passes.{fits, blank_node}
 use Rattle.labels.proofs.Laying.{Arranged, Good, relabelled-lawful}
 use Rattle.labels.proofs.Rooms.{room-facts}
@@ -49,14 +49,14 @@ module _ {S V : Type 0} (r : Round) (W : ℕ) (xs : List (Node S V)) (fit : fits
   pub enough : r.n * W + 1 ≤ length xs
   enough = (room-facts r.n W (length xs) fit).enough
 
-  pub proper : Proper r.n W D
+  pub proper : IsLawful r.n W D
   proper = shaped-proper r W xs s
 
   pub ranged : RangedAll D
   ranged = tied-ranged D proper.tied
 
   pub shaped-count : arc_count r.n W xs ≡ count_arcs D
-  shaped-count = arc-count W r.n D xs proper.deep (good-net r.n W D r.most (even-of r.n D proper.even) proper.roomy ranged) (shaped-arranged r W xs enough s)
+  shaped-count = arc-count W r.n D xs proper.deep (good-net r.n W D r.most proper.even proper.roomy ranged) (shaped-arranged r W xs enough s)
 
   -- the arcs that a filter leaves, in the net and in the list
   module _ (goes : Goes S V) where
@@ -67,7 +67,7 @@ module _ {S V : Type 0} (r : Round) (W : ℕ) (xs : List (Node S V)) (fit : fits
     less = kept-less r.n W goes 0 D (labels r.n W xs)
 
     pub good-left : Good W Ms
-    good-left = good-net r.n W Ms r.most (even-of r.n Ms (less.even proper.even)) (less.roomy proper.roomy) (less.ranged ranged)
+    good-left = good-net r.n W Ms r.most (less.even proper.even) (less.roomy proper.roomy) (less.ranged ranged)
 
     pub deep-left : length Ms ≡ r.n
     deep-left = less.deep ∙ proper.deep
@@ -80,7 +80,7 @@ module _ {S V : Type 0} (by : Setting S V) (xs : List (Node S V)) (fit : fits by
   abbrev pub Defined : List (Node S V)
   Defined = records_with by xs (tidied_arcs (Ms by.round by.width xs fit s goes))
 
-  pub tidy-proper : Proper by.round.n by.width (tidied_arcs (Ms by.round by.width xs fit s goes))
+  pub tidy-proper : IsLawful by.round.n by.width (tidied_arcs (Ms by.round by.width xs fit s goes))
   tidy-proper = proper-less by (wide by.round by.width xs fit s) (D by.round by.width xs fit s) (Ms by.round by.width xs fit s goes) (less by.round by.width xs fit s goes) (proper by.round by.width xs fit s)
 
   pub filter-words : filter_steps by goes xs ≡ Defined
@@ -102,7 +102,7 @@ module _ {S V : Type 0} (by : Setting S V) (xs : List (Node S V)) (fit : fits by
       let enough' : length M * W + 1 ≡ n * W + 1 = ap (λ (k : ℕ). k * W + 1) deep in
       let rest : drop (n * W) zs ≡ drop (n * W) ys = subst (λ (k : ℕ). drop (k * W) (tidiedFlat W z k first_mark ys) ≡ drop (k * W) ys) deep (tidied-tail W z M ys (omega (arith, enough', t.0, enough))) in
       let later : drop (n * W + 1) zs ≡ drop (n * W + 1) xs = sym (drop-drop 1 (n * W) zs) ∙ ap (drop 1) (rest ∙ t.1) ∙ drop-drop 1 (n * W) xs in
-      relabelled-lawful by (tidied_arcs M) zs (lawful n W (tidied_arcs M) tidy-proper) arr ∙ ap (λ (ws : List (Node S V)). labelled_records by (tidied_arcs M) ++ ws) later
+      relabelled-lawful by (tidied_arcs M) zs tidy-proper arr ∙ ap (λ (ws : List (Node S V)). labelled_records by (tidied_arcs M) ++ ws) later
 
   -- what is left is a diagram's
   pub filter-shaped : IsShaped by.round.n by.width Defined

@@ -1,6 +1,6 @@
--- No finish of layer i is above latest i.
-use Rattle.std.proofs.Common.{◌≡◌, ℕ, zero, suc, ◌+◌, ◌*◌, ◌<◌, ◌≤◌, eqb, List, [], ◌∷◌, map, length, get_or, sym, refl, ap, ◌∙◌, subst, mul-le-mul_right, add-mul, one-mul, zero-mul, add-one, arith}
-use Rattle.std.proofs.lemmas.List.{length-map}
+-- No finish of a layer is above what the clock allows after so many steps.
+use Rattle.std.proofs.Common.{◌≡◌, ℕ, zero, suc, ◌+◌, ◌-◌, ◌≤◌, ◌≢◌, eqb, List, [], ◌∷◌, ◌++◌, map, length, get_or, take, drop, sym, refl, ap, ◌∙◌, subst, arith}
+use Rattle.std.proofs.lemmas.List.{length-map, take_at, length-take-le}
 use Rattle.std.specs.List.{range_with_len, flat_map, AllByRecursion as All}
 use Rattle.std.proofs.ByRecursion.{All-append, All-from_get_or}
 use Rattle.std.proofs.lemmas.List.FromFn.{get_or-map-range_with_len, length-map-range_with_len}
@@ -12,11 +12,11 @@ use Rattle.tallies.specs.Tallies.{TallySense}
 use Rattle.layers.specs.declared.node.Node.{Node}
 use Rattle.layers.specs.declared.node.Down.{Down}
 use Rattle.layers.specs.Labels.{leg, arrival_over, merge, blank_label}
-use Rattle.labels.specs.Passes.{arrivals, part, over, with_down, Early, blank_node, by_door, from_node, gathered, labelled, next_layer, layer_done, first_layer, begun, layers_done}
+use Rattle.labels.specs.Passes.{arrivals, with_down, Early, blank_node, by_door, from_node, gathered, labelled, next_layer, labelled_after, first_layer}
 use Rattle.labels.proofs.Folds.{folded_keeps}
 use Rattle.labels.proofs.Legs.{leg-most}
-use Rattle.labels.proofs.Overs.{part-over, length_over, length_part}
 use Rattle.layers.specs.Settings.{Setting}
+use Rattle.layers.specs.Records.{is_used, nodes_in}
 
 pub all-mono : {X : Type 0} (P Q : X → Type 0) → ((x : X) → P x → Q x) → (xs : List X) → All P xs → All Q xs
 all-mono P Q f [] h = tt
@@ -25,6 +25,10 @@ all-mono P Q f (x ∷ xs) h = (f x h.0, all-mono P Q f xs h.1)
 pub all-joined : {X A : Type 0} (P : A → Type 0) (Q : X → Type 0) (F : X → List A) → ((x : X) → Q x → All P (F x)) → (xs : List X) → All Q xs → All P (flat_map F xs)
 all-joined P Q F f [] h = tt
 all-joined P Q F f (x ∷ xs) h = All-append P (F x) (flat_map F xs) (f x h.0) (all-joined P Q F f xs h.1)
+
+all_nodes : {S V : Type 0} (P : Node S V → Type 0) (us : List (Node S V)) → All P us → All P (nodes_in us)
+all_nodes P [] h = tt
+all_nodes P (u ∷ us) h = cond_both (is_used u) (u ∷ nodes_in us) [] (All P) (λ _. (h.0, all_nodes P us h.1)) (λ _. tt)
 
 all_any : {X : Type 0} (xs : List X) → All (λ _. Unit {0}) xs
 all_any [] = tt
@@ -65,13 +69,13 @@ module _ {S V : Type 0} (by : Setting S V) where
       let n = length vs in
       All-from_get_or (Early (latest_finish (suc k))) (map f (range_with_len 0 n)) (blank_node by.rule by.tally)
       (λ b lt. subst (Early (latest_finish (suc k))) (sym (get_or-map-range_with_len f 0 n b b (blank_node by.rule by.tally) (omega (arith, length-map-range_with_len f 0 n)) (omega arith)))
-      (gathered-soon (latest_finish (suc k)) (arrivals by (b + 1) us) (arrives-soon k (b + 1) us h)))
+      (gathered-soon (latest_finish (suc k)) (arrivals by (b + 1) (nodes_in us)) (arrives-soon k (b + 1) (nodes_in us) (all_nodes (Early (latest_finish k)) us h))))
 
-  first-early : (us : List (Node S V)) → All (Early 9999) (first_layer by.rule by.tally us)
-  first-early [] = tt
-  first-early (u ∷ us) = (omega arith, rest us)
+  pub first_early : (us : List (Node S V)) → All (Early (latest_finish 0)) (first_layer by.rule by.tally us)
+  first_early [] = tt
+  first_early (u ∷ us) = (omega arith, rest us)
     where
-      rest : (us : List (Node S V)) → All (Early 9999) (map (λ v. with_down v (blank_label by.rule by.tally)) us)
+      rest : (us : List (Node S V)) → All (Early (latest_finish 0)) (map (λ v. with_down v (blank_label by.rule by.tally)) us)
       rest [] = tt
       rest (u ∷ us) = (omega arith, rest us)
 
@@ -79,50 +83,23 @@ module _ {S V : Type 0} (by : Setting S V) where
   unfolding next_layer
   next-long us vs = length-map-range_with_len (labelled by us vs) 0 (length vs)
 
-  module _ (xs : List (Node S V)) (fits : by.round.n * by.width + 1 ≤ length xs) where
-    -- layer i + 1 ends within the places
-    pub next-ends : (i : ℕ) → i + 1 < by.round.n → (i + 1) * by.width + by.width ≤ by.round.n * by.width
-    next-ends i lt = let h : i + 1 + 1 ≤ by.round.n = omega arith in omega (arith, mul-le-mul_right by.width h, add-mul (i + 1) 1 by.width, one-mul by.width)
+-- with so many layers between this one and the end, of at most sixteen
+pub early_at_last : {S V : Type 0} (later : ℕ) (us : List (Node S V)) → All (Early (latest_finish (15 - later))) us → All (Early (latest_finish 15)) us
+early_at_last later us h = all-mono (Early (latest_finish (15 - later))) (Early (latest_finish 15)) (λ u e. omega arith) us h
 
-    first_ends : 1 ≤ by.round.n → by.width ≤ by.round.n * by.width
-    first_ends h = omega (arith, mul-le-mul_right by.width h, one-mul by.width)
+-- and the layer after it
+pub early_on : {S V : Type 0} (by : Setting S V) (later : ℕ) (us rest : List (Node S V)) → later ≢ 0 → later ≤ 15 → by.width ≤ length rest → All (Early (latest_finish (15 - later))) us
+    → All (Early (latest_finish (15 - (later - 1)))) (take by.width (next_layer by us (take by.width rest) ++ drop by.width rest))
+early_on by later us rest ne most room h =
+    let N = next_layer by us (take by.width rest) in
+    let k : suc (15 - later) ≡ 15 - (later - 1) = omega arith in
+    rw (take_at N (drop by.width rest) by.width (next-long by us (take by.width rest) ∙ length-take-le by.width rest room), ← k) (next-early by (15 - later) us (take by.width rest) h)
 
-    pub begun-long : length (begun by.rule by.tally by.width xs) ≡ length xs
-    unfolding begun
-    begun-long =
-        let e = first-long by.rule by.tally (part 0 by.width xs) in
-        let l = length_part 0 by.width xs (omega (arith, first_ends by.round.one)) in
-        length_over 0 (first_layer by.rule by.tally (part 0 by.width xs)) xs (omega (arith, first_ends by.round.one))
+pub after_more : {S V : Type 0} (by : Setting S V) (k : ℕ) (xs : List (Node S V)) → k ≢ 0
+    → labelled_after by k xs ≡ take by.width xs ++ labelled_after by (k - 1) (next_layer by (take by.width xs) (take by.width (drop by.width xs)) ++ drop by.width (drop by.width xs))
+unfolding labelled_after
+after_more by zero xs ne = absurd (ne refl)
+after_more by (suc k) xs ne = let e : suc k - 1 ≡ k = omega arith in rw e
 
-    pub layers-long : (i : ℕ) → i < by.round.n → length (layers_done by i (begun by.rule by.tally by.width xs)) ≡ length xs
-    unfolding layer_done
-    layers-long zero lt = begun-long
-    layers-long (suc i) lt =
-        let ys = layers_done by i (begun by.rule by.tally by.width xs) in
-        let before : length ys ≡ length xs = layers-long i (omega arith) in
-        let ends = next-ends i (omega arith) in
-        let us = part (i * by.width) by.width ys in
-        let vs = part ((i + 1) * by.width) by.width ys in
-        let long : length (next_layer by us vs) ≡ by.width = next-long us vs ∙ length_part ((i + 1) * by.width) by.width ys (omega arith) in
-        length_over ((i + 1) * by.width) (next_layer by us vs) ys (omega arith) ∙ before
-
-    pub layers-early : (i : ℕ) → i < by.round.n → All (Early (latest_finish i)) (part (i * by.width) by.width (layers_done by i (begun by.rule by.tally by.width xs)))
-    unfolding layer_done begun
-    layers-early zero lt =
-        let l = length_part 0 by.width xs (omega (arith, first_ends by.round.one)) in
-        subst (λ k. All (Early 9999) (part k by.width (over 0 (first_layer by.rule by.tally (part 0 by.width xs)) xs))) (sym (zero-mul by.width))
-        (subst (All (Early 9999)) (sym (part-over 0 (first_layer by.rule by.tally (part 0 by.width xs)) xs by.width (first-long by.rule by.tally (part 0 by.width xs) ∙ l) (omega arith))) (first-early (part 0 by.width xs)))
-    layers-early (suc i) lt =
-        let ys = layers_done by i (begun by.rule by.tally by.width xs) in
-        let before : length ys ≡ length xs = layers-long i (omega arith) in
-        let ends = next-ends i (omega arith) in
-        let us = part (i * by.width) by.width ys in
-        let vs = part ((i + 1) * by.width) by.width ys in
-        let long : length (next_layer by us vs) ≡ by.width = next-long us vs ∙ length_part ((i + 1) * by.width) by.width ys (omega arith) in
-        let at : (i + 1) * by.width ≡ suc i * by.width = ap (λ k. k * by.width) (add-one i) in
-        subst (λ p. All (Early (latest_finish (suc i))) (part p by.width (over ((i + 1) * by.width) (next_layer by us vs) ys))) at
-        (subst (All (Early (latest_finish (suc i)))) (sym (part-over ((i + 1) * by.width) (next_layer by us vs) ys by.width long (omega arith)))
-        (next-early i us vs (layers-early i (omega arith))))
-
-    pub layers-ready : (i : ℕ) → i < by.round.n → All (Early (latest_finish 15)) (part (i * by.width) by.width (layers_done by i (begun by.rule by.tally by.width xs)))
-    layers-ready i lt = all-mono (Early (latest_finish i)) (Early (latest_finish 15)) (λ u h. omega (arith, by.round.most)) _ (layers-early i lt)
+pub early_first : {S V : Type 0} (by : Setting S V) (n : ℕ) (us rest : List (Node S V)) → length us ≡ by.width → All (Early (latest_finish n)) (take by.width (first_layer by.rule by.tally us ++ rest))
+early_first by n us rest e = rw (take_at (first_layer by.rule by.tally us) rest by.width (first-long by.rule by.tally us ∙ e)) (all-mono (Early (latest_finish 0)) (Early (latest_finish n)) (λ u h. omega arith) (first_layer by.rule by.tally us) (first_early by us))

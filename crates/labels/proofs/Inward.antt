@@ -1,22 +1,22 @@
 -- What the code's pass adds up at a record is what flows in over the arcs.
 use Rattle.std.proofs.Common.{◌≡◌, ℕ, zero, suc, ◌+◌, ◌<◌, ◌≤◌, Bool, true, false, cond, eqb, List, [], ◌∷◌, ◌++◌, length, get_or, Some, None, Option, refl, ap, ◌∙◌, ap₂, zero-add, add-one, arith}
 use Rattle.std.specs.List.{range_with_len, flat_map}
-use Rattle.std.proofs.lemmas.Bool.{cond-false, ne_eqb, eq-eqb, eqb-true}
+use Rattle.std.proofs.lemmas.Bool.{cond-false, cond_both, ne_eqb}
 use Rattle.layers.specs.declared.node.Node.{Node}
 use Rattle.layers.specs.declared.node.Down.{Down}
 use Rattle.layers.specs.Net.{table, Outs, Layer, node}
 use Rattle.layers.specs.Flow.{put, arrivals_by_door, arrivals_at, gather}
-use Rattle.layers.specs.Labels.{arrival_over, merge, no_up, blank_label}
-use Rattle.layers.specs.Records.{padded_targets, record_of_place}
+use Rattle.layers.specs.Labels.{arrival_over, merge, no_up}
+use Rattle.layers.specs.Records.{is_used, nodes_in, padded_targets, record_of_place}
 use Rattle.layers.proofs.Flows.{table_at}
 use Rattle.labels.specs.Passes.{by_door, from_node, gathered}
 use Rattle.layers.proofs.Model.{or_blank}
 use Rattle.layers.specs.Settings.{Setting}
 
 module _ {S V : Type 0} (by : Setting S V) where
-  -- a label that is there has a last place
-  abbrev pub Lasting : List (Option (Down S V)) → Type 0
-  Lasting labs = (a : ℕ) (l : Down S V) → get_or labs a None ≡ Some l → eqb l.lasts 0 ≡ false
+  -- each node of the layer has a label, with a last place
+  abbrev pub Standing : List (Option (Down S V)) → Layer → Type 0
+  Standing labs L = (a : ℕ) → a < length L → (l : Down S V) × (get_or labs a None ≡ Some l) × (eqb l.lasts 0 ≡ false)
 
   -- no node has more than 16 doors
   abbrev pub Narrow : Layer → Type 0
@@ -62,48 +62,42 @@ module _ {S V : Type 0} (by : Setting S V) where
   abbrev made : Outs → Down S V → Node S V
   made nd l = record { arcs = record { to = padded_targets nd }; label = record { down = l; up = no_up } }
 
-  from-unused : (t : ℕ) (u : Node S V) → u.label.down.lasts ≡ 0 → from_node by t u ≡ []
-  unfolding from_node
-  from-unused t u e = ap (λ (q : Bool). cond q [] (flat_map (by_door by t u) (range_with_len 0 16))) (eq-eqb _ 0 e)
+  from-doors : (b : ℕ) (nd : Outs) (l : Down S V) → length nd ≤ 16 → flat_map (over-door (suc b) (padded_targets nd) l) (range_with_len 0 16) ≡ arrivals_by_door (arrival_over by) b l 1 nd
+  from-doors b nd l h = doors-in b l nd (padded_targets nd) 0 16 h (λ i g. ap (λ (k : ℕ). get_or (padded_targets nd) k 0) (zero-add i) ∙ table_at 16 i (λ k. get_or nd k 0) 0 g)
 
   from-used : (b : ℕ) (nd : Outs) (l : Down S V) → length nd ≤ 16 → eqb l.lasts 0 ≡ false → from_node by (suc b) (made nd l) ≡ arrivals_by_door (arrival_over by) b l 1 nd
   unfolding from_node by_door
-  from-used b nd l h e =
-      ap (λ (q : Bool). cond q [] (flat_map (over-door (suc b) (padded_targets nd) l) (range_with_len 0 16))) e
-      ∙ doors-in b l nd (padded_targets nd) 0 16 h (λ i g. ap (λ (k : ℕ). get_or (padded_targets nd) k 0) (zero-add i) ∙ table_at 16 i (λ k. get_or nd k 0) 0 g)
+  from-used b nd l h e = rw e (from-doors b nd l h)
 
   from-bare : (b : ℕ) (l : Down S V) → from_node by (suc b) (made [] l) ≡ []
-  unfolding arrivals_by_door
-  from-bare b l = go (eqb l.lasts 0) refl
-    where
-      go : (q : Bool) → eqb l.lasts 0 ≡ q → from_node by (suc b) (made [] l) ≡ []
-      go true e = from-unused (suc b) (made [] l) (eqb-zero e)
-        where
-          eqb-zero : eqb l.lasts 0 ≡ true → l.lasts ≡ 0
-          eqb-zero e = eqb-true l.lasts 0 e
-      go false e = from-used b [] l (omega arith) e
+  unfolding from_node by_door arrivals_by_door
+  from-bare b l = cond_both (eqb l.lasts 0) [] (flat_map (over-door (suc b) (padded_targets []) l) (range_with_len 0 16)) (λ ys. ys ≡ []) (λ _. refl) (λ _. from-doors b [] l (omega arith))
 
-  none_in : (b w : ℕ) (labs : List (Option (Down S V))) → flat_map (from_node by (suc b)) (table w (record_of_place by [] labs [])) ≡ []
+  -- places without arcs
+  cut-none : (b : ℕ) (q : Bool) (x : Node S V) (us : List (Node S V)) → from_node by (suc b) x ≡ [] → flat_map (from_node by (suc b)) us ≡ [] → flat_map (from_node by (suc b)) (cond q (x ∷ us) []) ≡ []
+  cut-none b true x us e f = ap₂ (λ ys zs. ys ++ zs) e f
+  cut-none b false x us e f = refl
+
+  none_in : (b w : ℕ) (labs : List (Option (Down S V))) → flat_map (from_node by (suc b)) (nodes_in (table w (record_of_place by [] labs []))) ≡ []
   none_in b zero labs = refl
-  none_in b (suc w) [] = ap₂ (λ xs ys. xs ++ ys) (from-bare b (blank_label by.rule by.tally)) (none_in b w [])
-  none_in b (suc w) (o ∷ labs) = ap₂ (λ xs ys. xs ++ ys) (from-bare b (or_blank by.rule by.tally o)) (none_in b w labs)
+  none_in b (suc w) [] = refl
+  none_in b (suc w) (o ∷ labs) =
+      let x = made [] (or_blank by.rule by.tally o) in
+      cut-none b (is_used x) x (nodes_in (table w (record_of_place by [] labs []))) (from-bare b x.label.down) (none_in b w labs)
 
-  -- no label, no arrival
-  unlabelled : (b w : ℕ) (L : Layer) → flat_map (from_node by (suc b)) (table w (record_of_place by L [] [])) ≡ []
-  unlabelled b zero L = refl
-  unlabelled b (suc w) [] = ap₂ (λ xs ys. xs ++ ys) (from-unused (suc b) (made [] (blank_label by.rule by.tally)) refl) (unlabelled b w [])
-  unlabelled b (suc w) (nd ∷ L) = ap₂ (λ xs ys. xs ++ ys) (from-unused (suc b) (made nd (blank_label by.rule by.tally)) refl) (unlabelled b w L)
-
-  pub arrivals-in : (b w : ℕ) (labs : List (Option (Down S V))) (L : Layer) → Lasting labs → Narrow L → length L ≤ w
-      → flat_map (from_node by (suc b)) (table w (record_of_place by L labs [])) ≡ arrivals_at (arrival_over by) b labs L
+  pub arrivals-in : (b w : ℕ) (labs : List (Option (Down S V))) (L : Layer) → Standing labs L → Narrow L → length L ≤ w
+      → flat_map (from_node by (suc b)) (nodes_in (table w (record_of_place by L labs []))) ≡ arrivals_at (arrival_over by) b labs L
   unfolding arrivals_at
-  arrivals-in b w [] L g n h = unlabelled b w L
-  arrivals-in b w (o ∷ labs) [] g n h = none_in b w (o ∷ labs)
-  arrivals-in b zero (o ∷ labs) (nd ∷ L) g n h = absurd (omega arith)
-  arrivals-in b (suc w) (None ∷ labs) (nd ∷ L) g n h =
-      ap₂ (λ xs ys. xs ++ ys) (from-unused (suc b) (made nd (blank_label by.rule by.tally)) refl) (arrivals-in b w labs L (λ a. g (suc a)) (λ a. n (suc a)) (omega arith))
-  arrivals-in b (suc w) (Some l ∷ labs) (nd ∷ L) g n h =
-      ap₂ (λ xs ys. xs ++ ys) (from-used b nd l (n 0) (g 0 l refl)) (arrivals-in b w labs L (λ a. g (suc a)) (λ a. n (suc a)) (omega arith))
+  arrivals-in b w [] [] s n h = none_in b w []
+  arrivals-in b w (o ∷ labs) [] s n h = none_in b w (o ∷ labs)
+  arrivals-in b w [] (nd ∷ L) s n h = let e = (s 0 (omega arith)).1 in absurd cc
+  arrivals-in b w (None ∷ labs) (nd ∷ L) s n h = let e = (s 0 (omega arith)).1 in absurd cc
+  arrivals-in b zero (Some l ∷ labs) (nd ∷ L) s n h = absurd (omega arith)
+  arrivals-in b (suc w) (Some l ∷ labs) (nd ∷ L) s n h =
+      let here = s 0 (omega arith) in
+      let same : l ≡ here.0 = cc in
+      let used : eqb l.lasts 0 ≡ false = rw same here.2 in
+      rw used (ap₂ (λ xs ys. xs ++ ys) (from-used b nd l (n 0) used) (arrivals-in b w labs L (λ a lt. s (suc a) (omega arith)) (λ a. n (suc a)) (omega arith)))
 
   pub gathered-is : (xs : List (Down S V)) → gathered by.rule by.tally xs ≡ or_blank by.rule by.tally (gather (merge by.rule by.tally) xs)
   unfolding gathered gather

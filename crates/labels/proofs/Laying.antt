@@ -1,9 +1,9 @@
 -- The two passes over records with the arcs of a net leave the net laid out with its labels.
-use Rattle.std.proofs.Common.{◌≡◌, ℕ, zero, suc, ◌+◌, ◌-◌, ◌*◌, ◌<◌, ◌≤◌, Bool, false, cond, eqb, List, [], ◌∷◌, ◌++◌, map, length, get_or, take, drop, Some, None, fold, Option, sym, refl, ap, ◌∙◌, subst, ap₂, inl, ⊎_elim, append_assoc, suc-mul, suc-add, zero-add, zero-mul, add-one, arith, take-append-drop}
+use Rattle.std.proofs.Common.{◌≡◌, ℕ, zero, suc, ◌+◌, ◌-◌, ◌*◌, ◌<◌, ◌≤◌, Bool, true, false, cond, eqb, List, [], ◌∷◌, ◌++◌, map, length, get_or, take, drop, Some, None, fold, Option, sym, refl, ap, ◌∙◌, subst, ap₂, inl, ⊎_elim, append_assoc, suc-mul, suc-add, zero-add, zero-mul, add-one, arith}
 use Rattle.std.specs.List.{range_with_len, flat_map}
 use Rattle.std.proofs.lemmas.List.FromFn.{get_or-map-range_with_len, length-map-range_with_len}
 use Rattle.std.proofs.lemmas.List.{same_lists, get_or-map, get_or_past, length-map, drop-drop, drop_at, take_at, length-take-le, length-drop}
-use Rattle.std.proofs.lemmas.Bool.{cases_lt, ne_eqb}
+use Rattle.std.proofs.lemmas.Bool.{cases_lt, cond_both, ne_eqb}
 use Rattle.layers.specs.declared.node.Arcs.{Arcs}
 use Rattle.layers.specs.declared.node.Node.{Node}
 use Rattle.layers.specs.declared.node.Down.{Down}
@@ -12,17 +12,15 @@ use Rattle.layers.specs.Net.{table, Outs, Layer, Net, node, target, width}
 use Rattle.layers.specs.Flow.{arrivals_at, gather, next, cons_if_some, climbs_of, up}
 use Rattle.layers.specs.Lawful.{IsRanged, IsTied, IsRoomy, IsEven, IsLawful}
 use Rattle.layers.specs.Labels.{arrival_over, merge, first_label, first_labels, labels_next, climb, merge_up, no_up, ups, blank_label}
-use Rattle.layers.specs.Records.{arcs_read, laid_arcs, arcs_at, padded_targets, record_of_place, labelled_from, labelled_records}
+use Rattle.layers.specs.Records.{is_used, nodes_in, arcs_read, laid_arcs, arcs_at, padded_targets, record_of_place, labelled_from, labelled_records}
 use Rattle.layers.proofs.Flows.{table_at, Among, ins-from}
-use Rattle.layers.proofs.Bridge.{table-long}
+use Rattle.layers.proofs.Bridge.{table-long, labels_full, ups-full}
 use Rattle.layers.specs.Calls.{records_with}
-use Rattle.layers.proofs.Lively.{ups-full}
-use Rattle.labels.specs.Passes.{part, over, with_down, with_up, blank_node, by_door, from_node, arrivals, gathered, labelled, next_layer, layer_done, numbered, up_by, ups_of, gathered_up, risen, layer_up, end_cleared, cleared, first_layer, begun, pass_up, relabelled}
+use Rattle.labels.specs.Passes.{with_down, with_up, blank_node, by_door, from_node, arrivals, gathered, labelled, next_layer, labelled_after, numbered, up_by, ups_of, gathered_up, risen, risen_from, cleared, first_layer, bare, pass_down, pass_up, relabelled}
 use Rattle.std.proofs.lemmas.Nat.{pow_pos}
 use Rattle.labels.proofs.Folds.{folded_keeps}
 use Rattle.labels.proofs.Scattered.{or_some}
-use Rattle.labels.proofs.Inward.{Lasting, Narrow, arrivals-in, gathered-is}
-use Rattle.labels.proofs.Suffixes.{flatDown, down-last, down-front, down_is, flatUp, up-last, up-front, up_is}
+use Rattle.labels.proofs.Inward.{Standing, Narrow, arrivals-in, gathered-is}
 use Rattle.labels.proofs.Earlies.{first-long}
 use Rattle.layers.proofs.Model.{or_blank, or_no_up}
 use Rattle.layers.specs.Settings.{Setting}
@@ -31,10 +29,7 @@ use Rattle.layers.specs.Settings.{Setting}
 pub table-list : {X : Type 0} (m : ℕ) (f : ℕ → X) (xs : List X) → length xs ≡ m → ((k : ℕ) (d : X) → k < m → get_or xs k d ≡ f k) → xs ≡ table m f
 table-list m f xs e h = same_lists xs (table m f) (e ∙ sym (table-long m f)) (λ k d lt. h k d (omega arith) ∙ sym (table_at m k f d (omega arith)))
 
--- ---- records without their upward sets, and arcs alone
-abbrev pub bare : {S V : Type 0} → Node S V → Node S V
-bare x = with_up x no_up
-
+-- ---- arcs alone
 abbrev pub arcs_of : {S V : Type 0} → Node S V → Arcs
 arcs_of x = x.arcs
 
@@ -80,12 +75,27 @@ arranged-of w (L ∷ Ls) xs h e =
       arranged-of w Ls (drop w xs) (omega (arith, both, length-drop w xs)) (sym (drop_at A B w long) ∙ ap (drop w) whole ∙ drop_at (table w g) (laid_arcs w Ls) w (table-long w g)),
     )
 
+-- what stands past k layers of w and the end
+abbrev past : {X : Type 0} → ℕ → ℕ → List X → List X
+past w zero xs = drop 1 xs
+past w (suc k) xs = past w k (drop w xs)
+
+past-is : {X : Type 0} (w k : ℕ) (xs : List X) → past w k xs ≡ drop (k * w + 1) xs
+past-is w zero xs = let one : 1 ≡ 0 * w + 1 = omega (arith, zero-mul w) in ap (λ (k : ℕ). drop k xs) one
+past-is w (suc k) xs =
+    let both : w + (k * w + 1) ≡ suc k * w + 1 = omega (arith, suc-mul k w) in
+    past-is w k (drop w xs) ∙ drop-drop (k * w + 1) w xs ∙ ap (λ (i : ℕ). drop i xs) both
+
 -- ---- down
 module _ {S V : Type 0} (by : Setting S V) where
-  bare-from : (t : ℕ) (us : List (Node S V)) → flat_map (from_node by t) (map bare us) ≡ flat_map (from_node by t) us
+  cut-both : {X Y : Type 0} (F : X → List Y) (q : Bool) (xs ys : List X) → flat_map F xs ≡ flat_map F ys → flat_map F (cond q xs []) ≡ flat_map F (cond q ys [])
+  cut-both F true xs ys e = e
+  cut-both F false xs ys e = refl
+
+  bare-from : (t : ℕ) (us : List (Node S V)) → flat_map (from_node by t) (nodes_in (map bare us)) ≡ flat_map (from_node by t) (nodes_in us)
   unfolding from_node by_door
   bare-from t [] = refl
-  bare-from t (u ∷ us) = ap (λ ys. from_node by t u ++ ys) (bare-from t us)
+  bare-from t (u ∷ us) = cut-both (from_node by t) (is_used u) (bare u ∷ nodes_in (map bare us)) (u ∷ nodes_in us) (ap (λ ys. from_node by t u ++ ys) (bare-from t us))
 
   in-nothing : (b m : ℕ) (labs : List (Option (Down S V))) (L : Layer) → IsRanged L m → m ≤ b → arrivals_at (arrival_over by) b labs L ≡ []
   in-nothing b m labs L g h = go (arrivals_at (arrival_over by) b labs L) refl
@@ -113,7 +123,7 @@ module _ {S V : Type 0} (by : Setting S V) where
           ∙ ap (or_blank by.rule by.tally) (sym (get_or_past (table m (λ b. gather (merge by.rule by.tally) (arrivals_at (arrival_over by) b labs L))) b None (omega (arith, table-long m (λ b. gather (merge by.rule by.tally) (arrivals_at (arrival_over by) b labs L))))))
 
   -- the m records after the layer us
-  next-block : (w m cnt : ℕ) (labs : List (Option (Down S V))) (L M : Layer) (us vs : List (Node S V)) → Lasting by labs → Narrow by L → length L ≤ w → IsRanged L cnt
+  next-block : (w m cnt : ℕ) (labs : List (Option (Down S V))) (L M : Layer) (us vs : List (Node S V)) → Standing by labs L → Narrow by L → length L ≤ w → IsRanged L cnt
       → map bare us ≡ table w (record_of_place by L labs []) → map arcs_of vs ≡ table m (arcs_at M)
       → map bare (next_layer by us vs) ≡ table m (record_of_place by M (labels_next by labs L cnt) [])
   unfolding next_layer labelled
@@ -121,7 +131,7 @@ module _ {S V : Type 0} (by : Setting S V) where
       table-list m (record_of_place by M (labels_next by labs L cnt) []) (map bare (map f (range_with_len 0 (length vs)))) (long ∙ many) at_each
     where
       f : ℕ → Node S V
-      f b = with_down (get_or vs b (blank_node by.rule by.tally)) (gathered by.rule by.tally (arrivals by (b + 1) us))
+      f b = with_down (get_or vs b (blank_node by.rule by.tally)) (gathered by.rule by.tally (arrivals by (b + 1) (nodes_in us)))
 
       long : length (map bare (map f (range_with_len 0 (length vs)))) ≡ length vs
       long = length-map (map f (range_with_len 0 (length vs))) bare ∙ length-map-range_with_len f 0 (length vs)
@@ -132,10 +142,10 @@ module _ {S V : Type 0} (by : Setting S V) where
       arcs-same : (b : ℕ) → b < m → (get_or vs b (blank_node by.rule by.tally)).arcs ≡ arcs_at M b
       arcs-same b h = sym (get_or-map arcs_of vs b (blank_node by.rule by.tally) (arcs_at M b) (omega (arith, many))) ∙ ap (λ xs. get_or xs b (arcs_at M b)) ev ∙ table_at m b (arcs_at M) (arcs_at M b) h
 
-      label_same : (b : ℕ) → gathered by.rule by.tally (arrivals by (b + 1) us) ≡ or_blank by.rule by.tally (get_or (labels_next by labs L cnt) b None)
+      label_same : (b : ℕ) → gathered by.rule by.tally (arrivals by (b + 1) (nodes_in us)) ≡ or_blank by.rule by.tally (get_or (labels_next by labs L cnt) b None)
       label_same b =
-          ap (λ (t : ℕ). gathered by.rule by.tally (arrivals by t us)) (add-one b)
-          ∙ ap (gathered by.rule by.tally) (sym (bare-from (suc b) us) ∙ ap (flat_map (from_node by (suc b))) eu ∙ arrivals-in by b w labs L g n fits)
+          ap (λ (t : ℕ). gathered by.rule by.tally (arrivals by t (nodes_in us))) (add-one b)
+          ∙ ap (gathered by.rule by.tally) (sym (bare-from (suc b) us) ∙ ap (λ xs. flat_map (from_node by (suc b)) (nodes_in xs)) eu ∙ arrivals-in by b w labs L g n fits)
           ∙ gathered-is by (arrivals_at (arrival_over by) b labs L) ∙ next-label b cnt labs L ranged
 
       at_each : (b : ℕ) (d : Node S V) → b < m → get_or (map bare (map f (range_with_len 0 (length vs)))) b d ≡ record_of_place by M (labels_next by labs L cnt) [] b
@@ -157,14 +167,12 @@ module _ {S V : Type 0} (by : Setting S V) where
           let same : fold (merge by.rule by.tally) x xs ≡ l = cc in
           subst (λ (y : Down S V). 0 < y.lasts) same all
 
-  lasting-next : (labs : List (Option (Down S V))) (L : Layer) (m : ℕ) → Lasting by (labels_next by labs L m)
+  standing-next : (labs : List (Option (Down S V))) (L M : Layer) (Ls : Net) → length M ≤ by.width → IsTied (L ∷ M ∷ Ls) → Standing by labs L → Standing by (labels_next by labs L (length M)) M
   unfolding labels_next next
-  lasting-next labs L m a l e =
+  standing-next labs L M Ls room tied s b h =
       let f : ℕ → Option (Down S V) = λ b. gather (merge by.rule by.tally) (arrivals_at (arrival_over by) b labs L) in
-      ⊎_elim
-      (λ h. ne_eqb l.lasts 0 (λ z. omega (arith, some-last a labs L l (sym (table_at m a f None h) ∙ e))))
-      (λ h. let n : get_or (table m f) a None ≡ None = get_or_past (table m f) a None (omega (arith, table-long m f)) in let z : ◌≡◌ {A = ℕ} 0 1 = cc in absurd (omega arith))
-      (cases_lt a m)
+      let l = labels_full by (omega arith) labs L M Ls tied (λ a lt. ((s a lt).0, (s a lt).1)) b h in
+      (l.0, l.1, ne_eqb l.0.lasts 0 (λ z. omega (arith, some-last b labs L l.0 (sym (table_at (length M) b f None h) ∙ l.1))))
 
   -- the labels of the net, over the records
   abbrev Half : List (Option (Down S V)) → Net → List (Node S V) → Type 0
@@ -174,63 +182,31 @@ module _ {S V : Type 0} (by : Setting S V) where
   half-long : (w : ℕ) (f : ℕ → Node S V) (us : List (Node S V)) → map bare us ≡ table w f → length us ≡ w
   half-long w f us e = sym (length-map us bare) ∙ ap length e ∙ table-long w f
 
-  -- after one step: the layer as it was, the next labelled, and what follows
-  step-front : (m : ℕ) (xs : List (Node S V)) → length (take by.width xs) ≡ by.width → take by.width (layer_done by 0 m by.width xs) ≡ take by.width xs
-  unfolding layer_done
-  step-front m xs e = take_at (take by.width xs) (next_layer by (take by.width xs) (part by.width m xs) ++ drop (by.width + length (next_layer by (take by.width xs) (part by.width m xs))) xs) by.width e
-
-  step_back : (m : ℕ) (xs : List (Node S V)) → length (take by.width xs) ≡ by.width → drop by.width (layer_done by 0 m by.width xs) ≡ next_layer by (take by.width xs) (part by.width m xs) ++ drop (by.width + length (next_layer by (take by.width xs) (part by.width m xs))) xs
-  unfolding layer_done
-  step_back m xs e = drop_at (take by.width xs) (next_layer by (take by.width xs) (part by.width m xs) ++ drop (by.width + length (next_layer by (take by.width xs) (part by.width m xs))) xs) by.width e
-
-  down-laid : (k : ℕ) (labs : List (Option (Down S V))) (L : Layer) (Ls : Net) (xs : List (Node S V)) → length Ls ≡ k → Good by.width (L ∷ Ls) → Lasting by labs
+  down-laid : (k : ℕ) (labs : List (Option (Down S V))) (L : Layer) (Ls : Net) (xs : List (Node S V)) → length Ls ≡ k → Good by.width (L ∷ Ls) → IsTied (L ∷ Ls) → Standing by labs L
       → map bare (take by.width xs) ≡ table by.width (record_of_place by L labs []) → Arranged by.width Ls (drop by.width xs)
-      → Half labs (L ∷ Ls) (flatDown by k xs) × (drop (suc k * by.width + 1) (flatDown by k xs) ≡ drop (suc k * by.width + 1) xs)
-  down-laid zero labs L [] xs k good last first_label arr =
-      let us : length (take by.width xs) ≡ by.width = half-long by.width (record_of_place by L labs []) (take by.width xs) first_label in
-      let N = next_layer by (take by.width xs) (part by.width 1 xs) in
-      let nb : map bare N ≡ table 1 (record_of_place by [] (labels_next by labs L 1) []) = next-block by.width 1 1 labs L [] (take by.width xs) (part by.width 1 xs) last good.0 good.1 good.2 first_label arr in
-      let nl : length N ≡ 1 = half-long 1 (record_of_place by [] (labels_next by labs L 1) []) N nb in
-      let one : flatDown by 0 xs ≡ layer_done by 0 1 by.width xs = down-last by xs in
-      let back : drop by.width (flatDown by 0 xs) ≡ N ++ drop (by.width + length N) xs = ap (drop by.width) one ∙ step_back 1 xs us in (
-        (
-          ap (λ ys. map bare (take by.width ys)) one ∙ ap (map bare) (step-front 1 xs us) ∙ first_label,
-          ap (λ ys. map bare (take 1 ys)) back ∙ ap (map bare) (take_at N (drop (by.width + length N) xs) 1 nl) ∙ nb,
-        ),
-        (let e : suc 0 * by.width + 1 ≡ by.width + 1 = omega (arith, suc-mul 0 by.width, zero-mul by.width) in
-            ap (λ (i : ℕ). drop i (flatDown by 0 xs)) e ∙ sym (drop-drop 1 by.width (flatDown by 0 xs)) ∙ ap (drop 1) back ∙ drop_at N (drop (by.width + length N) xs) 1 nl ∙ ap (λ (i : ℕ). drop i xs) (ap (λ (i : ℕ). by.width + i) nl ∙ sym e)),
-      )
-  down-laid zero labs L (M ∷ Ls) xs k good last first_label arr = absurd (omega arith)
-  down-laid (suc k) labs L [] xs e good last first_label arr = absurd (omega arith)
-  down-laid (suc k) labs L (M ∷ Ls) xs e good last first_label arr =
+      → Half labs (L ∷ Ls) (labelled_after by k xs) × (past by.width (suc k) (labelled_after by k xs) ≡ past by.width (suc k) xs)
+  unfolding labelled_after
+  down-laid zero labs L [] xs k good tied last here arr =
+      let us = take by.width xs in
+      let N = next_layer by us (take 1 (drop by.width xs)) in
+      let D = drop 1 (drop by.width xs) in
+      let nb = next-block by.width 1 1 labs L [] us (take 1 (drop by.width xs)) last good.0 good.1 good.2 here arr in
+      let us-long = half-long by.width (record_of_place by L labs []) us here in
+      let n-long = half-long 1 (record_of_place by [] (labels_next by labs L 1) []) N nb in
+      rw (take_at us (N ++ D) by.width us-long, drop_at us (N ++ D) by.width us-long, take_at N D 1 n-long, drop_at N D 1 n-long) ((here, nb), refl)
+  down-laid zero labs L (M ∷ Ls) xs k good tied last here arr = absurd (omega arith)
+  down-laid (suc k) labs L [] xs e good tied last here arr = absurd (omega arith)
+  down-laid (suc k) labs L (M ∷ Ls) xs e good tied last here arr =
       let labs' = labels_next by labs L (length M) in
-      let us : length (take by.width xs) ≡ by.width = half-long by.width (record_of_place by L labs []) (take by.width xs) first_label in
-      let N = next_layer by (take by.width xs) (part by.width by.width xs) in
-      let nb : map bare N ≡ table by.width (record_of_place by M labs' []) = next-block by.width by.width (length M) labs L M (take by.width xs) (part by.width by.width xs) last good.0 good.1 good.2 first_label arr.0 in
-      let nl : length N ≡ by.width = half-long by.width (record_of_place by M labs' []) N nb in
-      let Y = layer_done by 0 by.width by.width xs in
-      let D = drop (by.width + length N) xs in
-      let front : take by.width Y ≡ take by.width xs = step-front by.width xs us in
-      let back : drop by.width Y ≡ N ++ D = step_back by.width xs us in
-      let far : D ≡ drop by.width (drop by.width xs) = ap (λ (i : ℕ). drop (by.width + i) xs) nl ∙ sym (drop-drop by.width by.width xs) in
-      let Z = flatDown by k (drop by.width Y) in
-      let same : flatDown by (suc k) xs ≡ take by.width Y ++ Z = down-front by k xs (ap length front ∙ us) in
-      let long : length (take by.width Y) ≡ by.width = ap length front ∙ us in
-      let ih = down-laid k labs' M Ls (drop by.width Y) (omega arith) good.3 (lasting-next labs L (length M))
-      (ap (λ ys. map bare (take by.width ys)) back ∙ ap (map bare) (take_at N D by.width nl) ∙ nb)
-      (subst (Arranged by.width Ls) (sym (ap (drop by.width) back ∙ drop_at N D by.width nl ∙ far)) arr.1) in (
-        (
-          ap (λ ys. map bare (take by.width ys)) same ∙ ap (map bare) (take_at (take by.width Y) Z by.width long ∙ front) ∙ first_label,
-          subst (Half labs' (M ∷ Ls)) (sym (ap (drop by.width) same ∙ drop_at (take by.width Y) Z by.width long)) ih.0,
-        ),
-        (let m = suc k * by.width + 1 in
-            let q = k * by.width + 1 in
-            let em : suc (suc k) * by.width + 1 ≡ by.width + m = omega (arith, suc-mul (suc k) by.width) in
-            let eq : m ≡ by.width + q = omega (arith, suc-mul k by.width) in
-            let et : by.width + length N + q ≡ suc (suc k) * by.width + 1 = omega (arith, nl, suc-mul (suc k) by.width, suc-mul k by.width) in
-            ap₂ (λ (i : ℕ) ys. drop i ys) em same ∙ sym (drop-drop m by.width (take by.width Y ++ Z)) ∙ ap (drop m) (drop_at (take by.width Y) Z by.width long) ∙ ih.1
-            ∙ ap₂ (λ (i : ℕ) ys. drop i ys) eq back ∙ sym (drop-drop q by.width (N ++ D)) ∙ ap (drop q) (drop_at N D by.width nl) ∙ drop-drop q (by.width + length N) xs ∙ ap (λ (i : ℕ). drop i xs) et),
-      )
+      let us = take by.width xs in
+      let N = next_layer by us (take by.width (drop by.width xs)) in
+      let D = drop by.width (drop by.width xs) in
+      let nb = next-block by.width by.width (length M) labs L M us (take by.width (drop by.width xs)) last good.0 good.1 good.2 here arr.0 in
+      let us-long = half-long by.width (record_of_place by L labs []) us here in
+      let n-long = half-long by.width (record_of_place by M labs' []) N nb in
+      let Z = labelled_after by k (N ++ D) in
+      let ih = down-laid k labs' M Ls (N ++ D) (omega arith) good.3 tied.3 (standing-next labs L M Ls good.3.1 tied last) (rw (take_at N D by.width n-long) nb) (rw (drop_at N D by.width n-long) arr.1) in
+      rw (take_at us Z by.width us-long, drop_at us Z by.width us-long) ((here, ih.0), ih.1 ∙ ap (past by.width k) (drop_at N D by.width n-long))
 
 -- ---- up
 gathered_up-is : (xs : List Up) → gathered_up xs ≡ or_no_up (gather merge_up xs)
@@ -303,17 +279,22 @@ linked us vs b d x h e q =
     )
 
 module _ {S V : Type 0} (by : Setting S V) where
-  node-ups : (L : Layer) (Ls : Net) (labs : List (Option (Down S V))) (vs : List (Node S V)) (a : ℕ) → length (node L a) ≤ 16 → ((j b : ℕ) → target (node L a) j ≡ suc b → Linked (ups Ls) vs b)
+  node-ups : (L : Layer) (Ls : Net) (labs : List (Option (Down S V))) (vs : List (Node S V)) (a : ℕ) → Standing by labs L → length (node L a) ≤ 16 → ((j b : ℕ) → target (node L a) j ≡ suc b → Linked (ups Ls) vs b)
       → gathered_up (ups_of vs (record_of_place by L labs [] a)) ≡ or_no_up (get_or (ups (L ∷ Ls)) a None)
-  unfolding ups_of up_by ups up climbs_of gather
-  node-ups L Ls labs vs a h g =
+  unfolding ups_of up_by ups up climbs_of gather gathered_up
+  node-ups L Ls labs vs a s h g =
       let nd = node L a in
       let f : Outs → Option Up = λ nd. gather merge_up (climbs_of climb (ups Ls) 1 nd) in
+      let U = map f L in
+      let climbs = flat_map (climbing vs (padded_targets nd)) (range_with_len 0 16) in
+      let flow : gathered_up climbs ≡ or_no_up (f nd) =
       ap gathered_up (doors-up (ups Ls) vs nd (padded_targets nd) 0 16 h (λ i lt. ap (λ (k : ℕ). get_or (padded_targets nd) k 0) (zero-add i) ∙ table_at 16 i (λ k. get_or nd k 0) 0 lt) (λ i b e. g (suc i) b e))
-      ∙ gathered_up-is (climbs_of climb (ups Ls) 1 nd)
-      ∙ ⊎_elim
-      (λ lt. ap or_no_up (sym (get_or-map f L a [] None lt)))
-      (λ ge. ap (λ x. or_no_up (gather merge_up (climbs_of climb (ups Ls) 1 x))) (get_or_past L a [] ge) ∙ ap or_no_up (sym (get_or_past (map f L) a None (omega (arith, length-map L f)))))
+      ∙ gathered_up-is (climbs_of climb (ups Ls) 1 nd) in
+      ⊎_elim
+      (λ lt. let l = s a lt in rw (l.1, l.2) (flow ∙ ap or_no_up (sym (get_or-map f L a [] None lt))))
+      (λ ge.
+      let none : get_or U a None ≡ None = get_or_past U a None (omega (arith, length-map L f)) in
+      rw none (cond_both (eqb (or_blank by.rule by.tally (get_or labs a None)).lasts 0) [] climbs (λ ys. gathered_up ys ≡ no_up) (λ _. refl) (λ _. flow ∙ ap (λ x. or_no_up (f x)) (get_or_past L a [] ge))))
       (cases_lt a (length L))
 
   risen-block : (L : Layer) (labs : List (Option (Down S V))) (U : List (Option Up)) (us vs : List (Node S V)) → map bare us ≡ table by.width (record_of_place by L labs [])
@@ -330,56 +311,36 @@ module _ {S V : Type 0} (by : Setting S V) where
       ∙ ap (λ (y : Node S V). with_up y (gathered_up (ups_of vs y))) is
       ∙ ap (with_up (record_of_place by L labs [] a)) (g a))
 
-  up_first : (us Z vs : List (Node S V)) (m : ℕ) → length us ≡ by.width → take m Z ≡ vs → layer_up 0 by.width by.width m (us ++ Z) ≡ map (risen vs) us ++ Z
-  unfolding layer_up
-  up_first us Z vs m e t =
-      ap₂ (λ a b. over 0 (map (risen a) b) (us ++ Z)) (ap (take m) (drop_at us Z by.width e) ∙ t) (take_at us Z by.width e)
-      ∙ ap (λ (k : ℕ). map (risen vs) us ++ drop k (us ++ Z)) (zero-add (length (map (risen vs) us)) ∙ length-map us (risen vs) ∙ e)
-      ∙ ap (λ ys. map (risen vs) us ++ ys) (drop_at us Z by.width e)
-
-  up-laid : (k : ℕ) (labs : List (Option (Down S V))) (L : Layer) (Ls : Net) (ys : List (Node S V)) → length Ls ≡ k → Good by.width (L ∷ Ls) → IsTied (L ∷ Ls) → Half by labs (L ∷ Ls) ys
-      → flatUp by.width k ys ≡ labelled_from by labs (L ∷ Ls) ++ drop (suc k * by.width + 1) ys
-  unfolding labelled_from ups up
-  up-laid zero labs L [] ys e good tied half =
-      let labs' = labels_next by labs L 1 in
+  up-laid : (k : ℕ) (labs : List (Option (Down S V))) (L : Layer) (Ls : Net) (ys : List (Node S V)) → length Ls ≡ k → Good by.width (L ∷ Ls) → IsTied (L ∷ Ls) → Standing by labs L → Half by labs (L ∷ Ls) ys
+      → risen_from by.width k ys ≡ labelled_from by labs (L ∷ Ls) ++ past by.width (suc k) ys
+  unfolding labelled_from ups up risen_from
+  up-laid zero labs L [] ys e good tied s half =
       let us = take by.width ys in
-      let many : length us ≡ by.width = half-long by by.width (record_of_place by L labs []) us half.0 in
-      let E = table 1 (record_of_place by [] labs' []) in
-      let rest = drop (by.width + 1) ys in
-      let cleared : end_cleared by.width ys ≡ us ++ (E ++ rest) = ap (λ b. take by.width ys ++ (b ++ drop (by.width + length b) ys)) half.1 in
-      let last : suc 0 * by.width + 1 ≡ by.width + 1 = omega (arith, suc-mul 0 by.width, zero-mul by.width) in
-      up-last by.width ys ∙ ap (layer_up 0 by.width by.width 1) cleared
-      ∙ up_first us (E ++ rest) E 1 many (take_at E rest 1 refl)
-      ∙ ap (λ xs. xs ++ (E ++ rest)) (risen-block L labs (ups (L ∷ [])) us E half.0 (λ a. node-ups L [] labs E a (good.0 a) (λ j b t. let z : b ≡ 0 = omega (arith, tied a j b t) in
+      let E = table 1 (record_of_place by [] (labels_next by labs L 1) []) in
+      let D = drop 1 (drop by.width ys) in
+      rw half.1
+      (ap (λ xs. xs ++ (E ++ D)) (risen-block L labs (ups (L ∷ [])) us E half.0 (λ a. node-ups L [] labs E a s (good.0 a) (λ j b t. let z : b ≡ 0 = omega (arith, tied a j b t) in
       linked (ups []) E b (blank_node by.rule by.tally) no_up (omega (arith, z)) (ap (λ (i : ℕ). get_or {A = Option Up} (Some no_up ∷ []) i None) z) (ap (λ (i : ℕ). (get_or E i (blank_node by.rule by.tally)).label.up) z))))
-      ∙ sym (append_assoc (table by.width (record_of_place by L labs (ups (L ∷ [])))) E rest)
-      ∙ ap (λ (i : ℕ). (table by.width (record_of_place by L labs (ups (L ∷ []))) ++ E) ++ drop i ys) (sym last)
-  up-laid zero labs L (M ∷ Ls) ys e good tied half = absurd (omega arith)
-  up-laid (suc k) labs L [] ys e good tied half = absurd (omega arith)
-  up-laid (suc k) labs L (M ∷ Ls) ys e good tied half =
+      ∙ sym (append_assoc (table by.width (record_of_place by L labs (ups (L ∷ [])))) E D))
+  up-laid zero labs L (M ∷ Ls) ys e good tied s half = absurd (omega arith)
+  up-laid (suc k) labs L [] ys e good tied s half = absurd (omega arith)
+  up-laid (suc k) labs L (M ∷ Ls) ys e good tied s half =
       let labs' = labels_next by labs L (length M) in
       let us = take by.width ys in
-      let zs = drop by.width ys in
-      let many : length us ≡ by.width = half-long by by.width (record_of_place by L labs []) us half.0 in
       let U = ups (M ∷ Ls) in
       let VS = table by.width (record_of_place by M labs' U) in
       let X = labelled_from by (labels_next by labs' M (width Ls)) Ls in
-      let later = drop (suc k * by.width + 1) zs in
-      let ih : flatUp by.width k zs ≡ (VS ++ X) ++ later = up-laid k labs' M Ls zs (omega arith) good.3 tied.3 half.1 in
+      let later = past by.width (suc k) (drop by.width ys) in
+      let ih : risen_from by.width k (drop by.width ys) ≡ (VS ++ X) ++ later = up-laid k labs' M Ls (drop by.width ys) (omega arith) good.3 tied.3 (standing-next by labs L M Ls good.3.1 tied s) half.1 in
       let front : take by.width ((VS ++ X) ++ later) ≡ VS = ap (take by.width) (append_assoc VS X later) ∙ take_at VS (X ++ later) by.width (table-long by.width (record_of_place by M labs' U)) in
-      let end : later ≡ drop (suc (suc k) * by.width + 1) ys = let p : by.width + (suc k * by.width + 1) ≡ suc (suc k) * by.width + 1 = omega (arith, suc-mul (suc k) by.width) in drop-drop (suc k * by.width + 1) by.width ys ∙ ap (λ (i : ℕ). drop i ys) p in
-      ap (flatUp by.width (suc k)) (sym (take-append-drop by.width ys))
-      ∙ up-front by.width k us zs many
-      ∙ ap (λ x. layer_up 0 by.width by.width by.width (us ++ x)) ih
-      ∙ up_first us ((VS ++ X) ++ later) VS by.width many front
-      ∙ ap (λ x. x ++ ((VS ++ X) ++ later)) (risen-block L labs (ups (L ∷ M ∷ Ls)) us VS half.0 (λ a. node-ups L (M ∷ Ls) labs VS a (good.0 a) (λ j b t.
+      rw (ih, front)
+      (ap (λ x. x ++ ((VS ++ X) ++ later)) (risen-block L labs (ups (L ∷ M ∷ Ls)) us VS half.0 (λ a. node-ups L (M ∷ Ls) labs VS a s (good.0 a) (λ j b t.
       let lt : b < length M = tied.0 a j b t in
       let room : b < by.width = omega (arith, good.3.1) in
       let x = ups-full M Ls tied.2 tied.3 b lt in
       linked U VS b (blank_node by.rule by.tally) x.0 (omega (arith, table-long by.width (record_of_place by M labs' U))) x.1
       (ap (λ (v : Node S V). v.label.up) (table_at by.width b (record_of_place by M labs' U) (blank_node by.rule by.tally) room) ∙ ap or_no_up x.1))))
-      ∙ sym (append_assoc (table by.width (record_of_place by L labs (ups (L ∷ M ∷ Ls)))) (VS ++ X) later)
-      ∙ ap (λ x. (table by.width (record_of_place by L labs (ups (L ∷ M ∷ Ls))) ++ (VS ++ X)) ++ x) end
+      ∙ sym (append_assoc (table by.width (record_of_place by L labs (ups (L ∷ M ∷ Ls)))) (VS ++ X) later))
 
   -- ---- both passes
   first_block : (L : Layer) (us : List (Node S V)) → map arcs_of us ≡ table by.width (arcs_at L) → map bare (first_layer by.rule by.tally us) ≡ table by.width (record_of_place by L (first_labels by.rule by.tally) [])
@@ -401,31 +362,23 @@ module _ {S V : Type 0} (by : Setting S V) where
       at_first (u ∷ us) zero d h = refl
       at_first (u ∷ us) (suc a) d h = at_rest us a d (omega arith)
 
-  lasting-firsts : Lasting by (first_labels by.rule by.tally)
-  lasting-firsts zero l e = let is : first_label by.rule by.tally ≡ l = cc in subst (λ (y : Down S V). eqb y.lasts 0 ≡ false) is refl
-  lasting-firsts (suc a) l e = let z : ◌≡◌ {A = ℕ} 0 1 = cc in absurd (omega arith)
+  standing-first : (L : Layer) → length L ≡ 1 → Standing by (first_labels by.rule by.tally) L
+  standing-first L e zero lt = (first_label by.rule by.tally, refl, refl)
+  standing-first L e (suc a) lt = absurd (omega arith)
 
-  pub relabelled-laid : (k : ℕ) (L : Layer) (Ls : Net) (xs : List (Node S V)) → by.round.n ≡ suc k → length Ls ≡ k → Good by.width (L ∷ Ls) → IsTied (L ∷ Ls) → Arranged by.width (L ∷ Ls) xs
+  pub relabelled-laid : (k : ℕ) (L : Layer) (Ls : Net) (xs : List (Node S V)) → by.round.n ≡ suc k → length Ls ≡ k → length L ≡ 1 → Good by.width (L ∷ Ls) → IsTied (L ∷ Ls) → Arranged by.width (L ∷ Ls) xs
       → relabelled by xs ≡ labelled_records by (L ∷ Ls) ++ drop (by.round.n * by.width + 1) xs
-  unfolding relabelled labelled_records begun
-  relabelled-laid k L Ls xs en el good tied arr =
+  unfolding relabelled labelled_records pass_down pass_up
+  relabelled-laid k L Ls xs en el first good tied arr =
       let us = take by.width xs in
-      let many : length us ≡ by.width = sym (length-map us arcs_of) ∙ ap length arr.0 ∙ table-long by.width (arcs_at L) in
       let F = first_layer by.rule by.tally us in
-      let long : length F ≡ by.width = first-long by.rule by.tally us ∙ many in
-      let B = begun by.rule by.tally by.width xs in
-      let is : B ≡ F ++ drop by.width xs = ap (λ (i : ℕ). F ++ drop i xs) (zero-add (length F) ∙ long) in
-      let front : map bare (take by.width B) ≡ table by.width (record_of_place by L (first_labels by.rule by.tally) []) = ap (λ ys. map bare (take by.width ys)) is ∙ ap (map bare) (take_at F (drop by.width xs) by.width long) ∙ first_block L us arr.0 in
-      let back : drop by.width B ≡ drop by.width xs = ap (drop by.width) is ∙ drop_at F (drop by.width xs) by.width long in
-      let d = down-laid by k (first_labels by.rule by.tally) L Ls B el good lasting-firsts front (subst (Arranged by.width Ls) (sym back) arr.1) in
-      let m = suc k * by.width + 1 in
-      let q = k * by.width + 1 in
-      let em : m ≡ by.width + q = omega (arith, suc-mul k by.width) in
-      let tail : drop m B ≡ drop m xs = ap (λ (i : ℕ). drop i B) em ∙ sym (drop-drop q by.width B) ∙ ap (drop q) back ∙ drop-drop q by.width xs ∙ ap (λ (i : ℕ). drop i xs) (sym em) in
-      ap₂ (λ (n : ℕ) ys. pass_up n by.width ys) en (down_is by k xs en)
-      ∙ up_is by.width (suc k) k (flatDown by k B) refl
-      ∙ up-laid k (first_labels by.rule by.tally) L Ls (flatDown by k B) el good tied d.0
-      ∙ ap (λ ys. labelled_from by (first_labels by.rule by.tally) (L ∷ Ls) ++ ys) (d.1 ∙ tail ∙ ap (λ (n : ℕ). drop (n * by.width + 1) xs) (sym en))
+      let D = drop by.width xs in
+      let long : length F ≡ by.width = first-long by.rule by.tally us ∙ sym (length-map us arcs_of) ∙ ap length arr.0 ∙ table-long by.width (arcs_at L) in
+      let d = down-laid by k (first_labels by.rule by.tally) L Ls (F ++ D) el good tied (standing-first L first) (rw (take_at F D by.width long) (first_block L us arr.0)) (rw (drop_at F D by.width long) arr.1) in
+      let p : by.round.n - 1 ≡ k = omega arith in
+      rw p
+      (up-laid k (first_labels by.rule by.tally) L Ls (labelled_after by k (F ++ D)) el good tied (standing-first L first) d.0
+      ∙ ap (λ ys. labelled_from by (first_labels by.rule by.tally) (L ∷ Ls) ++ ys) (d.1 ∙ ap (past by.width k) (drop_at F D by.width long) ∙ past-is by.width (suc k) xs ∙ ap (λ (n : ℕ). drop (n * by.width + 1) xs) (sym en)))
 
   -- of arcs that a diagram may have
   pub relabelled-lawful : (Ls : Net) (xs : List (Node S V)) → IsLawful by.round.n by.width Ls → Arranged by.width Ls xs → relabelled by xs ≡ records_with by xs Ls
@@ -433,7 +386,7 @@ module _ {S V : Type 0} (by : Setting S V) where
   relabelled-lawful [] xs p arr = let none : 0 ≡ by.round.n = p.deep in absurd (omega (arith, by.round.one))
   relabelled-lawful (L ∷ Ls) xs p arr =
       let deep : suc (length Ls) ≡ by.round.n = p.deep in
-      relabelled-laid (length Ls) L Ls xs (sym deep) refl (good by.round.n by.width (L ∷ Ls) by.round.most p.even p.roomy p.tied) p.tied arr
+      relabelled-laid (length Ls) L Ls xs (sym deep) refl p.one_first (good by.round.n by.width (L ∷ Ls) by.round.most p.even p.roomy p.tied) p.tied arr
 
   -- the same, of the flat list of arcs
   pub relabelled-read : (Ls : Net) (xs : List (Node S V)) → IsLawful by.round.n by.width Ls → by.round.n * by.width + 1 ≤ length xs → arcs_read (take (by.round.n * by.width + 1) xs) ≡ laid_arcs by.width Ls → relabelled by xs ≡ records_with by xs Ls

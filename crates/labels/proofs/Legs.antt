@@ -1,17 +1,56 @@
-use Rattle.std.proofs.Common.{ℕ, ◌+◌, ◌≤◌, Bool, true, false, cond, not, ◌&&◌, eqb, Some, None, Option, unwrap_or, arith}
+-- The least drives so far, and what is no leg
+use Rattle.std.proofs.Common.{◌≡◌, ℕ, ◌+◌, ◌≤◌, ◌≢◌, min, Bool, true, false, cond, not, ◌&&◌, eqb, Some, None, Option, unwrap_or, ap, ◌∙◌, arith}
 use Rattle.std.specs.List.{range_with_len}
 use Rattle.round.specs.declared.table.Round.{Round}
 use Rattle.round.specs.Clock.{drive}
 use Rattle.doors.specs.Sets.{has}
 use Rattle.layers.specs.Labels.{nearest, leg_step, leg}
-use Rattle.labels.proofs.Folds.{folded_keeps}
+use Rattle.labels.specs.Passes.{nearest_of}
+use Rattle.labels.proofs.Folds.{folded_keeps, folded-counting}
 
 picked-most : (t : Bool) (o : Option ℕ) (d : ℕ) → d ≤ 999 → unwrap_or o 0 ≤ 999 → unwrap_or (cond t (nearest o d) o) 0 ≤ 999
 picked-most true None d h p = h
 picked-most true (Some e) d h p = omega arith
 picked-most false o d h p = p
 
+nearest-most : (r : Round) (m j i : ℕ) → unwrap_or (nearest_of r m j i) 0 ≤ 999
+unfolding leg_step
+nearest-most r m j i =
+    folded_keeps (λ o. unwrap_or o 0 ≤ 999) (leg_step r m j) (λ o i h. picked-most (has m i && not (eqb i j)) o (drive r i j) (r.legs i j) h) None (range_with_len 0 i) (omega arith)
+
 pub leg-most : (r : Round) (m j : ℕ) → leg r m j ≤ 999
-unfolding leg leg_step
-leg-most r m j =
-    folded_keeps (λ o. unwrap_or o 0 ≤ 999) (leg_step r m j) (λ o i h. picked-most (has m i && not (eqb i j)) o (drive r i j) (r.legs i j) h) None (range_with_len 0 (r.n + 1)) (omega arith)
+unfolding leg
+leg-most r m j = nearest-most r m j (r.n + 1)
+
+-- ---- 1000 for no drive
+far-step : (o : Option ℕ) (e : Bool) (d : ℕ) → d ≤ 999 → unwrap_or o 0 ≤ 999 → unwrap_or (cond (not e) (nearest o d) o) 1000 ≡ min (unwrap_or o 1000) (cond e 1000 d)
+far-step None true d h p = omega arith
+far-step None false d h p = omega arith
+far-step (Some a) true d h p = omega arith
+far-step (Some a) false d h p = omega arith
+
+pub nearest_with : (r : Round) (m j i : ℕ) → has m i ≡ true → unwrap_or (nearest_of r m j (i + 1)) 1000 ≡ min (unwrap_or (nearest_of r m j i) 1000) (cond (eqb i j) 1000 (drive r i j))
+unfolding leg_step
+nearest_with r m j i h =
+    ap (λ o. unwrap_or o 1000) (folded-counting (leg_step r m j) None i)
+    ∙ rw h (far-step (nearest_of r m j i) (eqb i j) (drive r i j) (r.legs i j) (nearest-most r m j i))
+
+pub nearest_without : (r : Round) (m j i : ℕ) → has m i ≡ false → nearest_of r m j (i + 1) ≡ nearest_of r m j i
+unfolding leg_step
+nearest_without r m j i h = folded-counting (leg_step r m j) None i ∙ rw h
+
+far-none : (o : Option ℕ) → unwrap_or o 0 ≤ 999 → unwrap_or o 1000 ≡ 1000 → unwrap_or o 0 ≡ 0
+far-none None h e = omega arith
+far-none (Some a) h e = omega arith
+
+far-some : (o : Option ℕ) → unwrap_or o 1000 ≢ 1000 → unwrap_or o 0 ≡ unwrap_or o 1000
+far-some None ne = absurd (omega arith)
+far-some (Some a) ne = omega arith
+
+pub leg_none : (r : Round) (m j : ℕ) → unwrap_or (nearest_of r m j (r.n + 1)) 1000 ≡ 1000 → leg r m j ≡ 0
+unfolding leg
+leg_none r m j e = far-none (nearest_of r m j (r.n + 1)) (nearest-most r m j (r.n + 1)) e
+
+pub leg_some : (r : Round) (m j : ℕ) → unwrap_or (nearest_of r m j (r.n + 1)) 1000 ≢ 1000 → leg r m j ≡ unwrap_or (nearest_of r m j (r.n + 1)) 1000
+unfolding leg
+leg_some r m j ne = far-some (nearest_of r m j (r.n + 1)) ne

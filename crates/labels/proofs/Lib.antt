@@ -1,4 +1,4 @@
-mod Earlies
+pub mod Earlies
 pub mod Folds
 pub mod Inward
 pub mod Laying
@@ -11,6 +11,4 @@ pub mod Rooms
 mod Scattered
 pub mod Shaped_arranged
 pub mod Steps
-mod Suffixes
-pub mod Targets
 pub mod Writing

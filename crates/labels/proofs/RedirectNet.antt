@@ -10,7 +10,7 @@ use Rattle.layers.proofs.Flows.{table_at, has-arc}
 use Rattle.layers.proofs.Bridge.{table-long}
 use Rattle.labels.proofs.Laying.{arcs_of}
 pub use Rattle.labels.proofs.Laying.{table-list}
-use Rattle.layers.proofs.Shapes.{each_door-length}
+use Rattle.layers.proofs.Tied.{each_door-length}
 use Rattle.layers.specs.Targets.{targets, redirected, at_door}
 
 -- ---- lists

@@ -13,6 +13,7 @@ use Rattle.layers.specs.Labels.{arrival_over, merge, blank_label}
 use Rattle.labels.specs.Passes.{arrivals, with_down, blank_node, by_door, from_node, gathered, labelled, next_layer, cleared, taken, landed, hit, crossed, spread}
 use Rattle.labels.proofs.Folds.{folded_keeps, folded-view}
 use Rattle.layers.specs.Settings.{Setting}
+use Rattle.layers.specs.Records.{nodes_in}
 
 module _ {S V : Type 0} (by : Setting S V) where
   abbrev takes : Node S V → Down S V → Node S V
@@ -116,14 +117,15 @@ module _ {S V : Type 0} (by : Setting S V) where
       (λ k. cond_both (eqb (get_or u.arcs.to k 0) t) (arrival_over by u.label.down (k + 1) ∷ []) [] (All Reached) (λ _. (pow_pos (k + 1), tt)) (λ _. tt))))
 
   -- ---- the whole layer
-  pub spreads-layer : (us vs : List (Node S V)) → fold (spread by) (map (cleared by.rule by.tally) vs) us ≡ next_layer by us vs
+  pub spreads-layer : (us vs : List (Node S V)) → fold (spread by) (map (cleared by.rule by.tally) vs) (nodes_in us) ≡ next_layer by us vs
   unfolding next_layer labelled
   spreads-layer us vs =
       let z = blank_node by.rule by.tally in
       let vs₀ = map (cleared by.rule by.tally) vs in
-      fill_by_all (labelled by us vs) (fold (spread by) vs₀ us) (length vs) z (spreads-long vs₀ us ∙ length-map vs (cleared by.rule by.tally))
+      let N = nodes_in us in
+      fill_by_all (labelled by us vs) (fold (spread by) vs₀ N) (length vs) z (spreads-long vs₀ N ∙ length-map vs (cleared by.rule by.tally))
       (λ b lt.
-      spreads-at b vs₀ us (omega (arith, length-map vs (cleared by.rule by.tally)))
-      ∙ ap (λ v. fold (takes) v (arrivals by (b + 1) us)) (get_or-map (cleared by.rule by.tally) vs b z z lt)
-      ∙ takes-label (cleared by.rule by.tally (get_or vs b z)) (arrivals by (b + 1) us)
-      ∙ ap (with_down (get_or vs b z)) (taken-gathered (arrivals by (b + 1) us) (reached (b + 1) us)))
+      spreads-at b vs₀ N (omega (arith, length-map vs (cleared by.rule by.tally)))
+      ∙ ap (λ v. fold (takes) v (arrivals by (b + 1) N)) (get_or-map (cleared by.rule by.tally) vs b z z lt)
+      ∙ takes-label (cleared by.rule by.tally (get_or vs b z)) (arrivals by (b + 1) N)
+      ∙ ap (with_down (get_or vs b z)) (taken-gathered (arrivals by (b + 1) N) (reached (b + 1) N)))

@@ -4,11 +4,11 @@ use Rattle.round.specs.declared.table.Round.{Round}
 use Rattle.layers.specs.declared.node.Arcs.{Arcs}
 use Rattle.layers.specs.declared.node.Node.{Node}
 use Rattle.layers.specs.Net.{Net}
-use Rattle.layers.specs.Lawful.{IsRoomy, IsEven}
+use Rattle.layers.specs.Lawful.{IsEven, IsLawful, IsRoomy}
 use Rattle.layers.specs.Records.{arcs_read, laid_arcs}
 use Rattle.layers.specs.Calls.{arcs}
 use Rattle.layers.specs.Shape.{targets_of, IsShaped}
-use Rattle.layers.proofs.Proper.{Proper, even-of, tied-ranged, RangedAll}
+use Rattle.layers.proofs.Proper.{tied-ranged, RangedAll}
 use Rattle.layers.proofs.Shaped.{shaped-proper}
 use Rattle.labels.proofs.Laying.{Arranged, Good, arranged-of, few}
 
@@ -31,5 +31,5 @@ pub good-net : (n W : ℕ) (Ls : Net) → n ≤ 16 → IsEven n Ls → IsRoomy W
 good-net n W [] h even room t = tt
 good-net n W (L ∷ Ls) h even room t = (few n L h even.0, room.0, t.0, good-net n W Ls h even.1 room.1 t.1)
 
-pub proper-good : (r : Round) (W : ℕ) (Ls : Net) → Proper r.n W Ls → Good W Ls
-proper-good r W Ls p = good-net r.n W Ls r.most (even-of r.n Ls p.even) p.roomy (tied-ranged Ls p.tied)
+pub proper-good : (r : Round) (W : ℕ) (Ls : Net) → IsLawful r.n W Ls → Good W Ls
+proper-good r W Ls p = good-net r.n W Ls r.most p.even p.roomy (tied-ranged Ls p.tied)

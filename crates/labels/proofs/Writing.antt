@@ -1,7 +1,7 @@
 -- Loops that write f a at each place a, counting up
-use Rattle.std.proofs.Common.{◌≡◌, ℕ, ◌+◌, ◌-◌, ◌<◌, List, [], ◌∷◌, ◌++◌, map, length, get_or, drop, set, sym, ap, ◌∙◌, zero-add, arith}
+use Rattle.std.proofs.Common.{◌≡◌, ℕ, ◌+◌, ◌<◌, List, [], ◌∷◌, ◌++◌, map, length, get_or, drop, set, sym, ap, ◌∙◌, zero-add}
 use Rattle.std.specs.List.{range_with_len}
-use Rattle.std.proofs.lemmas.List.{append_assoc, drop_more, set_at, get_or-append_right, get_or-drop}
+use Rattle.std.proofs.lemmas.List.{append_assoc, drop_more, set_at}
 use Rattle.std.proofs.lemmas.List.FromFn.{map-range_with_len_more, length-map-range_with_len}
 
 -- the step of such a loop
@@ -11,10 +11,3 @@ over-more f xs a lt =
     ∙ set_at (map f (range_with_len 0 a)) (get_or xs a (f a)) (drop (a + 1) xs) (f a) a (length-map-range_with_len f 0 a)
     ∙ sym (append_assoc (map f (range_with_len 0 a)) (f a ∷ []) (drop (a + 1) xs))
     ∙ ap (λ ys. ys ++ drop (a + 1) xs) (sym (map-range_with_len_more f 0 a a (zero-add a)))
-
--- and the place that is written next
-pub get_d_over : {X : Type 0} (f : ℕ → X) (xs : List X) (a : ℕ) (z : X) → get_or (map f (range_with_len 0 a) ++ drop a xs) a z ≡ get_or xs a z
-get_d_over f xs a z =
-    get_or-append_right (map f (range_with_len 0 a)) (drop a xs) a a z (length-map-range_with_len f 0 a) (omega arith)
-    ∙ get_or-drop a xs (a - a) z
-    ∙ ap (λ k. get_or xs k z) (omega arith)

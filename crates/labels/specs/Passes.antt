@@ -2,21 +2,20 @@
 -- Nobody has to believe these steps: on the arcs of a diagram `labelled` of `relabel` says what they come to.
 use Rattle.std.specs.Prelude.{ℕ, zero, suc, ◌+◌, ◌-◌, ◌*◌, ◌≤◌, Bool, if◌then◌else◌, ◌&&◌, List, [], ◌∷◌, ◌++◌, map, length, take, drop, replicate, Some, None, fold, Option, ◌==◌, nat_le, slice_index, slice_index_or, slice_set}
 use Rattle.std.specs.List.{range_with_len, flat_map}
+use Rattle.round.specs.declared.table.Round.{Round}
 use Rattle.rules.specs.Rules.{RuleSense}
 use Rattle.tallies.specs.Tallies.{TallySense}
 use Rattle.layers.specs.declared.node.Node.{Node}
 use Rattle.layers.specs.declared.node.Down.{Down}
 use Rattle.layers.specs.declared.node.Up.{Up}
 use Rattle.layers.specs.Settings.{Setting}
-use Rattle.layers.specs.Labels.{arrival_over, merge, first_label, blank_label, climb, merge_up, no_up}
+use Rattle.layers.specs.Records.{nodes_in}
+use Rattle.layers.specs.Labels.{leg_step, arrival_over, merge, first_label, blank_label, climb, merge_up, no_up}
 
 -- ---- parts of the list
--- `count` records from `at` on, and the records with these overwritten
+-- `count` records from `at` on
 abbrev pub part : {X : Type 0} → ℕ → ℕ → List X → List X
 part at count xs = take count (drop at xs)
-
-abbrev pub over : {X : Type 0} → ℕ → List X → List X → List X
-over at vs xs = take at xs ++ (vs ++ drop (at + length vs) xs)
 
 -- ---- a record with other labels
 abbrev pub with_down : {S V : Type 0} → Node S V → Down S V → Node S V
@@ -28,6 +27,10 @@ with_up x u = record { arcs = x.arcs; label = record { down = x.label.down; up =
 -- no finish of the node is above m
 abbrev pub Early : {S V : Type 0} → ℕ → Node S V → Type 0
 Early m u = u.label.down.finish ≤ m
+
+-- the least drive to j from a member of the set m other than j, of the places below i
+abbrev pub nearest_of : Round → ℕ → ℕ → ℕ → Option ℕ
+nearest_of r m j i = fold (leg_step r m j) None (range_with_len 0 i)
 
 module _ {S V : Type 0} (rule : RuleSense S) (tally : TallySense V) where
   -- a record of which nothing is known
@@ -48,9 +51,6 @@ module _ {S V : Type 0} (rule : RuleSense S) (tally : TallySense V) where
   abbrev pub first_layer : List (Node S V) → List (Node S V)
   first_layer [] = []
   first_layer (u ∷ us) = with_down u (first_label rule tally) ∷ map cleared us
-
-  unfoldable pub begun : ℕ → List (Node S V) → List (Node S V)
-  begun w xs = over 0 (first_layer (part 0 w xs)) xs
 
   -- one arrival after another, each added to its target
   unfoldable pub taken : Down S V → Down S V → Down S V
@@ -81,29 +81,25 @@ module _ {S V : Type 0} (by : Setting S V) where
   abbrev pub arrivals : ℕ → List (Node S V) → List (Down S V)
   arrivals t us = flat_map (from_node t) us
 
-  -- record b of the layer vs, with the label that it gathers out of the layer us before it
+  -- record b of the layer vs, with the label that it gathers out of the nodes of the layer us before it
   unfoldable pub labelled : List (Node S V) → List (Node S V) → ℕ → Node S V
   unfolding gathered from_node
-  labelled us vs b = with_down (slice_index_or vs b (blank_node by.rule by.tally)) (gathered by.rule by.tally (arrivals (b + 1) us))
+  labelled us vs b = with_down (slice_index_or vs b (blank_node by.rule by.tally)) (gathered by.rule by.tally (arrivals (b + 1) (nodes_in us)))
 
   unfoldable pub next_layer : List (Node S V) → List (Node S V) → List (Node S V)
   unfolding labelled
   next_layer us vs = map (labelled us vs) (range_with_len 0 (length vs))
 
-  -- `count` records at `at`, labelled out of a layer of records at `from`
-  unfoldable pub layer_done : ℕ → ℕ → ℕ → List (Node S V) → List (Node S V)
+  -- the labels after the layer in front, with so many layers between it and the end
+  unfoldable pub labelled_after : ℕ → List (Node S V) → List (Node S V)
   unfolding next_layer
-  layer_done from count at xs = over at (next_layer (part from by.width xs) (part at count xs)) xs
-
-  -- layers 1 to i
-  abbrev pub layers_done : ℕ → List (Node S V) → List (Node S V)
-  layers_done zero xs = xs
-  layers_done (suc i) xs = layer_done (i * by.width) by.width ((i + 1) * by.width) (layers_done i xs)
+  labelled_after zero xs = let rest = drop by.width xs in take by.width xs ++ (next_layer (take by.width xs) (take 1 rest) ++ drop 1 rest)
+  labelled_after (suc k) xs = let rest = drop by.width xs in take by.width xs ++ labelled_after k (next_layer (take by.width xs) (take by.width rest) ++ drop by.width rest)
 
   -- the whole pass
   unfoldable pub pass_down : List (Node S V) → List (Node S V)
-  unfolding layer_done begun
-  pass_down xs = let n = by.round.n in layer_done ((n - 1) * by.width) 1 (n * by.width) (layers_done (n - 1) (begun by.rule by.tally by.width xs))
+  unfolding labelled_after
+  pass_down xs = labelled_after (by.round.n - 1) (first_layer by.rule by.tally (take by.width xs) ++ drop by.width xs)
 
   -- over the door k + 1 of u
   unfoldable pub crossed : Node S V → List (Node S V) → ℕ → List (Node S V)
@@ -130,33 +126,29 @@ module _ {S V : Type 0} where
   unfoldable pub up_by : List (Node S V) → Node S V → ℕ → List Up
   up_by vs u k = map (λ v. climb v.label.up (k + 1)) (numbered (slice_index u.arcs.to k) vs)
 
-  -- by door
+  -- by door; to one that is not in use nothing climbs
   unfoldable pub ups_of : List (Node S V) → Node S V → List Up
   unfolding up_by
-  ups_of vs u = flat_map (up_by vs u) (range_with_len 0 16)
+  ups_of vs u = if u.label.down.lasts == 0 then [] else flat_map (up_by vs u) (range_with_len 0 16)
 
   -- a record, with what it gathers from the layer vs after it
   unfoldable pub risen : List (Node S V) → Node S V → Node S V
   unfolding ups_of gathered_up
   risen vs u = with_up u (gathered_up (ups_of vs u))
 
-  -- the w records at `at`, from the m records at `next`
-  unfoldable pub layer_up : ℕ → ℕ → ℕ → ℕ → List (Node S V) → List (Node S V)
+  -- a record with no upward sets
+  abbrev pub bare : Node S V → Node S V
+  bare x = with_up x no_up
+
+  -- the layer in front of w records and all after it, with so many layers between it and the end, which has no upward sets
+  unfoldable pub risen_from : ℕ → ℕ → List (Node S V) → List (Node S V)
   unfolding risen
-  layer_up at w next m xs = over at (map (risen (part next m xs)) (part at w xs)) xs
-
-  -- layers i - 1, .. , 0
-  abbrev pub layers_up : ℕ → ℕ → List (Node S V) → List (Node S V)
-  layers_up w zero xs = xs
-  layers_up w (suc i) xs = layers_up w i (layer_up (i * w) w ((i + 1) * w) w xs)
-
-  -- the end has none, and the layers follow
-  abbrev pub end_cleared : ℕ → List (Node S V) → List (Node S V)
-  end_cleared at xs = over at (map (λ x. with_up x no_up) (part at 1 xs)) xs
+  risen_from w zero xs = let rest = map bare (take 1 (drop w xs)) ++ drop 1 (drop w xs) in map (risen (take 1 rest)) (take w xs) ++ rest
+  risen_from w (suc k) xs = let rest = risen_from w k (drop w xs) in map (risen (take w rest)) (take w xs) ++ rest
 
   unfoldable pub pass_up : ℕ → ℕ → List (Node S V) → List (Node S V)
-  unfolding layer_up
-  pass_up n w xs = layers_up w (n - 1) (layer_up ((n - 1) * w) w (n * w) 1 (end_cleared (n * w) xs))
+  unfolding risen_from
+  pass_up n w xs = risen_from w (n - 1) xs
 
 -- one more, as the code has it
 abbrev pub taken_up : Option Up → Up → Option Up

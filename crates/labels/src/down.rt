@@ -1,31 +1,32 @@
 //! The pass down: each arrival is added to its target, sources by number, then doors.
-ghost use Rattle.std.specs.Prelude.{◌≡◌, ℕ, ◌+◌, ◌*◌, ◌<◌, ◌≤◌, map, length, get_or, slice_index_or};
+ghost use Rattle.std.specs.Prelude.{◌≡◌, ◌≢◌, ℕ, ◌+◌, ◌-◌, ◌*◌, ◌<◌, ◌≤◌, map, length, take, slice_index};
 ghost use Rattle.std.specs.List.{AllByRecursion};
 ghost use Rattle.round.specs.Clock.{latest_finish};
 ghost use Rattle.layers.specs.declared.node.Node.{Node as ANode};
-ghost use Rattle.layers.specs.Labels.{arrival_over, merge, first_label, blank_label};
+ghost use Rattle.layers.specs.Labels.{leg, arrival_over, merge, first_label, blank_label};
 ghost use Rattle.layers.specs.Settings.{lent_setting};
-ghost use Rattle.labels.specs.Passes.{part, over, Early, cleared, first_layer, begun, layer_done, pass_down, landed, crossed, spread};
+ghost use Rattle.labels.specs.Passes.{Early, cleared, first_layer, next_layer, labelled_after, pass_down, landed, crossed, spread};
 
-use crate::leg::leg_from;
+use crate::leg::legs;
 use layers::node::{Down, Node};
 use layers::setting::Setting;
 use rules::rule::Rule;
 use tallies::tally::Tally;
 
-/// What the arc by door j brings from a node with the label u.
+/// What the arc by door j brings from a node with the label u, `drive` minutes away.
 pub(crate) fn arrive<R: Rule, T: Tally>(
     by: &Setting<'_, R, T>,
     u: &Down<R::State, T::Value>,
     j: usize,
+    drive: u32,
 ) -> Down<R::State, T::Value>
     requires j_bound { j < 17 }
+    requires is_leg { drive ≡ leg by.now.round.now u.now.lasts j }
     requires finish_bound { u.now.finish ≤ latest_finish 15 }
     ensures { let by = lent_setting by.now (R.sense by.now.rule.now) (T.sense by.now.tally.now) in
         result ≡ arrival_over by u.now j }
 {
-    let leg = leg_from(by.round, u.lasts, j);
-    let minute = by.round.finish(u.finish, leg, j);
+    let minute = by.round.finish(u.finish, drive, j);
     let finish = minute as u32;
     let bit = 1u32 << j;
     Down {
@@ -34,7 +35,7 @@ pub(crate) fn arrive<R: Rule, T: Tally>(
         finish,
         lasts: bit,
         state: by.rule.step(u.state, j),
-        value: by.tally.step(u.value, j, leg, finish),
+        value: by.tally.step(u.value, j, drive, finish),
     }
 }
 
@@ -77,14 +78,16 @@ fn land<R: Rule, T: Tally>(
     vs[b].label.down = down;
 }
 
-/// Over the arc of u by the door k + 1, if there is one.
+/// Over the arc of u by the door k + 1, if there is one; `legs` are those of u.
 fn cross<R: Rule, T: Tally>(
     by: &Setting<'_, R, T>,
     u: &Node<R::State, T::Value>,
+    legs: &[u16; 16],
     vs: &mut [Node<R::State, T::Value>],
     k: usize,
 )
     requires k_bound { k < 16 }
+    requires is_leg { slice_index legs.now k ≡ leg by.now.round.now u.now.label.down.lasts (k + 1) }
     requires finish_bound { u.now.label.down.finish ≤ latest_finish 15 }
     ensures { let by = lent_setting by.now (R.sense by.now.rule.now) (T.sense by.now.tally.now) in
         vs.new ≡ crossed by u.now vs.old k }
@@ -93,25 +96,24 @@ fn cross<R: Rule, T: Tally>(
     if t == 0 || t > vs.len() {
         return;
     }
-    let x = arrive(by, &u.label.down, k + 1);
+    let x = arrive(by, &u.label.down, k + 1, u32::from(legs[k]));
     land(by.rule, by.tally, vs, t - 1, &x);
 }
 
-/// Over all arcs of u.
+/// Over all arcs of the node u.
 fn spread_node<R: Rule, T: Tally>(
     by: &Setting<'_, R, T>,
     u: &Node<R::State, T::Value>,
     vs: &mut [Node<R::State, T::Value>],
 )
-    requires { u.now.label.down.finish ≤ latest_finish 15 }
+    requires in_use { u.now.label.down.lasts ≢ 0 }
+    requires finish_bound { u.now.label.down.finish ≤ latest_finish 15 }
     ensures { let by = lent_setting by.now (R.sense by.now.rule.now) (T.sense by.now.tally.now) in
         vs.new ≡ spread by vs.old u.now }
 {
-    if u.label.down.lasts == 0 {
-        return;
-    }
+    let legs = legs(by.round, u.label.down.lasts);
     for k in 0..16 {
-        cross(by, u, vs, k);
+        cross(by, u, &legs, vs, k);
     }
 }
 
@@ -138,25 +140,22 @@ fn clear<R: Rule, T: Tally>(rule: &R, tally: &T, vs: &mut [Node<R::State, T::Val
     }
 }
 
-/// Works out anew the labels of the `count` records from `at` on, from the layer of records at `from`.
+/// Works out anew the labels of the layer vs, from the nodes of the layer us before it, which stand first.
 fn relabel_layer<R: Rule, T: Tally>(
     by: &Setting<'_, R, T>,
-    nodes: &mut [Node<R::State, T::Value>],
-    from: usize,
-    count: usize,
-    at: usize,
+    us: &[Node<R::State, T::Value>],
+    vs: &mut [Node<R::State, T::Value>],
 )
-    requires width_bound { from + by.now.width ≤ at }
-    requires count_in_bounds { at + count ≤ length nodes.old }
-    requires all_early { AllByRecursion (Early (latest_finish 15)) (part from by.now.width nodes.old) }
+    requires { AllByRecursion (Early (latest_finish 15)) us.now }
     ensures { let by = lent_setting by.now (R.sense by.now.rule.now) (T.sense by.now.tally.now) in
-        nodes.new ≡ layer_done by from count at nodes.old }
+        vs.new ≡ next_layer by us.now vs.old }
 {
-    let (before, rest) = nodes.split_at_mut(at);
-    let targets = &mut rest[..count];
-    clear(by.rule, by.tally, targets);
-    for a in 0..by.width {
-        spread_node(by, &before[from + a], targets);
+    clear(by.rule, by.tally, vs);
+    for u in us {
+        if u.label.down.lasts == 0 {
+            break;
+        }
+        spread_node(by, u, vs);
     }
 }
 
@@ -175,36 +174,48 @@ fn at_first<R: Rule, T: Tally>(rule: &R, tally: &T) -> Down<R::State, T::Value>
 }
 
 /// The layer of the first node.
-fn begin<R: Rule, T: Tally>(
-    rule: &R,
-    tally: &T,
-    nodes: &mut [Node<R::State, T::Value>],
-    width: usize,
-)
-    requires width_nonzero { 0 < width }
-    requires width_in_bounds { width ≤ length nodes.old }
-    ensures { nodes.new ≡ begun (R.sense rule.now) (T.sense tally.now) width nodes.old }
+fn begin<R: Rule, T: Tally>(rule: &R, tally: &T, us: &mut [Node<R::State, T::Value>])
+    requires { 0 < length us.old }
+    ensures { us.new ≡ first_layer (R.sense rule.now) (T.sense tally.now) us.old }
 {
-    clear(rule, tally, &mut nodes[..width]);
-    nodes[0].label.down = at_first(rule, tally);
+    clear(rule, tally, us);
+    us[0].label.down = at_first(rule, tally);
+}
+
+/// Works out anew the labels after a layer, which has its own, with `later` layers between it and the end.
+#[tactic(auto, using(crate::proofs::Rests::one_more))]
+fn label_after<R: Rule, T: Tally>(
+    by: &Setting<'_, R, T>,
+    nodes: &mut [Node<R::State, T::Value>],
+    later: usize,
+)
+    requires later_bound { later ≤ 15 }
+    requires records_in_bounds { later * by.now.width + by.now.width < length nodes.old }
+    requires all_early { AllByRecursion (Early (latest_finish (15 - later)))
+        (take by.now.width nodes.old) }
+    ensures { let by = lent_setting by.now (R.sense by.now.rule.now) (T.sense by.now.tally.now) in
+        nodes.new ≡ labelled_after by later nodes.old }
+{
+    let (us, rest) = nodes.split_at_mut(by.width);
+    if later == 0 {
+        relabel_layer(by, us, &mut rest[..1]);
+    } else {
+        relabel_layer(by, us, &mut rest[..by.width]);
+        label_after(by, rest, later - 1);
+    }
 }
 
 /// Works out anew all that is worked out from the first node.
+#[tactic(auto, using(crate::proofs::Rests::one_more), unfolding(crate::specs::Passes::pass_down))]
 pub(crate) fn label_down<R: Rule, T: Tally>(
     by: &Setting<'_, R, T>,
     nodes: &mut [Node<R::State, T::Value>],
 )
     requires one_le_width { 1 ≤ by.now.width }
-    requires width_bound { by.now.width ≤ 128 }
-    requires width_in_bounds { by.now.round.now.n * by.now.width + 1 ≤ length nodes.old }
+    requires width_in_bounds { by.now.round.now.n * by.now.width < length nodes.old }
     ensures { let by = lent_setting by.now (R.sense by.now.rule.now) (T.sense by.now.tally.now) in
         nodes.new ≡ pass_down by nodes.old }
 {
-    let n = by.round.n;
-    let width = by.width;
-    begin(by.rule, by.tally, nodes, width);
-    for i in 0..n - 1 {
-        relabel_layer(by, nodes, i * width, width, (i + 1) * width);
-    }
-    relabel_layer(by, nodes, (n - 1) * width, 1, n * width);
+    begin(by.rule, by.tally, &mut nodes[..by.width]);
+    label_after(by, nodes, by.round.n - 1);
 }

@@ -1,6 +1,7 @@
 //! The leg of an arc.
-ghost use Rattle.std.specs.Prelude.{◌≡◌, ℕ, ◌+◌, ◌<◌, ◌≤◌};
+ghost use Rattle.std.specs.Prelude.{◌≡◌, ℕ, ◌+◌, ◌<◌, ◌≤◌, ◌==◌, if◌then◌else◌, min, unwrap_or, slice_index};
 ghost use Rattle.layers.specs.Labels.{nearest, leg};
+ghost use Rattle.labels.specs.Passes.{nearest_of};
 
 use doors::{DoorSet, contains};
 use round::table::Round;
@@ -26,4 +27,46 @@ pub fn leg_from(round: &Round, lasts: DoorSet, j: usize) -> u32
         }
     }
     best.unwrap_or(0)
+}
+
+/// More than any drive.
+const FAR: u16 = 1000;
+
+/// The drives from place i, where they are less; there is none from a door to itself.
+fn nearer_from(row: &[u16; 17], i: usize, best: &mut [u16; 16])
+    ensures { (k : ℕ) → k < 16 → slice_index best.new k
+        ≡ min (slice_index best.old k) (if i == k + 1 then 1000 else slice_index row.now (k + 1)) }
+{
+    for k in 0..16 {
+        let drive = if i == k + 1 { FAR } else { row[k + 1] };
+        best[k] = best[k].min(drive);
+    }
+}
+
+/// The least drive to each door, `FAR` where there is none.
+#[tactic(auto, using(crate::proofs::Legs::nearest_with, crate::proofs::Legs::nearest_without))]
+fn least_drives(round: &Round, lasts: DoorSet) -> [u16; 16]
+    ensures { (k : ℕ) → k < 16 → slice_index result k
+        ≡ unwrap_or (nearest_of round.now lasts (k + 1) (round.now.n + 1)) 1000 }
+{
+    let mut best = [FAR; 16];
+    for i in 0..round.n + 1 {
+        if contains(lasts, i) {
+            nearer_from(&round.drives[i], i, &mut best);
+        }
+    }
+    best
+}
+
+/// The legs from the places `lasts` to all doors at once: at place k that to door k + 1.
+#[tactic(auto, using(crate::proofs::Legs::leg_none, crate::proofs::Legs::leg_some))]
+pub fn legs(round: &Round, lasts: DoorSet) -> [u16; 16]
+    ensures { (k : ℕ) → k < 16 → slice_index result k ≡ leg round.now lasts (k + 1) }
+{
+    let mut legs = least_drives(round, lasts);
+    for k in 0..16 {
+        let drive = legs[k];
+        legs[k] = if drive == FAR { 0 } else { drive };
+    }
+    legs
 }

@@ -1,8 +1,8 @@
 //! The pass up: each node gathers from its targets, layer by layer from the end.
-ghost use Rattle.std.specs.Prelude.{◌≡◌, ℕ, ◌+◌, ◌*◌, ◌<◌, ◌≤◌, map, length, get_or, fold, slice_index_or, slice_set};
+ghost use Rattle.std.specs.Prelude.{◌≡◌, ℕ, ◌+◌, ◌*◌, ◌<◌, ◌≤◌, map, length, fold};
 ghost use Rattle.layers.specs.declared.node.Node.{Node as ANode};
 ghost use Rattle.layers.specs.Labels.{climb};
-ghost use Rattle.labels.specs.Passes.{part, with_up, up_by, ups_of, gathered_up, risen, layer_up, end_cleared, pass_up, taken_up};
+ghost use Rattle.labels.specs.Passes.{up_by, ups_of, gathered_up, risen, risen_from, pass_up, taken_up};
 
 use layers::node::{Node, Up};
 
@@ -53,9 +53,13 @@ fn climb_by<S: Copy, V: Copy>(
     take_up(got, climb_from(&vs[t - 1], k + 1))
 }
 
+/// What u gathers from the layer vs after it; a place that is not in use gathers nothing.
 fn climb_all<S: Copy, V: Copy>(vs: &[Node<S, V>], u: &Node<S, V>) -> Up
     ensures { result ≡ gathered_up (ups_of vs.now u.now) }
 {
+    if u.label.down.lasts == 0 {
+        return NONE;
+    }
     let mut got: Option<Up> = None;
     for k in 0..16 {
         got = climb_by(vs, u, k, got);
@@ -63,45 +67,38 @@ fn climb_all<S: Copy, V: Copy>(vs: &[Node<S, V>], u: &Node<S, V>) -> Up
     got.unwrap_or(NONE)
 }
 
-/// The `width` records at `at` gather from the `count` records at `next`.
-fn rise_layer<S: Copy, V: Copy>(
-    nodes: &mut [Node<S, V>],
-    at: usize,
-    width: usize,
-    next: usize,
-    count: usize,
-)
-    requires width_bound { at + width ≤ next }
-    requires count_in_bounds { next + count ≤ length nodes.old }
-    ensures { nodes.new ≡ layer_up at width next count nodes.old }
+/// The layer us gathers from the layer vs after it.
+fn rise_layer<S: Copy, V: Copy>(us: &mut [Node<S, V>], vs: &[Node<S, V>])
+    ensures { us.new ≡ map (risen vs.now) us.old }
 {
-    let (before, after) = nodes.split_at_mut(next);
-    let targets = &after[..count];
-    for u in before[at..at + width].iter_mut() {
-        let up = climb_all(targets, u);
+    for u in us.iter_mut() {
+        let up = climb_all(vs, u);
         u.label.up = up;
     }
 }
 
-/// The end has no door after it.
-fn clear_end<S: Copy, V: Copy>(nodes: &mut [Node<S, V>], at: usize)
-    requires { at < length nodes.old }
-    ensures { nodes.new ≡ end_cleared at nodes.old }
+/// A layer and all after it, with `later` layers between it and the end, which has no door after it.
+#[tactic(auto, using(crate::proofs::Rests::one_more))]
+fn rise_from<S: Copy, V: Copy>(nodes: &mut [Node<S, V>], width: usize, later: usize)
+    requires { later * width + width < length nodes.old }
+    ensures { nodes.new ≡ risen_from width later nodes.old }
 {
-    nodes[at].label.up = NONE;
+    let (us, rest) = nodes.split_at_mut(width);
+    if later == 0 {
+        rest[0].label.up = NONE;
+        rise_layer(us, &rest[..1]);
+    } else {
+        rise_from(rest, width, later - 1);
+        rise_layer(us, &rest[..width]);
+    }
 }
 
 /// Works out anew all that is worked out from the end.
+#[tactic(auto, using(crate::proofs::Rests::one_more), unfolding(crate::specs::Passes::pass_up))]
 pub(crate) fn label_up<S: Copy, V: Copy>(nodes: &mut [Node<S, V>], n: usize, width: usize)
     requires one_le_n { 1 ≤ n }
-    requires n_bound { n ≤ 16 }
-    requires width_bound { width ≤ 128 }
-    requires width_in_bounds { n * width + 1 ≤ length nodes.old }
+    requires width_in_bounds { n * width < length nodes.old }
     ensures { nodes.new ≡ pass_up n width nodes.old }
 {
-    clear_end(nodes, n * width);
-    rise_layer(nodes, (n - 1) * width, width, n * width, 1);
-    for i in (0..n - 1).rev() {
-        rise_layer(nodes, i * width, width, (i + 1) * width, width);
-    }
+    rise_from(nodes, width, n - 1);
 }

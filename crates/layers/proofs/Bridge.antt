@@ -1,34 +1,50 @@
 -- What stands in records that were laid: their arcs can be read back, and the labels that stand are those worked out from the arcs.
 use Rattle.std.proofs.Common.{◌≡◌, ℕ, zero, suc, ◌+◌, ◌*◌, ◌<◌, ◌≤◌, Bool, true, false, cond, not, ◌&&◌, eqb, List, [], ◌∷◌, ◌++◌, map, length, get_or, take, drop, Some, None, Option, sym, refl, ap, ◌∙◌, ap₂, append_assoc, le_of_suc-le-suc, not-suc-le-zero, suc-mul, zero-mul, arith, length-append}
 use Rattle.std.proofs.lemmas.Bool.{ne_eqb}
-use Rattle.std.proofs.lemmas.List.{drop_at}
+use Rattle.std.proofs.lemmas.List.{drop_at, take_at}
 use Rattle.doors.specs.Sets.{has}
 use Rattle.layers.specs.declared.node.Node.{Node}
 use Rattle.layers.specs.declared.node.Up.{Up}
-use Rattle.layers.specs.Net.{table, Outs, Layer, Net, node, target, width, each_door, each_node, redirect, every_door, every_arc}
+use Rattle.layers.specs.Net.{table, Outs, Layer, Net, node, target, width, redirect}
 use Rattle.layers.specs.Flow.{arrivals_at, gather, next, up, end_label}
 use Rattle.layers.specs.Lawful.{IsLed, IsTied, IsRoomy}
-use Rattle.layers.specs.Labels.{first_label, first_labels, arrival_over, merge, labels_next, no_up, ups, all_agree}
+use Rattle.layers.specs.Labels.{first_label, first_labels, arrival_over, merge, labels_next, no_up, ups, climb, merge_up}
 use Rattle.layers.specs.Records.{is_used, nodes_in, layers, arcs_in, downs_in, ups_in, arcs_of_layers, padded_targets, record_of_place, labelled_from, labelled_records}
-use Rattle.layers.specs.Calls.{places_agree, in_arcs_agree, value_in, labels_in, LayerLabels, kept_arcs, keeps_all_arcs}
-use Rattle.layers.proofs.Flows.{ins-from, next-some, next-at, gather-all, table_at, has-arc}
-use Rattle.layers.proofs.Sets.{or_left, one-self, none_has}
-use Rattle.layers.proofs.Model.{kept, labels_from, one_group, agrees, valueO, or_blank, or_no_up, labels_at}
-use Rattle.layers.proofs.Lively.{labels_full, ups-full}
+use Rattle.layers.specs.Calls.{places_agree, in_arcs_agree, value_in, labels_in, LayerLabels, kept_arcs}
+use Rattle.layers.proofs.Flows.{ins-from, next-some, next-at, gather-all, table_at, has-arc, up_at}
+use Rattle.layers.proofs.Ways.{or_left, one-self, none_has}
+use Rattle.layers.proofs.Model.{kept, agrees, valueO, or_blank, or_no_up, labels_at}
+use Rattle.layers.proofs.Tied.{redirect-cong}
 use Rattle.layers.specs.Settings.{Setting}
 use Rattle.layers.specs.declared.node.Down.{Down}
 pub use Rattle.layers.specs.Lawful.{IsEven}
 pub use Rattle.layers.proofs.Flows.{table-long}
 
+module _ {S V : Type 0} (by : Setting S V) (w : 1 ≤ by.width) where
+  -- so every node has a label, from below and from above
+  pub labels_full : (labs : List (Option (Down S V))) (L M : Layer) (Ls : Net) → IsTied (L ∷ M ∷ Ls) → ((a : ℕ) → a < length L → (l : Down S V) × (get_or labs a None ≡ Some l))
+      → (b : ℕ) → b < length M → (m : Down S V) × (get_or (labels_next by labs L (length M)) b None ≡ Some m)
+  unfolding labels_next
+  labels_full labs L M Ls t f b h =
+      let s = t.1 b h in
+      let l = f s.0 (has-arc L s.0 s.1 b s.2) in
+      let n = next-at {A = Down S V} (merge by.rule by.tally) (λ x y. Unit {0}) (λ x. tt) (λ x y z f g. tt) (λ x y. tt) (λ x y. tt) (arrival_over by) labs L (length M) s.0 s.1 b l.0 s.2 l.1 h in
+      (n.0, n.1)
+
+pub ups-full : (M : Layer) (Ls : Net) → IsLed M → IsTied (M ∷ Ls) → (a : ℕ) → a < length M → (u : Up) × (get_or (ups (M ∷ Ls)) a None ≡ Some u)
+unfolding ups
+ups-full M [] led t a h =
+    let s = led a h in
+    let z : s.1 ≡ 0 = omega (arith, t a s.0 s.1 s.2) in
+    let q = up_at {A = Up} merge_up (λ x y. Unit {0}) (λ x. tt) (λ x y z f g. tt) (λ x y. tt) (λ x y. tt) climb no_up M [] a s.0 s.1 no_up s.2 (unfold up in ap (λ (k : ℕ). get_or {A = Option Up} (Some no_up ∷ []) k None) z) in
+    (q.0, q.1)
+ups-full M (N ∷ Ls) led t a h =
+    let s = led a h in
+    let x = ups-full N Ls t.2 t.3 s.1 (t.0 a s.0 s.1 s.2) in
+    let q = up_at {A = Up} merge_up (λ x y. Unit {0}) (λ x. tt) (λ x y z f g. tt) (λ x y. tt) (λ x y. tt) climb no_up M (N ∷ Ls) a s.0 s.1 x.0 s.2 x.1 in
+    (q.0, q.1)
+
 -- ---- tables
-take-table : {A : Type 0} (m : ℕ) (f : ℕ → A) (rest : List A) → take m (table m f ++ rest) ≡ table m f
-take-table zero f rest = refl
-take-table (suc m) f rest = ap (λ (x : List _). f 0 ∷ x) (take-table m (λ k. f (suc k)) rest)
-
-drop-table : {A : Type 0} (m : ℕ) (f : ℕ → A) (rest : List A) → drop m (table m f ++ rest) ≡ rest
-drop-table zero f rest = refl
-drop-table (suc m) f rest = drop-table m (λ k. f (suc k)) rest
-
 pub map-table : {A B : Type 0} (f : A → B) (m : ℕ) (g : ℕ → A) → map f (table m g) ≡ table m (λ k. f (g k))
 map-table f zero g = refl
 map-table f (suc m) g = ap (λ (x : List _). f (g 0) ∷ x) (map-table f m (λ k. g (suc k)))
@@ -51,43 +67,6 @@ pad-back zero m (t ∷ nd) e h = absurd (omega arith)
 pad-back (suc n) m [] e h = absurd (omega arith)
 pad-back (suc n) zero (t ∷ nd) e h = absurd (not-suc-le-zero h)
 pad-back (suc n) (suc m) (t ∷ nd) e h = ap (λ (x : Outs). t ∷ x) (pad-back n m nd (omega arith) (le_of_suc-le-suc h))
-
--- ---- tests and changes of arcs depend on the arcs that are there
-each_door-cong : (f g : ℕ → ℕ → ℕ) (j : ℕ) (ts : Outs) → ((k b : ℕ) → get_or ts k 0 ≡ suc b → f (j + k) b ≡ g (j + k) b) → each_door f j ts ≡ each_door g j ts
-unfolding each_door
-each_door-cong f g j [] h = refl
-each_door-cong f g j (zero ∷ ts) h = ap (λ (x : Outs). zero ∷ x) (each_door-cong f g (suc j) ts (λ k b e. ap (λ (z : ℕ). f z b) (omega arith) ∙ h (suc k) b e ∙ ap (λ (z : ℕ). g z b) (omega arith)))
-each_door-cong f g j (suc b ∷ ts) h =
-    ap₂ (λ (x : ℕ) (y : Outs). x ∷ y) (ap (λ (z : ℕ). f z b) (omega arith) ∙ h 0 b refl ∙ ap (λ (z : ℕ). g z b) (omega arith))
-    (each_door-cong f g (suc j) ts (λ k c e. ap (λ (z : ℕ). f z c) (omega arith) ∙ h (suc k) c e ∙ ap (λ (z : ℕ). g z c) (omega arith)))
-
-each_node-cong : (f g : ℕ → ℕ → ℕ → ℕ) (i : ℕ) (L : Layer) → ((a j b : ℕ) → target (node L a) j ≡ suc b → f (i + a) j b ≡ g (i + a) j b) → each_node f i L ≡ each_node g i L
-unfolding each_node
-each_node-cong f g i [] h = refl
-each_node-cong f g i (nd ∷ L) h =
-    ap₂ (λ (x : Outs) (y : Layer). x ∷ y)
-    (each_door-cong (f i) (g i) 1 nd (λ k b e. ap (λ (z : ℕ). f i z b) (omega arith) ∙ ap (λ (z : ℕ). f z (suc k) b) (omega arith) ∙ h 0 (suc k) b e ∙ ap (λ (z : ℕ). g z (suc k) b) (omega arith) ∙ ap (λ (z : ℕ). g i z b) (omega arith)))
-    (each_node-cong f g (suc i) L (λ a j b e. ap (λ (z : ℕ). f z j b) (omega arith) ∙ h (suc a) j b e ∙ ap (λ (z : ℕ). g z j b) (omega arith)))
-
-pub redirect-cong : (f g : ℕ → ℕ → ℕ → ℕ) (L : Layer) → ((a j b : ℕ) → target (node L a) j ≡ suc b → f a j b ≡ g a j b) → redirect f L ≡ redirect g L
-unfolding redirect
-redirect-cong f g L h = each_node-cong f g 0 L (λ a j b e. ap (λ (z : ℕ). f z j b) (omega arith) ∙ h a j b e ∙ ap (λ (z : ℕ). g z j b) (omega arith))
-
-every_door-cong : (f g : ℕ → ℕ → Bool) (j : ℕ) (ts : Outs) → ((k b : ℕ) → get_or ts k 0 ≡ suc b → f (j + k) b ≡ g (j + k) b) → every_door f j ts ≡ every_door g j ts
-unfolding every_door
-every_door-cong f g j [] h = refl
-every_door-cong f g j (zero ∷ ts) h = every_door-cong f g (suc j) ts (λ k b e. ap (λ (z : ℕ). f z b) (omega arith) ∙ h (suc k) b e ∙ ap (λ (z : ℕ). g z b) (omega arith))
-every_door-cong f g j (suc b ∷ ts) h =
-    ap₂ ◌&&◌ (ap (λ (z : ℕ). f z b) (omega arith) ∙ h 0 b refl ∙ ap (λ (z : ℕ). g z b) (omega arith))
-    (every_door-cong f g (suc j) ts (λ k c e. ap (λ (z : ℕ). f z c) (omega arith) ∙ h (suc k) c e ∙ ap (λ (z : ℕ). g z c) (omega arith)))
-
-every_arc-cong : (f g : ℕ → ℕ → ℕ → Bool) (i : ℕ) (L : Layer) → ((a j b : ℕ) → target (node L a) j ≡ suc b → f (i + a) j b ≡ g (i + a) j b) → every_arc f i L ≡ every_arc g i L
-unfolding every_arc
-every_arc-cong f g i [] h = refl
-every_arc-cong f g i (nd ∷ L) h =
-    ap₂ ◌&&◌
-    (every_door-cong (f i) (g i) 1 nd (λ k b e. ap (λ (z : ℕ). f i z b) (omega arith) ∙ ap (λ (z : ℕ). f z (suc k) b) (omega arith) ∙ h 0 (suc k) b e ∙ ap (λ (z : ℕ). g z (suc k) b) (omega arith) ∙ ap (λ (z : ℕ). g i z b) (omega arith)))
-    (every_arc-cong f g (suc i) L (λ a j b e. ap (λ (z : ℕ). f z j b) (omega arith) ∙ h (suc a) j b e ∙ ap (λ (z : ℕ). g z j b) (omega arith)))
 
 pub ups-end : (b : ℕ) → b ≡ 0 → get_or (ups []) b None ≡ Some no_up
 unfolding ups up
@@ -120,16 +99,12 @@ module _ {S V : Type 0} (by : Setting S V) (w : 1 ≤ by.width) where
 
   filled-first : Filled (first_labels by.rule by.tally) 1
   filled-first = record {
-    there = one-there;
+    there = λ a h. let z : a ≡ 0 = omega arith in (first_label by.rule by.tally, rw z);
     beyond = refl;
     long = refl;
     lasting = once;
   }
     where
-      one-there : (a : ℕ) → a < 1 → (l : Down S V) × (get_or (first_labels by.rule by.tally) a None ≡ Some l)
-      one-there zero h = (first_label by.rule by.tally, refl)
-      one-there (suc a) h = absurd (not-suc-le-zero (le_of_suc-le-suc h))
-
       once : (a : ℕ) (l : Down S V) → get_or (first_labels by.rule by.tally) a None ≡ Some l → eqb l.lasts 0 ≡ false
       once zero l e = let x : first_label by.rule by.tally ≡ l = cc in rw (← x) refl
       once (suc a) l e = absurd cc
@@ -186,7 +161,7 @@ module _ {S V : Type 0} (by : Setting S V) (w : 1 ≤ by.width) where
       ∙ rw (← f.filled.long) (table-back None labs)
 
   -- the end's node
-  end-top : (labs : Labs) (l : Down S V) → get_or labs 0 None ≡ Some l → eqb l.lasts 0 ≡ false → top labs [] ≡ record { arcs = record { to = padded_targets [] }; label = record { down = l; up = no_up } } ∷ []
+  pub end-top : (labs : Labs) (l : Down S V) → get_or labs 0 None ≡ Some l → eqb l.lasts 0 ≡ false → top labs [] ≡ record { arcs = record { to = padded_targets [] }; label = record { down = l; up = no_up } } ∷ []
   end-top labs l e q =
       let P : Option (Down S V) → Node S V = λ o. record { arcs = record { to = padded_targets [] }; label = record { down = or_blank by.rule by.tally o; up = no_up } } in
       rw e (ap (λ (z : Bool). cond (not z) (P (Some l) ∷ []) []) q)
@@ -231,8 +206,8 @@ module _ {S V : Type 0} (by : Setting S V) (w : 1 ≤ by.width) where
       let f' = record_of_place by L labs (ups (L ∷ Ls)) in
       let X = labelled_from by (labels_next by labs L (width Ls)) Ls in
       ap₂ (λ (x y : List (Node S V)). nodes_in x ∷ layers by.width (length Ls) y)
-      (ap (take by.width) (append_assoc (table by.width f') X later) ∙ take-table by.width f' (X ++ later))
-      (ap (drop by.width) (append_assoc (table by.width f') X later) ∙ drop-table by.width f' (X ++ later))
+      (ap (take by.width) (append_assoc (table by.width f') X later) ∙ take_at (table by.width f') (X ++ later) by.width (table-long by.width f'))
+      (ap (drop by.width) (append_assoc (table by.width f') X later) ∙ drop_at (table by.width f') (X ++ later) by.width (table-long by.width f'))
       ∙ ap₂ (λ (x : List (Node S V)) (y : List (List (Node S V))). x ∷ y) (one-row labs L Ls f.0) (layers-laid later (labels_next by labs L (width Ls)) Ls f.1)
 
   pub drawn-stood : (labs : Labs) (Ls : Net) → Full labs Ls → arcs_of_layers by.round.n (stood labs Ls) ≡ Ls
@@ -257,18 +232,6 @@ module _ {S V : Type 0} (by : Setting S V) (w : 1 ≤ by.width) where
         ∙ redirect-cong (F labs (ups_in (top labs' Ls))) (F labs (ups Ls)) L (λ a j b g. ap (λ (u : Option Up). Q labs a j u b) (f.0.tops a j b g)))
         (kept-stood (suc i) labs' Ls f.1)
 
-    pub all-kept-stood : (i : ℕ) (labs : Labs) (Ls : Net) → Full labs Ls → keeps_all_arcs goes i Ls (Standing labs Ls) ≡ keeps_all_arcs goes i Ls (labels_from by labs Ls)
-    unfolding keeps_all_arcs
-    all-kept-stood i labs [] f = refl
-    all-kept-stood i labs (L ∷ Ls) f =
-        let labs' = labels_next by labs L (width Ls) in
-        let Q : Labs → ℕ → ℕ → Option Up → Bool = λ x a j u. not (goes i (suc (length Ls)) j (get_or x a None) u) in
-        let F : Labs → List (Option Up) → ℕ → ℕ → ℕ → Bool = λ x y a j b. Q x a j (get_or y b None) in
-        ap₂ ◌&&◌
-        (ap (λ (x : Labs). every_arc (F x (ups_in (top labs' Ls))) 0 L) (row-downs labs L Ls f.0)
-        ∙ every_arc-cong (F labs (ups_in (top labs' Ls))) (F labs (ups Ls)) 0 L (λ a j b g. ap (λ (u : Option Up). Q labs (0 + a) j u) (f.0.tops a j b g)))
-        (all-kept-stood (suc i) labs' Ls f.1)
-
   pub agrees-stood : (labs : Labs) (Ls : Net) → Full labs Ls → in_arcs_agree by Ls (Standing labs Ls) ≡ agrees by labs Ls
   unfolding in_arcs_agree
   agrees-stood labs [] f = refl
@@ -282,23 +245,14 @@ module _ {S V : Type 0} (by : Setting S V) (w : 1 ≤ by.width) where
   stood-at zero labs (L ∷ Ls) f h = (row-downs labs L Ls f.0, row-arcs labs L Ls f.0, table-long (length L) (record_of_place by L labs (ups (L ∷ Ls))))
   stood-at (suc d) labs (L ∷ Ls) f h = stood-at d (labels_next by labs L (width Ls)) Ls f.1 (le_of_suc-le-suc h)
 
-  pub group_at : (d a : ℕ) (labs : Labs) (Ls : Net) → d < length Ls → one_group by d a labs Ls ≡ all_agree by.rule (arrivals_at (arrival_over by) a (labels_at by d labs Ls) (get_or Ls d []))
-  unfolding one_group
-  group_at d a labs [] h = absurd (not-suc-le-zero h)
-  group_at zero a labs (L ∷ Ls) h = refl
-  group_at (suc d) a labs (L ∷ Ls) h = group_at d a (labels_next by labs L (width Ls)) Ls (le_of_suc-le-suc h)
-
   -- the end's value
   pub value-stood : (labs : Labs) (Ls : Net) → Full labs Ls → value_in (get_or (stood labs Ls) (length Ls) []) ≡ valueO by (end_label (arrival_over by) (merge by.rule by.tally) labs Ls)
   unfolding end_label labels_next
   value-stood labs [] f = go (get_or labs 0 None) refl
     where
-      P : Option (Down S V) → Node S V
-      P o = record { arcs = record { to = padded_targets [] }; label = record { down = or_blank by.rule by.tally o; up = no_up } }
-
-      go : (o : Option (Down S V)) → get_or labs 0 None ≡ o → value_in (nodes_in (P o ∷ [])) ≡ valueO by o
-      go None e = refl
-      go (Some l) e = ap (λ (z : Bool). value_in (cond (not z) (P (Some l) ∷ []) [])) (f 0 l e)
+      go : (o : Option (Down S V)) → get_or labs 0 None ≡ o → value_in (top labs []) ≡ valueO by o
+      go None e = rw e
+      go (Some l) e = ap value_in (end-top labs l e (f 0 l e))
   value-stood labs (L ∷ Ls) f = value-stood (labels_next by labs L (width Ls)) Ls f.1
 
   -- ---- later places

@@ -1,30 +1,24 @@
--- A sweep adds no arc; so refine's last sweeps end with one that answers 0. A tied diagram is left as it is by tidying.
-use Rattle.std.proofs.Common.{◌≡◌, ℕ, zero, suc, ◌+◌, ◌<◌, ◌≤◌, Bool, true, false, cond, not, ◌&&◌, eqb, List, [], ◌∷◌, length, get_or, Some, None, Option, refl, ap, ◌∙◌, ap₂, le_of_suc-le-suc, not-suc-le-zero, arith}
-use Rattle.std.proofs.lemmas.Bool.{false≢true, not-true, and_parts, eqb-true, eq-eqb}
-use Rattle.layers.specs.Net.{Outs, Layer, Net, node, target, width, each_door, each_node, redirect, count_doors, count_layer, count_arcs, every_door, every_arc}
-use Rattle.layers.specs.Flow.{up}
-use Rattle.layers.specs.Tidy.{Mark, marks_next, marks_up, flags, rank, compress, renumber, tidy, tidied_arcs}
-use Rattle.layers.specs.Lawful.{IsLed, IsTied}
+-- A sweep adds no arc, and where it takes out none, none is one that it takes out.
+use Rattle.layers.proofs.Tidying.{tidied-same}
+use Rattle.std.proofs.Common.{◌≡◌, ℕ, zero, suc, ◌≤◌, Bool, true, cond, not, eqb, List, [], ◌∷◌, length, get_or, Some, None, Option, refl, ap, ◌∙◌, ap₂, arith}
+use Rattle.std.proofs.lemmas.Bool.{not-true, and_parts, eqb-true, eq-eqb}
+use Rattle.layers.specs.Net.{Outs, Layer, Net, width, each_door, each_node, redirect, count_doors, count_layer, count_arcs, every_door, every_arc}
+use Rattle.layers.specs.Tidy.{Mark, marks_next, marks_up, flags, compress, renumber, tidy, tidied_arcs}
+use Rattle.layers.specs.Lawful.{IsTied}
 use Rattle.layers.specs.Labels.{first_labels, is_barred}
-use Rattle.layers.proofs.Flows.{has-arc, mark-next, flags-at, renumber-at}
 use Rattle.layers.proofs.Model.{labels_from, sweep, settles, settled, agrees, quiet}
 use Rattle.layers.proofs.Exact.{every_arc-at}
-use Rattle.layers.proofs.Tied.{climbs}
+use Rattle.layers.proofs.Tied.{redirect-same}
 use Rattle.layers.specs.Settings.{Setting}
 use Rattle.layers.specs.declared.node.Down.{Down}
 use Rattle.layers.specs.Calls.{LayerLabels, kept_arcs, keeps_all_arcs}
 use Rattle.layers.specs.declared.node.Up.{Up}
 
-count-one : (t : ℕ) (ts : Outs) → count_doors (t ∷ ts) ≤ suc (count_doors ts)
-unfolding count_doors
-count-one zero ts = omega arith
-count-one (suc t) ts = omega arith
-
 doors-fewer : (f : ℕ → ℕ → ℕ) (j : ℕ) (ts : Outs) → count_doors (each_door f j ts) ≤ count_doors ts
 unfolding count_doors each_door
 doors-fewer f j [] = omega arith
 doors-fewer f j (zero ∷ ts) = doors-fewer f (suc j) ts
-doors-fewer f j (suc b ∷ ts) = let h = doors-fewer f (suc j) ts in omega (arith, count-one (f j b) (each_door f (suc j) ts))
+doors-fewer f j (suc b ∷ ts) = grind (arith, doors-fewer f (suc j) ts)
 
 pub nodes-fewer : (f : ℕ → ℕ → ℕ → ℕ) (a : ℕ) (L : Layer) → count_layer (each_node f a L) ≤ count_layer L
 unfolding count_layer each_node
@@ -39,8 +33,7 @@ compress-fewer : (fs : List Bool) (L : Layer) → count_layer (compress fs L) �
 unfolding count_layer compress
 compress-fewer [] L = omega arith
 compress-fewer (f ∷ fs) [] = omega arith
-compress-fewer (true ∷ fs) (x ∷ L) = let h = compress-fewer fs L in omega arith
-compress-fewer (false ∷ fs) (x ∷ L) = let h = compress-fewer fs L in omega arith
+compress-fewer (f ∷ fs) (x ∷ L) = grind (arith, compress-fewer fs L)
 
 tidy-fewer : (fr : List (Option Mark)) (Ls : Net) → count_arcs (tidy fr Ls) ≤ count_arcs Ls
 unfolding count_arcs tidy
@@ -56,107 +49,12 @@ tidied-fewer (L ∷ Ls) =
     let f : ℕ → ℕ → ℕ → ℕ = λ a j b. renumber (flags (marks_next (Some tt ∷ []) L (width Ls)) (marks_up Ls)) b in
     omega (arith, redirect-fewer f L, tidy-fewer (marks_next (Some tt ∷ []) L (width Ls)) Ls)
 
--- ---- tidying leaves a tied diagram as it is
-each_door-same : (f : ℕ → ℕ → ℕ) (j : ℕ) (ts : Outs) → ((k b : ℕ) → get_or ts k 0 ≡ suc b → f (j + k) b ≡ suc b) → each_door f j ts ≡ ts
-unfolding each_door
-each_door-same f j [] h = refl
-each_door-same f j (zero ∷ ts) h = ap (λ (x : Outs). zero ∷ x) (each_door-same f (suc j) ts (λ k b e. ap (λ (z : ℕ). f z b) (omega arith) ∙ h (suc k) b e))
-each_door-same f j (suc b ∷ ts) h =
-    ap₂ (λ (x : ℕ) (y : Outs). x ∷ y) (ap (λ (z : ℕ). f z b) (omega arith) ∙ h 0 b refl) (each_door-same f (suc j) ts (λ k c e. ap (λ (z : ℕ). f z c) (omega arith) ∙ h (suc k) c e))
-
-each_node-same : (f : ℕ → ℕ → ℕ → ℕ) (i : ℕ) (L : Layer) → ((a j b : ℕ) → target (node L a) j ≡ suc b → f (i + a) j b ≡ suc b) → each_node f i L ≡ L
-unfolding each_node
-each_node-same f i [] h = refl
-each_node-same f i (nd ∷ L) h =
-    ap₂ (λ (x : Outs) (y : Layer). x ∷ y)
-    (each_door-same (f i) 1 nd (λ k b e. ap (λ (z : ℕ). f i z b) (omega arith) ∙ ap (λ (z : ℕ). f z (suc k) b) (omega arith) ∙ h 0 (suc k) b e))
-    (each_node-same f (suc i) L (λ a j b e. ap (λ (z : ℕ). f z j b) (omega arith) ∙ h (suc a) j b e))
-
-pub redirect-same : (f : ℕ → ℕ → ℕ → ℕ) (L : Layer) → ((a j b : ℕ) → target (node L a) j ≡ suc b → f a j b ≡ suc b) → redirect f L ≡ L
-unfolding redirect
-redirect-same f L h = each_node-same f 0 L (λ a j b e. ap (λ (z : ℕ). f z j b) (omega arith) ∙ h a j b e)
-
-compress-all : (fs : List Bool) (L : Layer) → ((a : ℕ) → a < length L → get_or fs a false ≡ true) → compress fs L ≡ L
-unfolding compress
-compress-all [] [] h = refl
-compress-all [] (x ∷ L) h = absurd (false≢true (h 0 (omega arith)))
-compress-all (f ∷ fs) [] h = refl
-compress-all (true ∷ fs) (x ∷ L) h = ap (λ (y : Layer). x ∷ y) (compress-all fs L (λ a k. h (suc a) (omega arith)))
-compress-all (false ∷ fs) (x ∷ L) h = absurd (false≢true (h 0 (omega arith)))
-
-rank-all : (fs : List Bool) (b : ℕ) → ((c : ℕ) → c < b → get_or fs c false ≡ true) → rank fs b ≡ b
-unfolding rank
-rank-all [] zero h = refl
-rank-all [] (suc b) h = absurd (false≢true (h 0 (omega arith)))
-rank-all (true ∷ fs) zero h = refl
-rank-all (false ∷ fs) zero h = refl
-rank-all (true ∷ fs) (suc b) h = ap suc (rank-all fs b (λ c k. h (suc c) (omega arith)))
-rank-all (false ∷ fs) (suc b) h = absurd (false≢true (h 0 (omega arith)))
-
-end-up : (b : ℕ) → b < 1 → get_or (marks_up []) b None ≡ Some tt
-unfolding marks_up
-end-up zero h = unfold up in refl
-end-up (suc b) h = absurd (not-suc-le-zero (le_of_suc-le-suc h))
-
-marks-full : (M : Layer) (Ls : Net) → IsLed M → IsTied (M ∷ Ls) → (a : ℕ) → a < length M → get_or (marks_up (M ∷ Ls)) a None ≡ Some tt
-marks-full M [] led t a h = let s = led a h in climbs M [] a s.0 s.1 s.2 (end-up s.1 (t a s.0 s.1 s.2))
-marks-full M (N ∷ Ls) led t a h = let s = led a h in climbs M (N ∷ Ls) a s.0 s.1 s.2 (marks-full N Ls t.2 t.3 s.1 (t.0 a s.0 s.1 s.2))
-
--- a layer whose nodes are all marked keeps its arcs
-arcs-same : (fr : List (Option Mark)) (L : Layer) (Ls : Net) → ((a : ℕ) → a < length L → get_or fr a None ≡ Some tt) → IsTied (L ∷ Ls)
-    → redirect (λ a j b. renumber (flags (marks_next fr L (width Ls)) (marks_up Ls)) b) L ≡ L
-arcs-same fr L [] m t = redirect-same (λ a j b. renumber (flags (marks_next fr L 1) (marks_up [])) b) L (λ a j b e.
-    let z = t a j b e in
-    let f = flags-at (marks_next fr L 1) (marks_up []) b (mark-next fr L 1 a j b e (m a (has-arc L a j b e)) z) (end-up b z) in
-    renumber-at (flags (marks_next fr L 1) (marks_up [])) b f ∙ ap suc (rank-all (flags (marks_next fr L 1) (marks_up [])) b (λ c k. absurd (omega arith))))
-arcs-same fr L (M ∷ Ls) m t = redirect-same (λ a j b. renumber (flags (marks_next fr L (length M)) (marks_up (M ∷ Ls))) b) L (λ a j b e.
-    let z = t.0 a j b e in
-    renumber-at (flags (marks_next fr L (length M)) (marks_up (M ∷ Ls))) b (on b z) ∙ ap suc (rank-all (flags (marks_next fr L (length M)) (marks_up (M ∷ Ls))) b (λ c k. on c (omega arith))))
-  where
-    on : (b : ℕ) → b < length M → get_or (flags (marks_next fr L (length M)) (marks_up (M ∷ Ls))) b false ≡ true
-    on b h = let s = t.1 b h in
-        flags-at (marks_next fr L (length M)) (marks_up (M ∷ Ls)) b (mark-next fr L (length M) s.0 s.1 b s.2 (m s.0 (has-arc L s.0 s.1 b s.2)) h) (marks-full M Ls t.2 t.3 b h)
-
-marks-next : (fr : List (Option Mark)) (L M : Layer) (Ls : Net) → ((a : ℕ) → a < length L → get_or fr a None ≡ Some tt) → IsTied (L ∷ M ∷ Ls) → (b : ℕ) → b < length M → get_or (marks_next fr L (length M)) b None ≡ Some tt
-marks-next fr L M Ls m t b h = let s = t.1 b h in mark-next fr L (length M) s.0 s.1 b s.2 (m s.0 (has-arc L s.0 s.1 b s.2)) h
-
-tidy-same : (fr : List (Option Mark)) (L : Layer) (Ls : Net) → ((a : ℕ) → a < length L → get_or fr a None ≡ Some tt) → IsLed L → IsTied (L ∷ Ls) → tidy fr (L ∷ Ls) ≡ L ∷ Ls
-unfolding tidy
-tidy-same fr L [] m led t =
-    ap (λ (x : Layer). x ∷ []) (ap (compress (flags fr (marks_up (L ∷ [])))) (arcs-same fr L [] m t) ∙ compress-all (flags fr (marks_up (L ∷ []))) L (λ a k. flags-at fr (marks_up (L ∷ [])) a (m a k) (marks-full L [] led t a k)))
-tidy-same fr L (M ∷ Ls) m led t =
-    ap₂ (λ (x : Layer) (y : Net). x ∷ y)
-    (ap (compress (flags fr (marks_up (L ∷ M ∷ Ls)))) (arcs-same fr L (M ∷ Ls) m t) ∙ compress-all (flags fr (marks_up (L ∷ M ∷ Ls))) L (λ a k. flags-at fr (marks_up (L ∷ M ∷ Ls)) a (m a k) (marks-full L (M ∷ Ls) led t a k)))
-    (tidy-same (marks_next fr L (length M)) M Ls (marks-next fr L M Ls m t) t.2 t.3)
-
-pub tidied-same : (Ls : Net) → width Ls ≡ 1 → IsTied Ls → tidied_arcs Ls ≡ Ls
-unfolding tidied_arcs
-tidied-same [] w t = refl
-tidied-same (L ∷ []) w t = unfold tidy in ap (λ (x : Layer). x ∷ []) (arcs-same (Some tt ∷ []) L [] (λ a k. only a (omega arith)) t)
-  where
-    only : (a : ℕ) → a < 1 → get_or {A = Option Mark} (Some tt ∷ []) a None ≡ Some tt
-    only zero k = refl
-    only (suc a) k = absurd (not-suc-le-zero (le_of_suc-le-suc k))
-tidied-same (L ∷ M ∷ Ls) w t =
-    ap₂ (λ (x : Layer) (y : Net). x ∷ y) (arcs-same (Some tt ∷ []) L (M ∷ Ls) (λ a k. only a (omega arith)) t)
-    (tidy-same (marks_next (Some tt ∷ []) L (length M)) M Ls (marks-next (Some tt ∷ []) L M Ls (λ a k. only a (omega arith)) t) t.2 t.3)
-  where
-    only : (a : ℕ) → a < 1 → get_or {A = Option Mark} (Some tt ∷ []) a None ≡ Some tt
-    only zero k = refl
-    only (suc a) k = absurd (not-suc-le-zero (le_of_suc-le-suc k))
-
 -- where a sweep takes out nothing, no arc is one that it takes out
 doors-quiet : (t : ℕ → ℕ → Bool) (j : ℕ) (ts : Outs) → count_doors (each_door (λ j b. cond (t j b) 0 (suc b)) j ts) ≡ count_doors ts → every_door (λ j b. not (t j b)) j ts ≡ true
 unfolding count_doors each_door every_door
 doors-quiet t j [] e = refl
 doors-quiet t j (zero ∷ ts) e = doors-quiet t (suc j) ts e
-doors-quiet t j (suc b ∷ ts) e = go (t j b) e (λ h. doors-quiet t (suc j) ts h)
-  where
-    go : (q : Bool) → count_doors (cond q 0 (suc b) ∷ each_door (λ j b. cond (t j b) 0 (suc b)) (suc j) ts) ≡ suc (count_doors ts)
-        → (count_doors (each_door (λ j b. cond (t j b) 0 (suc b)) (suc j) ts) ≡ count_doors ts → every_door (λ j b. not (t j b)) (suc j) ts ≡ true)
-        → (not q && every_door (λ j b. not (t j b)) (suc j) ts) ≡ true
-    go true h f = absurd (omega (arith, h, doors-fewer (λ j b. cond (t j b) 0 (suc b)) (suc j) ts))
-    go false h f = f (omega arith)
+doors-quiet t j (suc b ∷ ts) e = let x = doors-fewer (λ j b. cond (t j b) 0 (suc b)) (suc j) ts in grind (arith, e, x, doors-quiet t (suc j) ts)
 
 pub layer-quiet : (t : ℕ → ℕ → ℕ → Bool) (i : ℕ) (L : Layer) → count_layer (each_node (λ a j b. cond (t a j b) 0 (suc b)) i L) ≡ count_layer L → every_arc (λ a j b. not (t a j b)) i L ≡ true
 unfolding count_layer each_node every_arc

@@ -1,8 +1,8 @@
--- While settled answers yes, the labels are exact, so every path is an allowed order and the bound is the least cost.
-use Rattle.std.proofs.Common.{◌≡◌, ℕ, zero, suc, ◌+◌, ◌<◌, ◌≤◌, Bool, true, false, cond, not, eqb, ltb, List, [], ◌∷◌, ◌++◌, length, get_or, Some, None, fold, Option, sym, refl, ap, ◌∙◌, inl, inr, append-nil, not-suc-le-zero, arith}
-use lib.Bits.{bit_or}
-use lib.Count.{ones}
-use Rattle.std.proofs.lemmas.Bool.{true≢false, not-true, ltb-false, eqb-true, eqb-false, ne_eqb, and_parts, or_parts}
+-- Labels that agree in all but the value. While settled answers yes, the labels are exact, so every path is an allowed order and the bound is the least cost.
+use Rattle.std.proofs.lemmas.Bool.Decides.{nat_tests}
+use Rattle.std.proofs.Common.{◌≡◌, ℕ, zero, suc, ◌+◌, ◌<◌, ◌≤◌, Bool, true, false, not, List, [], ◌∷◌, ◌++◌, length, get_or, Some, None, fold, Option, sym, refl, ap, ◌∙◌, inl, inr, append-nil, not-suc-le-zero, arith}
+use lib.Bits.{bit_or, bit_and, and_self, or_self}
+use Rattle.std.proofs.lemmas.Bool.{true≢false, not-true, ne_eqb, and_parts, cond_both}
 use Rattle.doors.proofs.Orders.{each_none, each_more}
 use Rattle.doors.specs.Orders.{IsDoor, StandsIn}
 use Rattle.doors.specs.Sets.{has}
@@ -14,19 +14,93 @@ use Rattle.orders.specs.Allowed.{IsAllowed}
 use Rattle.orders.specs.Costs.{Trip, cost, next_trip, trip_after}
 use Rattle.orders.specs.Times.{finish_of, KeepsHours}
 use Rattle.orders.specs.declared.van.Van.{Van}
+use Rattle.layers.specs.Lawful.{IsEven}
 use Rattle.layers.specs.declared.node.Up.{Up}
 use Rattle.layers.specs.Net.{Outs, Layer, Net, node, target, PathFrom, every_door, every_arc}
 use Rattle.layers.specs.Flow.{end_label, arrivals_at, gather}
-use Rattle.layers.specs.Labels.{bit_of, leg, ups, first_label, arrival_over, merge, first_labels, labels_next, is_barred, all_agree}
-use Rattle.layers.proofs.Flows.{Among, From, inside, ins-in, ins-from, next-some, next-within, next-at, gather-all}
-use Rattle.layers.proofs.Agreeing.{Agree, agree-merge, pairs}
-use Rattle.layers.proofs.Sets.{or_left, or_right, one-self}
-use Rattle.layers.proofs.Ways.{in_split, trip-snoc, state-snoc, length-snoc, snoc-assoc, leg-one}
+use Rattle.layers.specs.Labels.{bit_of, leg, ups, first_label, arrival_over, merge, first_labels, labels_next, is_barred, all_agree, agree, agrees_with_all}
+use Rattle.layers.proofs.Flows.{EvenLayer, Among, From, inside, ins-in, ins-from, next-some, next-within, next-at, gather-all}
+use Rattle.layers.proofs.Ways.{or_left, or_right, one-self, in_split, trip-snoc, state-snoc, length-snoc, snoc-assoc, leg-one}
 use Rattle.layers.proofs.Model.{agrees, quiet, settles, settled, bound, valueO}
-use Rattle.layers.proofs.Walk.{NeatLayer, Neat, neat-door, path-length, Told, told_none, told-next}
+use Rattle.layers.proofs.Walk.{even-door, path-length, Told, told_none, told-next}
 use Rattle.layers.specs.Calls.{places_agree, in_arcs_agree, keeps_all_arcs}
 use Rattle.layers.specs.Settings.{Setting}
 use Rattle.layers.specs.declared.node.Down.{Down}
+
+module _ {S V : Type 0} {Keeps : List ℕ → Type 0} {Stands : S → List ℕ → Type 0} (by : Setting S V) (ruled : RuleLaws by.round.n by.rule Keeps Stands) where
+  -- ---- labels that agree in all but the value
+  pub record Agree (x y : Down S V) : Type 0 where
+    pub all : x.all ≡ y.all
+    pub some : x.some ≡ y.some
+    pub finish : x.finish ≡ y.finish
+    pub lasts : x.lasts ≡ y.lasts
+    pub state : x.state ≡ y.state
+
+  pub agree-yes : (x y : Down S V) → agree by.rule x y ≡ true → Agree x y
+  unfolding agree
+  agree-yes x y e = record {
+    all = grind (arith, nat_tests, e);
+    some = grind (arith, nat_tests, e);
+    finish = grind (arith, nat_tests, e);
+    lasts = grind (arith, nat_tests, e);
+    state = ruled.same_is x.state y.state (grind (arith, nat_tests, e));
+  }
+
+  yes-agree : (x y : Down S V) → Agree x y → agree by.rule x y ≡ true
+  unfolding agree
+  yes-agree x y e = let s = ap (by.rule.same x.state) (sym e.state) ∙ ruled.same_self x.state in grind (arith, nat_tests, s, e.all, e.some, e.finish, e.lasts)
+
+  pub agree-self : (x : Down S V) → Agree x x
+  agree-self x = record { all = refl; some = refl; finish = refl; lasts = refl; state = refl }
+
+  pub agree-back : (x y z : Down S V) → Agree x y → Agree x z → Agree y z
+  agree-back x y z p q = record { all = sym p.all ∙ q.all; some = sym p.some ∙ q.some; finish = sym p.finish ∙ q.finish; lasts = sym p.lasts ∙ q.lasts; state = sym p.state ∙ q.state }
+
+  -- merging what agrees gives the same
+  pub agree-merge : (x y z : Down S V) → Agree x y → Agree x z → Agree x (merge by.rule by.tally y z)
+  unfolding merge
+  agree-merge x y z p q = record {
+    all = sym (and_self x.all) ∙ ap (λ (t : ℕ). bit_and t x.all) p.all ∙ ap (bit_and y.all) q.all;
+    some = sym (or_self x.some) ∙ ap (λ (t : ℕ). bit_or t x.some) p.some ∙ ap (bit_or y.some) q.some;
+    finish = omega (arith, p.finish, q.finish);
+    lasts = sym (or_self x.lasts) ∙ ap (λ (t : ℕ). bit_or t x.lasts) p.lasts ∙ ap (bit_or y.lasts) q.lasts;
+    state = sym (ruled.cover_same x.state) ∙ ap (λ (t : S). by.rule.cover t x.state) p.state ∙ ap (by.rule.cover y.state) q.state;
+  }
+
+  pub agree-arrive : (x y : Down S V) (j : ℕ) → Agree x y → Agree (arrival_over by x j) (arrival_over by y j)
+  unfolding arrival_over
+  agree-arrive x y j p = record {
+    all = ap (λ (t : ℕ). bit_or t (bit_of j)) p.all;
+    some = ap (λ (t : ℕ). bit_or t (bit_of j)) p.some;
+    finish = rw p.finish (ap (λ (t : ℕ). finish by.round y.finish (leg by.round t j) j) p.lasts);
+    lasts = refl;
+    state = ap (λ (t : S). by.rule.step t j) p.state;
+  }
+
+  -- a list of arrivals agrees if any two do
+  all_yes : (x : Down S V) (l : List (Down S V)) → agrees_with_all by.rule x l ≡ true → (y : Down S V) → Among y l → Agree x y
+  unfolding agrees_with_all
+  all_yes x [] e y i = absurd i
+  all_yes x (z ∷ l) e y i = grind (arith, e, i, agree-yes x z, all_yes x l)
+
+  yes-all : (x : Down S V) (l : List (Down S V)) → ((y : Down S V) → Among y l → Agree x y) → agrees_with_all by.rule x l ≡ true
+  unfolding agrees_with_all
+  yes-all x [] f = refl
+  yes-all x (y ∷ l) f = rw (yes-agree x y (f y (inl refl))) (yes-all x l (λ z i. f z (inr i)))
+
+  pub pairs : (l : List (Down S V)) → all_agree by.rule l ≡ true → (y z : Down S V) → Among y l → Among z l → Agree y z
+  unfolding all_agree
+  pairs [] e y z i k = absurd i
+  pairs (x ∷ l) e y z i k = agree-back x y z (one_of y i) (one_of z k)
+    where
+      one_of : (t : Down S V) → Among t (x ∷ l) → Agree x t
+      one_of t (inl f) = rw f (agree-self x)
+      one_of t (inr m) = all_yes x l e t m
+
+  pub by-pairs : (l : List (Down S V)) → ((y z : Down S V) → Among y l → Among z l → Agree y z) → all_agree by.rule l ≡ true
+  unfolding all_agree
+  by-pairs [] f = refl
+  by-pairs (x ∷ l) f = yes-all x l (λ y i. f x y (inl refl) (inr i))
 
 -- ---- tests that passed
 every_door-at : (f : ℕ → ℕ → Bool) (j : ℕ) (ts : Outs) (k m b : ℕ) → j + k ≡ m → every_door f j ts ≡ true → get_or ts k 0 ≡ suc b → f m b ≡ true
@@ -34,17 +108,15 @@ unfolding every_door
 every_door-at f j [] k m b h t e = absurd (omega arith)
 every_door-at f j (zero ∷ ts) zero m b h t e = absurd (omega arith)
 every_door-at f j (zero ∷ ts) (suc k) m b h t e = every_door-at f (suc j) ts k m b (omega arith) t e
-every_door-at f j (suc c ∷ ts) zero m b h t e = let x : m ≡ j = omega arith in let y : b ≡ c = omega arith in let z : f m b ≡ f j c = cc in z ∙ (and_parts (f j c) (every_door f (suc j) ts) t).0
-every_door-at f j (suc c ∷ ts) (suc k) m b h t e = every_door-at f (suc j) ts k m b (omega arith) (and_parts (f j c) (every_door f (suc j) ts) t).1 e
+every_door-at f j (suc c ∷ ts) zero m b h t e = let x : m ≡ j = omega arith in let y : b ≡ c = omega arith in grind (arith, t, x, y)
+every_door-at f j (suc c ∷ ts) (suc k) m b h t e = grind (arith, t, every_door-at f (suc j) ts k m b (omega arith), e)
 
 pub every_arc-at : (f : ℕ → ℕ → ℕ → Bool) (c : ℕ) (L : Layer) (a m j b : ℕ) → c + a ≡ m → every_arc f c L ≡ true → target (node L a) j ≡ suc b → f m j b ≡ true
 unfolding every_arc
-every_arc-at f c [] a m zero b h t e = absurd (omega arith)
+every_arc-at f c L a m zero b h t e = absurd (omega arith)
 every_arc-at f c [] a m (suc k) b h t e = absurd (omega arith)
-every_arc-at f c (nd ∷ L) zero m zero b h t e = absurd (omega arith)
-every_arc-at f c (nd ∷ L) zero m (suc k) b h t e =
-    ap (λ (x : ℕ). f x (suc k) b) (omega arith) ∙ every_door-at (f c) 1 nd k (suc k) b (omega arith) (and_parts (every_door (f c) 1 nd) (every_arc f (suc c) L) t).0 e
-every_arc-at f c (nd ∷ L) (suc a) m j b h t e = every_arc-at f (suc c) L a m j b (omega arith) (and_parts (every_door (f c) 1 nd) (every_arc f (suc c) L) t).1 e
+every_arc-at f c (nd ∷ L) zero m (suc k) b h t e = let x : m ≡ c = omega arith in grind (arith, t, x, every_door-at (f c) 1 nd k (suc k) b (omega arith), e)
+every_arc-at f c (nd ∷ L) (suc a) m (suc k) b h t e = grind (arith, t, every_arc-at f (suc c) L a m (suc k) b (omega arith), e)
 
 module _ {S V : Type 0} {Keeps : List ℕ → Type 0} {Stands : S → List ℕ → Type 0} {Allows : ℕ → V → Type 0} (by : Setting S V) (ruled : RuleLaws by.round.n by.rule Keeps Stands) (tallied : TallyLaws by.round.n by.tally Allows) where
   -- ---- what is gathered from arrivals that agree agrees with each
@@ -56,11 +128,7 @@ module _ {S V : Type 0} {Keeps : List ℕ → Type 0} {Stands : S → List ℕ �
   Attained v l = (x : Down S V) × Among x l × (x.value ≡ v)
 
   lesser-one : (a b : V) (l : List (Down S V)) → Attained a l → Attained b l → Attained (by.tally.lesser a b) l
-  lesser-one a b l p q = rw (tallied.lesser_is a b) (go (by.tally.not_above a b))
-    where
-      go : (t : Bool) → Attained (cond t a b) l
-      go true = p
-      go false = q
+  lesser-one a b l p q = rw (tallied.lesser_is a b) (cond_both (by.tally.not_above a b) a b (λ v. Attained v l) (λ _. p) (λ _. q))
 
   fold-value : (y : Down S V) (all l : List (Down S V)) → Attained y.value all → ((z : Down S V) → Among z l → Among z all) → Attained (fold (merge by.rule by.tally) y l).value all
   unfolding merge
@@ -108,14 +176,9 @@ module _ {S V : Type 0} {Keeps : List ℕ → Type 0} {Stands : S → List ℕ �
 
   clear : (i h j : ℕ) (l : Down S V) (u : Option Up) → is_barred by.round by.rule i h j (Some l) u ≡ false → Clear l j
   clear i h j l None e = absurd (true≢false e)
-  clear i h j l (Some u) e =
-      let a = or_parts (has l.all j) _ e in
-      let b = or_parts (ltb (ones (bit_or l.some (bit_of j))) (suc i)) _ a.1 in
-      let c = or_parts (ltb (door by.round j).closes (finish by.round l.finish (leg by.round l.lasts j) j)) _ b.1 in
-      let d = or_parts (by.rule.bars l.state j) _ c.1 in
-      record { new = a.0; early = ltb-false (door by.round j).closes (finish by.round l.finish (leg by.round l.lasts j) j) c.0; free = d.0 }
+  clear i h j l (Some u) e = record { new = grind (arith, e); early = grind (arith, nat_tests, e); free = grind (arith, e) }
 
-  -- bit_of door on
+  -- one door on
   pub record Onward (l : Down S V) (p : List ℕ) (j : ℕ) : Type 0 where
     pub sound : Sound (p ++ (j ∷ []))
     pub exact : Exact (arrival_over by l j) (p ++ (j ∷ []))
@@ -165,11 +228,7 @@ module _ {S V : Type 0} {Keeps : List ℕ → Type 0} {Stands : S → List ℕ �
   agreed-at : (labs : List (Option (Down S V))) (L : Layer) (k b : ℕ) → places_agree by labs L k ≡ true → b < k → all_agree by.rule (arrivals_at (arrival_over by) b labs L) ≡ true
   unfolding places_agree
   agreed-at labs L zero b e h = absurd (not-suc-le-zero h)
-  agreed-at labs L (suc k) b e h = go (eqb b k) refl (λ g. agreed-at labs L k b (and_parts _ _ e).1 g)
-    where
-      go : (q : Bool) → eqb b k ≡ q → (b < k → all_agree by.rule (arrivals_at (arrival_over by) b labs L) ≡ true) → all_agree by.rule (arrivals_at (arrival_over by) b labs L) ≡ true
-      go true f g = rw (eqb-true b k f) ((and_parts _ _ e).0)
-      go false f g = g (omega (arith, eqb-false b k f))
+  agreed-at labs L (suc k) b e h = grind (arith, nat_tests, e, h, agreed-at labs L k b)
 
   settles-next : (i : ℕ) (labs : List (Option (Down S V))) (L M : Layer) (Ls : Net) → settles by i labs (L ∷ M ∷ Ls) ≡ true
       → (places_agree by labs L (length M) ≡ true) × (settles by (suc i) (labels_next by labs L (length M)) (M ∷ Ls) ≡ true)
@@ -181,29 +240,29 @@ module _ {S V : Type 0} {Keeps : List ℕ → Type 0} {Stands : S → List ℕ �
 
   -- ---- every path is sound
   pub paths-sound : (i : ℕ) (p w : List ℕ) (labs : List (Option (Down S V))) (Ls : Net) (a : ℕ) (l : Down S V) → length p + length Ls ≡ by.round.n → settles by i labs Ls ≡ true
-      → get_or labs a None ≡ Some l → Exact l p → Sound p → Neat by.round.n Ls → PathFrom Ls a w → Sound (p ++ w)
+      → get_or labs a None ≡ Some l → Exact l p → Sound p → IsEven by.round.n Ls → PathFrom Ls a w → Sound (p ++ w)
   unfolding labels_next
-  paths-sound i p [] labs [] a l t s g e o neat q = rw (append-nil p) o
-  paths-sound i p (j ∷ w) labs [] a l t s g e o neat q = absurd q
-  paths-sound i p [] labs (L ∷ Ls) a l t s g e o neat q = absurd q
-  paths-sound i p (j ∷ []) labs (L ∷ []) a l t s g e o neat q =
-      (onward l p j (omega (arith, by.round.most)) (neat-door by.round L neat.0 a j q.0 q.1) o e (settles-arc i labs L [] a j q.0 l s q.1 g)).sound
-  paths-sound i p (j ∷ k ∷ w) labs (L ∷ []) a l t s g e o neat q = absurd q.2
-  paths-sound i p (j ∷ w) labs (L ∷ M ∷ Ls) a l t s g e o neat q =
+  paths-sound i p [] labs [] a l t s g e o even q = rw (append-nil p) o
+  paths-sound i p (j ∷ w) labs [] a l t s g e o even q = absurd q
+  paths-sound i p [] labs (L ∷ Ls) a l t s g e o even q = absurd q
+  paths-sound i p (j ∷ []) labs (L ∷ []) a l t s g e o even q =
+      (onward l p j (omega (arith, by.round.most)) (even-door by.round L even.0 a j q.0 q.1) o e (settles-arc i labs L [] a j q.0 l s q.1 g)).sound
+  paths-sound i p (j ∷ k ∷ w) labs (L ∷ []) a l t s g e o even q = absurd q.2
+  paths-sound i p (j ∷ w) labs (L ∷ M ∷ Ls) a l t s g e o even q =
       let b = q.0 in
-      let on = onward l p j (omega (arith, by.round.most)) (neat-door by.round L neat.0 a j b q.1) o e (settles-arc i labs L (M ∷ Ls) a j b l s q.1 g) in
+      let on = onward l p j (omega (arith, by.round.most)) (even-door by.round L even.0 a j b q.1) o e (settles-arc i labs L (M ∷ Ls) a j b l s q.1 g) in
       let h = inside (M ∷ Ls) b w q.2 in
       let n = next-at {A = Down S V} (merge by.rule by.tally) (λ x y. Unit {0}) (λ x. tt) (λ x y z f g. tt) (λ x y. tt) (λ x y. tt) (arrival_over by) labs L (length M) a j b l q.1 g h in
       let sn = settles-next i labs L M Ls s in
       let same = same-gather (arrivals_at (arrival_over by) b labs L) n.0 (arrival_over by l j) (agreed-at labs L (length M) b sn.0 h)
       (next-some (arrival_over by) (merge by.rule by.tally) labs L (length M) b n.0 n.1) (ins-in (arrival_over by) (merge by.rule by.tally) b labs L a j l q.1 g) in
       rw (← (snoc-assoc p w j)) (paths-sound (suc i) (p ++ (j ∷ [])) w (labels_next by labs L (length M)) (M ∷ Ls) b n.0 (omega (arith, length-snoc p j)) sn.1 n.1
-      (exact_same (arrival_over by l j) n.0 (p ++ (j ∷ [])) same on.exact) on.sound neat.1 q.2)
+      (exact_same (arrival_over by l j) n.0 (p ++ (j ∷ [])) same on.exact) on.sound even.1 q.2)
 
-  pub paths-allowed : (D : Net) (w : List ℕ) → length D ≡ by.round.n → Neat by.round.n D → settled by D ≡ true → PathFrom D 0 w → IsAllowed by.round Keeps w
+  pub paths-allowed : (D : Net) (w : List ℕ) → length D ≡ by.round.n → IsEven by.round.n D → settled by D ≡ true → PathFrom D 0 w → IsAllowed by.round Keeps w
   unfolding settled
-  paths-allowed D w t neat s q =
-      let o = paths-sound 0 [] w (first_labels by.rule by.tally) D 0 (first_label by.rule by.tally) (omega arith) s refl exact-first sound_none neat q in
+  paths-allowed D w t even s q =
+      let o = paths-sound 0 [] w (first_labels by.rule by.tally) D 0 (first_label by.rule by.tally) (omega arith) s refl exact-first sound_none even q in
       record { whole = path-length D 0 w q ∙ t; part = o.told.part; keeps = o.keeps; timely = o.timely }
 
   -- ---- the bound is the cost of a path
@@ -228,43 +287,43 @@ module _ {S V : Type 0} {Keeps : List ℕ → Type 0} {Stands : S → List ℕ �
       long = length-snoc c.way f.door ∙ ap suc c.long;
     }
 
-    -- to whatever gathered it: bit_of of the arrivals has its value
-    over : (Ls : Net) (L : Layer) (i k : ℕ) (labs : List (Option (Down S V))) (b : ℕ) (m : Down S V) → k < 16 → NeatLayer by.round.n L → settles by i labs (L ∷ Ls) ≡ true
+    -- to whatever gathered it: one of the arrivals has its value
+    over : (Ls : Net) (L : Layer) (i k : ℕ) (labs : List (Option (Down S V))) (b : ℕ) (m : Down S V) → k < 16 → EvenLayer by.round.n L → settles by i labs (L ∷ Ls) ≡ true
         → ((a : ℕ) (l : Down S V) → get_or labs a None ≡ Some l → Reached (L ∷ Ls) k a l) → gather (merge by.rule by.tally) (arrivals_at (arrival_over by) b labs L) ≡ Some m
         → (x : Down S V) × Among x (arrivals_at (arrival_over by) b labs L) × (x.value ≡ m.value) × Reached Ls (suc k) b x
-    over Ls L i k labs b m h neat s reach g =
+    over Ls L i k labs b m h even s reach g =
         let v = value-gather (arrivals_at (arrival_over by) b labs L) m g in
         let f = ins-from (arrival_over by) b labs L v.0 v.1 in
         let c = reach f.source f.label f.labelled in
-        let on = onward f.label c.way f.door (omega (arith, c.long)) (neat-door by.round L neat f.source f.door b f.arc) c.sound c.exact
+        let on = onward f.label c.way f.door (omega (arith, c.long)) (even-door by.round L even f.source f.door b f.arc) c.sound c.exact
         (settles-arc i labs L Ls f.source f.door b f.label s f.arc f.labelled) in
         (v.0, v.1, v.2, onto Ls L k labs b v.0 f c on)
 
-    attain : (i k : ℕ) (labs : List (Option (Down S V))) (Ls : Net) (l : Down S V) → k + length Ls ≡ by.round.n → settles by i labs Ls ≡ true → Neat by.round.n Ls
+    attain : (i k : ℕ) (labs : List (Option (Down S V))) (Ls : Net) (l : Down S V) → k + length Ls ≡ by.round.n → settles by i labs Ls ≡ true → IsEven by.round.n Ls
         → ((a : ℕ) (l : Down S V) → get_or labs a None ≡ Some l → Reached Ls k a l) → end_label (arrival_over by) (merge by.rule by.tally) labs Ls ≡ Some l
         → (w : List ℕ) × PathFrom D 0 w × (cost by.round by.tally w ≡ l.value)
     unfolding end_label labels_next
-    attain i k labs [] l t s neat reach g =
+    attain i k labs [] l t s even reach g =
         let c = reach 0 l g in (c.way ++ [], c.leads [] refl, ap (cost by.round by.tally) (append-nil c.way) ∙ sym c.worth)
-    attain i k labs (L ∷ []) l t s neat reach g =
-        let x = over [] L i k labs 0 l (omega (arith, by.round.most)) neat.0 s reach (next-some (arrival_over by) (merge by.rule by.tally) labs L 1 0 l g) in
+    attain i k labs (L ∷ []) l t s even reach g =
+        let x = over [] L i k labs 0 l (omega (arith, by.round.most)) even.0 s reach (next-some (arrival_over by) (merge by.rule by.tally) labs L 1 0 l g) in
         let c = x.3 in
         (c.way ++ [], c.leads [] refl, ap (cost by.round by.tally) (append-nil c.way) ∙ sym c.worth ∙ x.2)
-    attain i k labs (L ∷ M ∷ Ls) l t s neat reach g =
+    attain i k labs (L ∷ M ∷ Ls) l t s even reach g =
         let sn = settles-next i labs L M Ls s in
-        attain (suc i) (suc k) (labels_next by labs L (length M)) (M ∷ Ls) l (omega arith) sn.1 neat.1
+        attain (suc i) (suc k) (labels_next by labs L (length M)) (M ∷ Ls) l (omega arith) sn.1 even.1
         (λ b m e.
         let e' = next-some (arrival_over by) (merge by.rule by.tally) labs L (length M) b m e in
         let h = next-within (arrival_over by) (merge by.rule by.tally) labs L (length M) b m e in
-        let x = over (M ∷ Ls) L i k labs b m (omega (arith, by.round.most)) neat.0 s reach e' in
+        let x = over (M ∷ Ls) L i k labs b m (omega (arith, by.round.most)) even.0 s reach e' in
         let same = same-gather (arrivals_at (arrival_over by) b labs L) m x.0 (agreed-at labs L (length M) b sn.0 h) e' x.1 in
         let c = x.3 in
         record { way = c.way; leads = c.leads; sound = c.sound; exact = exact_same x.0 m c.way same c.exact; worth = sym x.2 ∙ c.worth; long = c.long })
         g
 
-    pub bound-attained : (v : V) → length D ≡ by.round.n → Neat by.round.n D → settled by D ≡ true → bound by D ≡ Some v → (w : List ℕ) × PathFrom D 0 w × (cost by.round by.tally w ≡ v)
+    pub bound-attained : (v : V) → length D ≡ by.round.n → IsEven by.round.n D → settled by D ≡ true → bound by D ≡ Some v → (w : List ℕ) × PathFrom D 0 w × (cost by.round by.tally w ≡ v)
     unfolding settled bound
-    bound-attained v t neat s e = go (end_label (arrival_over by) (merge by.rule by.tally) (first_labels by.rule by.tally) D) refl e
+    bound-attained v t even s e = go (end_label (arrival_over by) (merge by.rule by.tally) (first_labels by.rule by.tally) D) refl e
       where
         start : (a : ℕ) (l : Down S V) → get_or (first_labels by.rule by.tally) a None ≡ Some l → Reached D 0 a l
         start zero l f = let x : first_label by.rule by.tally ≡ l = cc in
@@ -275,4 +334,4 @@ module _ {S V : Type 0} {Keeps : List ℕ → Type 0} {Stands : S → List ℕ �
         go None f g = absurd cc
         go (Some l) f g =
             let y : l.value ≡ v = cc in
-            let c = attain 0 0 (first_labels by.rule by.tally) D l (omega arith) s neat start f in (c.0, c.1, c.2 ∙ y)
+            let c = attain 0 0 (first_labels by.rule by.tally) D l (omega arith) s even start f in (c.0, c.1, c.2 ∙ y)

@@ -1,16 +1,21 @@
 -- What flows along arcs, and what redirecting, tidying do to paths.
+use Rattle.std.proofs.lemmas.Bool.Decides.{nat_tests}
 use Rattle.std.proofs.Common.{◌≡◌, ℕ, zero, suc, ◌+◌, ◌<◌, Bool, true, false, eqb, ◌⊎◌, List, [], ◌∷◌, ◌++◌, map, length, get_or, Some, None, fold, Option, refl, ap, ◌∙◌, inl, inr, le_of_suc-le-suc, not-suc-le-zero, arith}
-use Rattle.std.proofs.lemmas.Bool.{eqb-true, eq-eqb}
+use Rattle.std.proofs.lemmas.Bool.{eqb-true}
 use Rattle.std.proofs.lemmas.List.{get_or-map}
 use Rattle.layers.specs.Net.{table, Outs, Layer, Net, node, target, width, PathFrom, each_door, each_node, redirect}
 use Rattle.layers.specs.Flow.{put, arrivals_by_door, arrivals_at, gather, next, read, cons_if_some, climbs_of, up}
 use Rattle.layers.specs.Tidy.{Mark, marks_next, marks_up, flags, rank, compress, renumber, tidy, tidied_arcs}
-use Rattle.layers.specs.Labels.{arrival_over}
+use Rattle.layers.specs.Targets.{at_door}
 
 -- membership, in lists of any kind
 abbrev pub Among : {A : Type 0} → A → List A → Type 0
 Among x [] = ⊥
 Among x (y ∷ l) = (x ≡ y) ⊎ Among x l
+
+-- as many targets to each node of a layer as there are doors
+abbrev pub EvenLayer : ℕ → Layer → Type 0
+EvenLayer n L = (a : ℕ) → a < length L → length (node L a) ≡ n
 
 pub table_at : {A : Type 0} (n k : ℕ) (f : ℕ → A) (d : A) → k < n → get_or (table n f) k d ≡ f k
 table_at zero k f d h = absurd (not-suc-le-zero h)
@@ -22,30 +27,31 @@ table-long zero f = refl
 table-long (suc k) f = ap suc (table-long k (λ m. f (suc m)))
 
 -- ---- redirecting
-each_door-at : (f : ℕ → ℕ → ℕ) (j : ℕ) (ts : Outs) (k m b : ℕ) → j + k ≡ m → get_or ts k 0 ≡ suc b → get_or (each_door f j ts) k 0 ≡ f m b
+each_door-get : (f : ℕ → ℕ → ℕ) (j : ℕ) (ts : Outs) (k m : ℕ) → j + k ≡ m → get_or (each_door f j ts) k 0 ≡ at_door f m (get_or ts k 0)
 unfolding each_door
-each_door-at f j [] k m b h e = absurd (omega arith)
-each_door-at f j (zero ∷ ts) zero m b h e = absurd (omega arith)
-each_door-at f j (zero ∷ ts) (suc k) m b h e = each_door-at f (suc j) ts k m b (omega arith) e
-each_door-at f j (suc c ∷ ts) zero m b h e = let x : j ≡ m = omega arith in let y : c ≡ b = omega arith in cc
-each_door-at f j (suc c ∷ ts) (suc k) m b h e = each_door-at f (suc j) ts k m b (omega arith) e
+each_door-get f j [] k m h = refl
+each_door-get f j (zero ∷ ts) zero m h = refl
+each_door-get f j (suc c ∷ ts) zero m h = ap (λ (x : ℕ). f x c) (omega arith)
+each_door-get f j (zero ∷ ts) (suc k) m h = each_door-get f (suc j) ts k m (omega arith)
+each_door-get f j (suc c ∷ ts) (suc k) m h = each_door-get f (suc j) ts k m (omega arith)
 
-each_node-at : (f : ℕ → ℕ → ℕ → ℕ) (c : ℕ) (L : Layer) (a m j b : ℕ) → c + a ≡ m → target (node L a) j ≡ suc b → target (node (each_node f c L) a) j ≡ f m j b
+each_node-get : (f : ℕ → ℕ → ℕ → ℕ) (c : ℕ) (L : Layer) (a m j : ℕ) → c + a ≡ m → target (node (each_node f c L) a) j ≡ at_door (f m) j (target (node L a) j)
 unfolding each_node
-each_node-at f c [] a m zero b h e = absurd (omega arith)
-each_node-at f c [] a m (suc k) b h e = absurd (omega arith)
-each_node-at f c (nd ∷ L) zero m zero b h e = absurd (omega arith)
-each_node-at f c (nd ∷ L) zero m (suc k) b h e = each_door-at (f c) 1 nd k (suc k) b (omega arith) e ∙ ap (λ (x : ℕ). f x (suc k) b) (omega arith)
-each_node-at f c (nd ∷ L) (suc a) m j b h e = each_node-at f (suc c) L a m j b (omega arith) e
+each_node-get f c L a m zero h = refl
+each_node-get f c [] a m (suc k) h = refl
+each_node-get f c (nd ∷ L) zero m (suc k) h = each_door-get (f c) 1 nd k (suc k) (omega arith) ∙ ap (λ (x : ℕ). at_door (f x) (suc k) (get_or nd k 0)) (omega arith)
+each_node-get f c (nd ∷ L) (suc a) m (suc k) h = each_node-get f (suc c) L a m (suc k) (omega arith)
+
+pub redirect-get : (f : ℕ → ℕ → ℕ → ℕ) (L : Layer) (a j : ℕ) → target (node (redirect f L) a) j ≡ at_door (f a) j (target (node L a) j)
+unfolding redirect
+redirect-get f L a j = each_node-get f 0 L a a j (omega arith)
 
 pub redirect-arc : (f : ℕ → ℕ → ℕ → ℕ) (L : Layer) (a j b : ℕ) → target (node L a) j ≡ suc b → target (node (redirect f L) a) j ≡ f a j b
-unfolding redirect
-redirect-arc f L a j b e = each_node-at f 0 L a a j b (omega arith) e
+redirect-arc f L a j b e = redirect-get f L a j ∙ ap (at_door (f a) j) e
 
 -- ---- places in range
 pub has-arc : (L : Layer) (a j b : ℕ) → target (node L a) j ≡ suc b → a < length L
-has-arc [] a zero b e = absurd (omega arith)
-has-arc [] a (suc k) b e = absurd (omega arith)
+has-arc [] a j b e = grind (arith, e)
 has-arc (nd ∷ L) zero j b e = omega arith
 has-arc (nd ∷ L) (suc a) j b e = let h : a < length L = has-arc L a j b e in omega arith
 
@@ -58,40 +64,30 @@ inside (L ∷ Ls) a (j ∷ w) p = has-arc L a j p.0 p.1
 -- ---- downward
 pub among-left : {A : Type 0} (x : A) (l m : List A) → Among x l → Among x (l ++ m)
 among-left x [] m i = absurd i
-among-left x (y ∷ l) m (inl e) = inl e
-among-left x (y ∷ l) m (inr i) = inr (among-left x l m i)
+among-left x (y ∷ l) m i = grind (arith, i, among-left x l m)
 
 pub among-right : {A : Type 0} (x : A) (l m : List A) → Among x m → Among x (l ++ m)
 among-right x [] m i = i
 among-right x (y ∷ l) m i = inr (among-right x l m i)
 
 module _ {A : Type 0} (arrival_over : A → ℕ → A) (merge : A → A → A) where
-  put_in : (q : Bool) (x y : A) (r : List A) → q ≡ true → x ≡ y → Among x (put q y r)
-  put_in true x y r e f = inl f
-  put_in false x y r e f = absurd cc
-
-  put-tail : (q : Bool) (x y : A) (r : List A) → Among x r → Among x (put q y r)
-  put-tail true x y r i = inr i
-  put-tail false x y r i = i
-
   ins_door-in : (b : ℕ) (l : A) (j : ℕ) (ts : Outs) (k m : ℕ) → j + k ≡ m → get_or ts k 0 ≡ suc b → Among (arrival_over l m) (arrivals_by_door arrival_over b l j ts)
   unfolding arrivals_by_door
   ins_door-in b l j [] k m h e = absurd (omega arith)
-  ins_door-in b l j (t ∷ ts) zero m h e = put_in (eqb t (suc b)) (arrival_over l m) (arrival_over l j) (arrivals_by_door arrival_over b l (suc j) ts) (eq-eqb t (suc b) e) (ap (arrival_over l) (omega arith))
-  ins_door-in b l j (t ∷ ts) (suc k) m h e = put-tail (eqb t (suc b)) (arrival_over l m) (arrival_over l j) (arrivals_by_door arrival_over b l (suc j) ts) (ins_door-in b l (suc j) ts k m (omega arith) e)
+  ins_door-in b l j (t ∷ ts) zero m h e = let z : m ≡ j = omega arith in grind (arith, nat_tests, e, z)
+  ins_door-in b l j (t ∷ ts) (suc k) m h e = grind (arith, ins_door-in b l (suc j) ts k m (omega arith) e)
 
   pub ins-in : (b : ℕ) (labs : List (Option A)) (L : Layer) (a j : ℕ) (l : A) → target (node L a) j ≡ suc b → get_or labs a None ≡ Some l → Among (arrival_over l j) (arrivals_at arrival_over b labs L)
   unfolding arrivals_at
-  ins-in b [] L a j l e g = absurd cc
-  ins-in b (o ∷ labs) [] a zero l e g = absurd (omega arith)
+  ins-in b labs L a zero l e g = absurd (omega arith)
+  ins-in b [] L a (suc k) l e g = absurd cc
   ins-in b (o ∷ labs) [] a (suc k) l e g = absurd (omega arith)
-  ins-in b (None ∷ labs) (nd ∷ L) zero j l e g = absurd cc
-  ins-in b (None ∷ labs) (nd ∷ L) (suc a) j l e g = ins-in b labs L a j l e g
-  ins-in b (Some l' ∷ labs) (nd ∷ L) zero zero l e g = absurd (omega arith)
+  ins-in b (None ∷ labs) (nd ∷ L) zero (suc k) l e g = absurd cc
+  ins-in b (None ∷ labs) (nd ∷ L) (suc a) (suc k) l e g = ins-in b labs L a (suc k) l e g
   ins-in b (Some l' ∷ labs) (nd ∷ L) zero (suc k) l e g =
       let x : l' ≡ l = cc in
       among-left (arrival_over l (suc k)) (arrivals_by_door arrival_over b l' 1 nd) (arrivals_at arrival_over b labs L) (rw (← x) (ins_door-in b l' 1 nd k (suc k) (omega arith) e))
-  ins-in b (Some l' ∷ labs) (nd ∷ L) (suc a) j l e g = among-right (arrival_over l j) (arrivals_by_door arrival_over b l' 1 nd) (arrivals_at arrival_over b labs L) (ins-in b labs L a j l e g)
+  ins-in b (Some l' ∷ labs) (nd ∷ L) (suc a) (suc k) l e g = among-right _ (arrivals_by_door arrival_over b l' 1 nd) _ (ins-in b labs L a (suc k) l e g)
 
 module _ {A : Type 0} (merge : A → A → A) (R : A → A → Type 0) (R-refl : (x : A) → R x x) (R-trans : (x y z : A) → R x y → R y z → R x z)
     (left : (x y : A) → R x (merge x y)) (right : (x y : A) → R y (merge x y)) where
@@ -121,14 +117,8 @@ module _ {A : Type 0} (merge : A → A → A) (R : A → A → Type 0) (R-refl :
   outs-in : (climb : A → ℕ → A) (us : List (Option A)) (u : A) (j : ℕ) (ts : Outs) (k m b : ℕ) → j + k ≡ m → get_or ts k 0 ≡ suc b → get_or us b None ≡ Some u → Among (climb u m) (climbs_of climb us j ts)
   unfolding climbs_of
   outs-in climb us u j [] k m b h e g = absurd (omega arith)
-  outs-in climb us u j (t ∷ ts) zero m b h e g =
-      let x : read us t ≡ Some u = ap (read us) e ∙ g in let y : m ≡ j = omega arith in
-      rw x (inl (ap (climb u) y))
-  outs-in climb us u j (t ∷ ts) (suc k) m b h e g = more (read us t) (outs-in climb us u (suc j) ts k m b (omega arith) e g)
-    where
-      more : (o : Option A) → Among (climb u m) (climbs_of climb us (suc j) ts) → Among (climb u m) (cons_if_some climb j o (climbs_of climb us (suc j) ts))
-      more None i = i
-      more (Some l) i = inr i
+  outs-in climb us u j (t ∷ ts) zero m b h e g = let y : m ≡ j = omega arith in grind (arith, e, g, y)
+  outs-in climb us u j (t ∷ ts) (suc k) m b h e g = grind (arith, outs-in climb us u (suc j) ts k m b (omega arith) e g)
 
   pub up_at : (climb : A → ℕ → A) (top : A) (L : Layer) (Ls : Net) (a j b : ℕ) (u : A) → target (node L a) j ≡ suc b → get_or (up climb merge top Ls) b None ≡ Some u
       → (m : A) × (get_or (up climb merge top (L ∷ Ls)) a None ≡ Some m) × R (climb u j) m
@@ -164,10 +154,8 @@ pub compress-at : (fs : List Bool) (L : Layer) (a : ℕ) → get_or fs a false �
 unfolding compress rank
 compress-at [] L a e = absurd cc
 compress-at (f ∷ fs) [] a e = refl
-compress-at (true ∷ fs) (x ∷ xs) zero e = refl
-compress-at (false ∷ fs) (x ∷ xs) zero e = absurd cc
-compress-at (true ∷ fs) (x ∷ xs) (suc a) e = compress-at fs xs a e
-compress-at (false ∷ fs) (x ∷ xs) (suc a) e = compress-at fs xs a e
+compress-at (f ∷ fs) (x ∷ xs) zero e = grind (arith, e)
+compress-at (f ∷ fs) (x ∷ xs) (suc a) e = grind (arith, e, compress-at fs xs a)
 
 pub rank-zero : (fs : List Bool) → rank fs 0 ≡ 0
 unfolding rank
@@ -211,12 +199,7 @@ tidy-keeps (L ∷ Ls) (j ∷ w) p =
 -- ---- where an arrival comes from
 pub among-split : {A : Type 0} (x : A) (l m : List A) → Among x (l ++ m) → Among x l ⊎ Among x m
 among-split x [] m i = inr i
-among-split x (y ∷ l) m (inl e) = inl (inl e)
-among-split x (y ∷ l) m (inr i) = go (among-split x l m i)
-  where
-    go : Among x l ⊎ Among x m → Among x (y ∷ l) ⊎ Among x m
-    go (inl h) = inl (inr h)
-    go (inr h) = inr h
+among-split x (y ∷ l) m i = grind (arith, i, among-split x l m)
 
 pub record From {A : Type 0} (arrival_over : A → ℕ → A) (b : ℕ) (labs : List (Option A)) (L : Layer) (x : A) : Type 0 where
   pub source : ℕ
@@ -228,9 +211,7 @@ pub record From {A : Type 0} (arrival_over : A → ℕ → A) (b : ℕ) (labs : 
 
 module _ {A : Type 0} (arrival_over : A → ℕ → A) where
   put-from : (q : Bool) (x y : A) (r : List A) → Among x (put q y r) → ((q ≡ true) × (x ≡ y)) ⊎ Among x r
-  put-from true x y r (inl e) = inl (refl, e)
-  put-from true x y r (inr i) = inr i
-  put-from false x y r i = inr i
+  put-from q x y r i = grind (arith, i)
 
   ins_door-from : (b : ℕ) (l x : A) (j : ℕ) (ts : Outs) → Among x (arrivals_by_door arrival_over b l j ts) → (k : ℕ) × (get_or ts k 0 ≡ suc b) × (x ≡ arrival_over l (j + k))
   unfolding arrivals_by_door
@@ -256,15 +237,15 @@ module _ {A : Type 0} (arrival_over : A → ℕ → A) where
           record { source = 0; door = suc q.0; label = l; arc = q.1; labelled = refl; is = q.2 ∙ ap (arrival_over l) (omega arith) }
       go (inr h) f = let q = f h in record { source = suc q.source; door = q.door; label = q.label; arc = q.arc; labelled = q.labelled; is = q.is }
 
-pub table-some : {A : Type 0} (n k : ℕ) (f : ℕ → Option A) (x : A) → get_or (table n f) k None ≡ Some x → f k ≡ Some x
-table-some zero k f x e = absurd cc
-table-some (suc n) zero f x e = e
-table-some (suc n) (suc k) f x e = table-some n k (λ m. f (suc m)) x e
+table-get : {A : Type 0} (n k : ℕ) (f : ℕ → Option A) (x : A) → get_or (table n f) k None ≡ Some x → (k < n) × (f k ≡ Some x)
+table-get zero k f x e = absurd cc
+table-get (suc n) zero f x e = (omega arith, e)
+table-get (suc n) (suc k) f x e = let q = table-get n k (λ m. f (suc m)) x e in (omega arith, q.1)
 
 pub next-some : {A : Type 0} (arrival_over : A → ℕ → A) (merge : A → A → A) (labs : List (Option A)) (L : Layer) (count b : ℕ) (m : A)
     → get_or (next arrival_over merge labs L count) b None ≡ Some m → gather merge (arrivals_at arrival_over b labs L) ≡ Some m
 unfolding next
-next-some arrival_over merge labs L count b m e = table-some count b (λ c. gather merge (arrivals_at arrival_over c labs L)) m e
+next-some arrival_over merge labs L count b m e = (table-get count b (λ c. gather merge (arrivals_at arrival_over c labs L)) m e).1
 
 -- what each arrival has and merging keeps, the label has
 pub gather-all : {A : Type 0} (merge : A → A → A) (P : A → Type 0) → ((x y : A) → P x → P y → P (merge x y))
@@ -277,15 +258,10 @@ gather-all {A} merge P keep (x ∷ xs) m f e = let y : fold merge x xs ≡ m = c
     go y [] p g = p
     go y (z ∷ ys) p g = go (merge y z) ys (keep y z p (g z (inl refl))) (λ t i. g t (inr i))
 
-pub table-within : {A : Type 0} (n k : ℕ) (f : ℕ → Option A) (x : A) → get_or (table n f) k None ≡ Some x → k < n
-table-within zero k f x e = absurd cc
-table-within (suc n) zero f x e = omega arith
-table-within (suc n) (suc k) f x e = let h = table-within n k (λ m. f (suc m)) x e in omega arith
-
 pub next-within : {A : Type 0} (arrival_over : A → ℕ → A) (merge : A → A → A) (labs : List (Option A)) (L : Layer) (count b : ℕ) (m : A)
     → get_or (next arrival_over merge labs L count) b None ≡ Some m → b < count
 unfolding next
-next-within arrival_over merge labs L count b m e = table-within count b (λ c. gather merge (arrivals_at arrival_over c labs L)) m e
+next-within arrival_over merge labs L count b m e = (table-get count b (λ c. gather merge (arrivals_at arrival_over c labs L)) m e).0
 
 pub gather-any : {A : Type 0} (merge : A → A → A) (l : List A) (m : A) → gather merge l ≡ Some m → (x : A) × Among x l
 unfolding gather

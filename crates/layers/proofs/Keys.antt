@@ -1,18 +1,19 @@
 -- A key for each node of the first layers, such that every arc leads from key to key: so the in-arcs there agree, whichever arcs go, and however nodes are renumbered or parted.
-use Rattle.std.proofs.Common.{◌≡◌, ℕ, zero, suc, ◌<◌, ◌≤◌, Bool, true, false, cond, ◌&&◌, eqb, List, [], ◌∷◌, ◌++◌, length, get_or, Some, None, Option, sym, refl, ap, ◌∙◌, inl, inr, arith}
-use Rattle.std.proofs.lemmas.Bool.{false≢true, eqb-true, eq-eqb, ne_eqb, and_parts}
+use Rattle.std.proofs.lemmas.Bool.Decides.{nat_tests}
+use Rattle.std.proofs.Common.{◌≡◌, ℕ, zero, suc, ◌≤◌, Bool, true, false, cond, eqb, List, [], ◌∷◌, ◌++◌, length, get_or, Some, None, Option, sym, refl, ap, ◌∙◌, arith}
+use Rattle.std.proofs.lemmas.Bool.{false≢true}
 use Rattle.rules.specs.Rules.{RuleLaws}
 use Rattle.layers.specs.Net.{Layer, Net, node, target, width, redirect}
 use Rattle.layers.specs.Flow.{arrivals_at}
 use Rattle.layers.specs.Tidy.{Mark, marks_next, marks_up, flags, rank, compress, renumber, tidy, tidied_arcs}
 use Rattle.layers.specs.Lawful.{IsTied}
-use Rattle.layers.specs.Labels.{ups, first_label, first_labels, arrival_over, merge, labels_next, is_barred, first_arrival, differs_from_first}
+use Rattle.layers.specs.Labels.{ups, first_label, first_labels, arrival_over, merge, labels_next, is_barred}
 use Rattle.layers.proofs.Flows.{Among, has-arc, ins-from, next-some, gather-all, compress-at}
 use Rattle.layers.proofs.Ways.{length-snoc}
-use Rattle.layers.proofs.Model.{sweeps, sweep, part_at, agrees}
-use Rattle.layers.proofs.Tied.{redirect-back, compress-back, renumber-back}
+use Rattle.layers.proofs.Model.{sweeps, sweep, part_at, agrees, moved}
+use Rattle.layers.proofs.Tied.{redirect-back, compress-back, renumber-back, kept-back}
 use Rattle.layers.proofs.Ties.{more-back}
-use Rattle.layers.proofs.Agreeing.{Agree, agree-self, agree-back, agree-merge, agree-arrive, by-pairs}
+use Rattle.layers.proofs.Exact.{Agree, agree-self, agree-back, agree-merge, agree-arrive, by-pairs}
 use Rattle.layers.specs.Calls.{places_agree, kept_arcs, parted_arcs, in_arcs_agree}
 use Rattle.layers.specs.Settings.{Setting}
 use Rattle.layers.specs.declared.node.Down.{Down}
@@ -80,17 +81,11 @@ module _ {S V : Type 0} (by : Setting S V) where
   sub-sweeps : (i : ℕ) (labs : List (Option (Down S V))) (Ls : Net) → Sub (λ a. a) (sweeps by i labs Ls) Ls
   unfolding kept_arcs
   sub-sweeps i labs [] = tt
-  sub-sweeps i labs (L ∷ Ls) = (λ b. b, stays, sub-sweeps (suc i) (labels_next by labs L (width Ls)) Ls)
-    where
-      f : ℕ → ℕ → ℕ → ℕ
-      f a j b = cond (is_barred by.round by.rule i (suc (length Ls)) j (get_or labs a None) (get_or (ups Ls) b None)) 0 (suc b)
-
-      same : (q : Bool) (b c : ℕ) → cond q 0 (suc b) ≡ suc c → b ≡ c
-      same true b c e = absurd (omega arith)
-      same false b c e = omega arith
-
-      stays : (a j b : ℕ) → target (node (redirect f L) a) j ≡ suc b → target (node L a) j ≡ suc b
-      stays a j b e = let s = redirect-back f L a j b e in s.1 ∙ ap suc (same (is_barred by.round by.rule i (suc (length Ls)) j (get_or labs a None) (get_or (ups Ls) s.0 None)) s.0 b s.2)
+  sub-sweeps i labs (L ∷ Ls) = (
+    λ b. b,
+    kept-back (λ a j b. is_barred by.round by.rule i (suc (length Ls)) j (get_or labs a None) (get_or (ups Ls) b None)) L,
+    sub-sweeps (suc i) (labels_next by labs L (width Ls)) Ls,
+  )
 
   -- parting
   sub_part : (d a : ℕ) (labs : List (Option (Down S V))) (Ls : Net) → IsTied Ls → Sub (λ a. a) (part_at by d a labs Ls) Ls
@@ -98,39 +93,17 @@ module _ {S V : Type 0} (by : Setting S V) where
   sub_part zero a labs [] t = tt
   sub_part (suc d) a labs [] t = tt
   sub_part zero a labs (L ∷ []) t = sub_self (L ∷ [])
-  sub_part zero a labs (L ∷ M ∷ Ls) t = (g, before, (λ b. b, behind, sub_self Ls))
+  sub_part zero a labs (L ∷ M ∷ Ls) t = (λ c. cond (eqb c (length M)) a c, before, (λ b. b, behind, sub_self Ls))
     where
       -- the new last node was the one at place a
-      g : ℕ → ℕ
-      g c = cond (eqb c (length M)) a c
+      before : (u j c : ℕ) → target (node (redirect (moved by a labs L (length M)) L) u) j ≡ suc c → target (node L u) j ≡ suc (cond (eqb c (length M)) a c)
+      before u j c e = let s = redirect-back (moved by a labs L (length M)) L u j c e in let k = t.0 u j s.0 s.1 in let x = s.1 in let y = s.2 in grind (arith, nat_tests, x, y, k)
 
-      g-new : g (length M) ≡ a
-      g-new = ap (λ (q : Bool). cond q a (length M)) (eq-eqb (length M) (length M) refl)
-
-      g-old : (c : ℕ) → c < length M → g c ≡ c
-      g-old c h = ap (λ (q : Bool). cond q a c) (ne_eqb c (length M) (λ e. omega arith))
-
-      h : Option (Down S V)
-      h = first_arrival (arrivals_at (arrival_over by) a labs L)
-
-      f : ℕ → ℕ → ℕ → ℕ
-      f u j b = cond (eqb b a && differs_from_first by h (get_or labs u None) j) (suc (length M)) (suc b)
-
-      before : (u j c : ℕ) → target (node (redirect f L) u) j ≡ suc c → target (node L u) j ≡ suc (g c)
-      before u j c e =
-          let s = redirect-back f L u j c e in
-          s.1 ∙ ap suc (go (eqb s.0 a && differs_from_first by h (get_or labs u None) j) refl s.0 (t.0 u j s.0 s.1) (λ q. eqb-true s.0 a (and_parts (eqb s.0 a) (differs_from_first by h (get_or labs u None) j) q).0) s.2)
-        where
-          go : (q : Bool) {p : Bool} → p ≡ q → (b : ℕ) → b < length M → (p ≡ true → b ≡ a) → cond q (suc (length M)) (suc b) ≡ suc c → b ≡ g c
-          go true w b k n e = let z : length M ≡ c = omega arith in n w ∙ sym g-new ∙ ap g z
-          go false w b k n e = let z : b ≡ c = omega arith in sym (g-old b k) ∙ ap g z
-
-      behind : (c j b : ℕ) → target (node (M ++ (node M a ∷ [])) c) j ≡ suc b → target (node M (g c)) j ≡ suc b
+      behind : (c j b : ℕ) → target (node (M ++ (node M a ∷ [])) c) j ≡ suc b → target (node M (cond (eqb c (length M)) a c)) j ≡ suc b
       behind c j b e =
-          elim (more-back M (node M a) c (let z = has-arc (M ++ (node M a ∷ [])) c j b e in omega (arith, length-snoc M (node M a)))) [
-            | inl q ↦ rw ((g-old c q.0), ← q.1) e
-            | inr q ↦ rw ((ap g q.0 ∙ g-new), ← q.1) e
-          ]
+          let k = has-arc (M ++ (node M a ∷ [])) c j b e in
+          let q = more-back M (node M a) c (omega (arith, length-snoc M (node M a))) in
+          grind (arith, nat_tests, e, q)
   sub_part (suc d) a labs (L ∷ Ls) t = (λ b. b, λ x j b e. e, sub_part d a (labels_next by labs L (width Ls)) Ls (tied-tail L Ls t))
 
 module _ {S V : Type 0} {Keeps : List ℕ → Type 0} {Stands : S → List ℕ → Type 0} (by : Setting S V) (ruled : RuleLaws by.round.n by.rule Keeps Stands) where

@@ -1,35 +1,221 @@
--- What the labels mean, carried from the arcs to the records that a run leaves.
-use Rattle.std.proofs.Common.{◌≡◌, ℕ, zero, suc, ◌+◌, ◌*◌, ◌<◌, ◌≤◌, Bool, cond, not, List, [], ◌∷◌, length, get_or, drop, Some, None, Option, sym, refl, ap, ◌∙◌, subst, le_of_suc-le-suc, not-suc-le-zero, arith}
+-- What the labels mean: along the arcs, downward and upward, and so in the records that a run leaves.
+use Rattle.layers.proofs.Tidying.{path-push, ranged-at, leads-at}
+use Rattle.std.proofs.Common.{◌≡◌, ℕ, zero, suc, ◌<◌, ◌≤◌, List, [], ◌∷◌, length, get_or, drop, Some, None, Option, sym, refl, ap, subst, le_of_suc-le-suc, not-suc-le-zero, arith, true, ◌⊎◌, ◌++◌, ◌∙◌, inl, inr}
 use Rattle.round.specs.Clock.{latest_finish}
 use Rattle.rules.specs.Rules.{RuleLaws, RuleSense}
 use Rattle.tallies.specs.Tallies.{TallyLaws, TallySense}
 use Rattle.layers.specs.declared.node.Node.{Node}
-use Rattle.layers.specs.Net.{Net, width, PathFrom}
-use Rattle.layers.specs.Flow.{up}
-use Rattle.layers.specs.Lawful.{IsTied}
-use Rattle.layers.specs.Labels.{first_labels, labels_next, no_up, ups, opening_arcs}
-use Rattle.layers.specs.Records.{nodes_in, padded_targets, record_of_place}
+use Rattle.layers.specs.Net.{Net, width, PathFrom, Layer, node, target}
+use Rattle.layers.specs.Flow.{up, arrivals_at, gather, climbs_of}
+use Rattle.layers.specs.Lawful.{IsEven, IsLawful, IsTied}
+use Rattle.layers.specs.Labels.{first_labels, labels_next, no_up, ups, bit_of, climb, merge_up, first_label, arrival_over, merge}
+use Rattle.layers.specs.Records.{record_of_place}
 use Rattle.layers.specs.Calls.{arcs, layer}
-use Rattle.layers.specs.LabelLaws.{LeadsTo, Labelled, LabelsMean}
-use Rattle.layers.proofs.Flows.{table_at}
-use Rattle.layers.proofs.Model.{after, or_blank, or_no_up, labels_at}
-use Rattle.layers.proofs.Walk.{Neat, Good}
-use Rattle.layers.proofs.Lively.{way_on}
-use Rattle.layers.proofs.Bridge.{Labs, Full, top, stood, table-long}
-use Rattle.layers.proofs.Proper.{neat-of, proper-opened, proper-after}
-use Rattle.layers.proofs.Standing.{Well, X, full, nodes-X, arcs-X, run-opened}
-use Rattle.layers.proofs.Means.{Tells, all-exact, some-exact, owed-at, tells_at, good-at, up-exact}
+use Rattle.layers.specs.LabelLaws.{LeadsTo, Labelled, LabelsMean, PathTo, OnEvery, OnOne, Exactly}
+use Rattle.layers.proofs.Flows.{table_at, EvenLayer, Climbs, outs-from, map-some, From, ins-from, next-some, next-at, gather-all}
+use Rattle.layers.proofs.Model.{or_blank, or_no_up, labels_at}
+use Rattle.layers.proofs.Walk.{Good, path-up, good-first, good-next}
+use Rattle.layers.proofs.Bridge.{Labs, Full, top, stood, table-long, end-top}
+use Rattle.layers.proofs.Standing.{X, full, nodes-X, arcs-X, after_end, run-reached}
 use Rattle.layers.specs.Settings.{Setting, setting}
 use Rattle.layers.specs.declared.node.Down.{Down}
+use lib.Bits.{bit_and, bit_or}
+use Rattle.std.proofs.lemmas.Bool.{cases_eq}
+use Rattle.doors.proofs.Sets.{digit_and, has-true, true-has}
+use Rattle.doors.specs.Orders.{StandsIn}
+use Rattle.doors.specs.Sets.{has}
+use Rattle.layers.specs.declared.node.Up.{Up}
+use Rattle.doors.proofs.Orders.{in_left}
+use Rattle.layers.proofs.Ways.{or_left, or_right, or_split, and_left, and_right, one-self, one_only, none_has, in_split, in-snd, length-snoc}
 
--- after the first layer a path leads on from each node
-leads-at : (D : Net) (i a : ℕ) → IsTied D → 1 ≤ i → i ≤ length D → a < width (drop i D) → (w : List ℕ) × PathFrom (drop i D) a w
-leads-at D zero a t lo hi h = absurd (omega arith)
-leads-at [] (suc i) a t lo hi h = absurd (not-suc-le-zero hi)
-leads-at (L ∷ []) (suc zero) a t lo hi h = ([], omega arith)
-leads-at (L ∷ []) (suc (suc i)) a t lo hi h = absurd (not-suc-le-zero (le_of_suc-le-suc hi))
-leads-at (L ∷ M ∷ Ls) (suc zero) a t lo hi h = way_on M Ls t.2 t.3 a h
-leads-at (L ∷ M ∷ Ls) (suc (suc i)) a t lo hi h = leads-at (M ∷ Ls) (suc i) a t.3 (omega arith) (le_of_suc-le-suc hi) h
+and_both : (a b j : ℕ) → has a j ≡ true → has b j ≡ true → has (bit_and a b) j ≡ true
+and_both a b j x y = true-has (bit_and a b) j (omega (arith, digit_and a b j, has-true a j x, has-true b j y))
+
+-- ---- the sets of a label, and the paths P
+-- what the label has is owed to the paths
+pub record Owed (all some : ℕ) (P : List ℕ → Type 0) : Type 0 where
+  pub way : (w : List ℕ) × P w
+  pub all-if : (j : ℕ) → ((w : List ℕ) → P w → StandsIn j w) → has all j ≡ true
+  pub some-from : (j : ℕ) → has some j ≡ true → OnOne P j
+
+-- what the path w has is told by the label
+pub record Tells (all some : ℕ) (w : List ℕ) : Type 0 where
+  pub all_in : (j : ℕ) → has all j ≡ true → StandsIn j w
+  pub in_some : (j : ℕ) → StandsIn j w → has some j ≡ true
+
+pub all-exact : (all some : ℕ) (P : List ℕ → Type 0) → Owed all some P → ((w : List ℕ) → P w → Tells all some w) → Exactly all (OnEvery P)
+all-exact all some P o t j = (λ h. (o.way, λ w p. (t w p).all_in j (true-has all j h)), λ h. has-true all j (o.all-if j h.1))
+
+pub some-exact : (all some : ℕ) (P : List ℕ → Type 0) → Owed all some P → ((w : List ℕ) → P w → Tells all some w) → Exactly some (OnOne P)
+some-exact all some P o t j = (λ h. o.some-from j (true-has some j h), λ h. has-true some j ((t h.0 h.1).in_some j h.2))
+
+owed-merge : (a s a' s' : ℕ) (P : List ℕ → Type 0) → Owed a s P → Owed a' s' P → Owed (bit_and a a') (bit_or s s') P
+owed-merge a s a' s' P x y = record {
+  way = x.way;
+  all-if = λ j f. and_both a a' j (x.all-if j f) (y.all-if j f);
+  some-from = λ j h. elim (or_split s s' j h) [ inl p ↦ x.some-from j p | inr p ↦ y.some-from j p ];
+}
+
+-- one door k more, at either end of the path
+pub record Longer (k : ℕ) (more : List ℕ → List ℕ) : Type 0 where
+  pub here : (w : List ℕ) → StandsIn k (more w)
+  pub stays : (j : ℕ) (w : List ℕ) → StandsIn j w → StandsIn j (more w)
+  pub only : (j : ℕ) (w : List ℕ) → StandsIn j (more w) → (j ≡ k) ⊎ StandsIn j w
+
+at_front : (k : ℕ) → Longer k (λ w. k ∷ w)
+at_front k = record { here = λ w. inl refl; stays = λ j w i. inr i; only = λ j w i. i }
+
+at_back : (k : ℕ) → Longer k (λ w. w ++ (k ∷ []))
+at_back k = record {
+  here = λ w. in-snd k w (k ∷ []) (inl refl);
+  stays = λ j w i. in_left w (k ∷ []) j i;
+  only = λ j w i. elim (in_split j w (k ∷ []) i) [ inl x ↦ inr x | inr x ↦ elim x [ inl e ↦ inl e | inr y ↦ absurd y ] ];
+}
+
+owed-step : (a s k : ℕ) (P Q : List ℕ → Type 0) (more : List ℕ → List ℕ) → Longer k more → ((w : List ℕ) → P w → Q (more w)) → Owed a s P → Owed (bit_or a (bit_of k)) (bit_or s (bit_of k)) Q
+owed-step a s k P Q more l to o = record {
+  way = (more o.way.0, to o.way.0 o.way.1);
+  all-if = λ j f. elim (cases_eq j k) [
+    | inl e ↦ or_right a (bit_of k) j (rw e (one-self k))
+    | inr n ↦ or_left a (bit_of k) j (o.all-if j (λ w p. elim (l.only j w (f (more w) (to w p))) [ inl e ↦ absurd (n e) | inr h ↦ h ]))
+  ];
+  some-from = λ j h. elim (or_split s (bit_of k) j h) [
+    | inl x ↦ let q = o.some-from j x in (more q.0, to q.0 q.1, l.stays j q.0 q.2)
+    | inr x ↦ (more o.way.0, to o.way.0 o.way.1, rw (one_only k j x) (l.here o.way.0))
+  ];
+}
+
+tells-step : (a s k : ℕ) (more : List ℕ → List ℕ) (w : List ℕ) → Longer k more → Tells a s w → Tells (bit_or a (bit_of k)) (bit_or s (bit_of k)) (more w)
+tells-step a s k more w l t = record {
+  all_in = λ j h. elim (or_split a (bit_of k) j h) [ inl x ↦ l.stays j w (t.all_in j x) | inr x ↦ rw (one_only k j x) (l.here w) ];
+  in_some = λ j i. elim (l.only j w i) [ inl e ↦ or_right s (bit_of k) j (rw e (one-self k)) | inr x ↦ or_left s (bit_of k) j (t.in_some j x) ];
+}
+
+-- ---- paths to a node
+-- the last arc of a path
+record Last (D : Net) (x d b : ℕ) (w : List ℕ) : Type 0 where
+  before : List ℕ
+  door : ℕ
+  source : ℕ
+  is : w ≡ before ++ (door ∷ [])
+  path : PathTo D x before source
+  long : length before ≡ d
+  arc : target (node (get_or D d []) source) door ≡ suc b
+
+path-last : (D : Net) (x d b : ℕ) (w : List ℕ) → PathTo D x w b → length w ≡ suc d → Last D x d b w
+path-last D x d b [] q e = absurd (omega arith)
+path-last [] x d b (j ∷ w) q e = absurd q
+path-last (L ∷ Ls) x zero b (j ∷ []) q e = record { before = []; door = j; source = x; is = refl; path = refl; long = refl; arc = q.1 ∙ ap suc q.2 }
+path-last (L ∷ Ls) x zero b (j ∷ k ∷ w) q e = absurd (omega arith)
+path-last (L ∷ Ls) x (suc d) b (j ∷ w) q e =
+    let s = path-last Ls q.0 d b w q.2 (omega arith) in
+    record { before = j ∷ s.before; door = s.door; source = s.source; is = ap (λ (z : List ℕ). j ∷ z) s.is; path = (q.0, q.1, s.path); long = ap suc s.long; arc = s.arc }
+
+even-at : (n : ℕ) (D : Net) (d : ℕ) → IsEven n D → d < length D → EvenLayer n (get_or D d [])
+even-at n [] d s h = absurd (not-suc-le-zero h)
+even-at n (L ∷ Ls) zero s h = s.0
+even-at n (L ∷ Ls) (suc d) s h = even-at n Ls d s.1 (le_of_suc-le-suc h)
+
+-- ---- downward
+module _ {S V : Type 0} {Keeps : List ℕ → Type 0} {Stands : S → List ℕ → Type 0} (by : Setting S V) (ruled : RuleLaws by.round.n by.rule Keeps Stands) (w1 : 1 ≤ by.width) where
+  abbrev At : ℕ → Net → Labs by w1
+  At d D = labels_at by d (first_labels by.rule by.tally) D
+
+  labs-step : (d : ℕ) (labs : Labs by w1) (Ls : Net) → d < length Ls
+      → labels_at by (suc d) labs Ls ≡ labels_next by (labels_at by d labs Ls) (get_or Ls d []) (width (drop (suc d) Ls))
+  labs-step d labs [] h = absurd (not-suc-le-zero h)
+  labs-step zero labs (L ∷ Ls) h = refl
+  labs-step (suc d) labs (L ∷ Ls) h = labs-step d (labels_next by labs L (width Ls)) Ls (le_of_suc-le-suc h)
+
+  module _ (D : Net) where
+    -- a label is owed to the paths to its node
+    pub owed-at : (d : ℕ) → d ≤ length D → (a : ℕ) (l : Down S V) → get_or (At d D) a None ≡ Some l → Owed l.all l.some (LeadsTo D d a)
+    unfolding labels_next arrival_over merge
+    owed-at zero h zero l e =
+        let x : first_label by.rule by.tally ≡ l = cc in
+        rw (← x) (record { way = ([], (refl, refl)); all-if = λ j f. absurd (f [] (refl, refl)); some-from = λ j g. absurd (none_has j g) })
+    owed-at zero h (suc a) l e = absurd cc
+    owed-at (suc d) h b m e =
+        let L = get_or D d [] in
+        let n = width (drop (suc d) D) in
+        let e' : get_or (labels_next by (At d D) L n) b None ≡ Some m = ap (λ (z : Labs by w1). get_or z b None) (sym (labs-step d (first_labels by.rule by.tally) D h)) ∙ e in
+        gather-all (merge by.rule by.tally) (λ x. Owed x.all x.some (LeadsTo D (suc d) b))
+        (λ x y p q. owed-merge x.all x.some y.all y.some (LeadsTo D (suc d) b) p q)
+        (arrivals_at (arrival_over by) b (At d D) L) m
+        (λ x i. let f = ins-from (arrival_over by) b (At d D) L x i in each x f (owed-at d (omega arith) f.source f.label f.labelled))
+        (next-some (arrival_over by) (merge by.rule by.tally) (At d D) L n b m e')
+      where
+        each : (x : Down S V) (f : From (arrival_over by) b (At d D) (get_or D d []) x) → Owed f.label.all f.label.some (LeadsTo D d f.source) → Owed x.all x.some (LeadsTo D (suc d) b)
+        each x f o =
+            rw f.is (owed-step f.label.all f.label.some f.door (LeadsTo D d f.source) (LeadsTo D (suc d) b) (λ w. w ++ (f.door ∷ [])) (at_back f.door)
+            (λ w q. (path-push D 0 f.source f.door b w q.0 (rw q.1 f.arc), length-snoc w f.door ∙ ap suc q.1))
+            o)
+
+    -- a path to a node is told by its label
+    pub tells_at : IsTied D → (d : ℕ) → d ≤ length D → (a : ℕ) (w : List ℕ) → LeadsTo D d a w → (l : Down S V) × (get_or (At d D) a None ≡ Some l) × Tells l.all l.some w
+    unfolding labels_next arrival_over merge
+    tells_at t zero h a [] q = (first_label by.rule by.tally, ap (λ (z : ℕ). get_or (first_labels by.rule by.tally) z None) (sym q.0), record { all_in = λ j g. absurd (none_has j g); in_some = λ j i. absurd i })
+    tells_at t zero h a (j ∷ w) q = absurd (omega (arith, q.1))
+    tells_at t (suc d) h b w q =
+        let L = get_or D d [] in
+        let n = width (drop (suc d) D) in
+        let s = path-last D 0 d b w q.0 q.1 in
+        let x = tells_at t d (omega arith) s.source s.before (s.path, s.long) in
+        let y = next-at {A = Down S V} (merge by.rule by.tally) (λ x y. (w : List ℕ) → Tells x.all x.some w → Tells y.all y.some w) (λ x w f. f) (λ x y z f g w h. g w (f w h))
+        (λ x y w f. record { all_in = λ j h. f.all_in j (and_left x.all y.all j h); in_some = λ j i. or_left x.some y.some j (f.in_some j i) })
+        (λ x y w f. record { all_in = λ j h. f.all_in j (and_right x.all y.all j h); in_some = λ j i. or_right x.some y.some j (f.in_some j i) })
+        (arrival_over by) (At d D) L n s.source s.door b x.0 s.arc x.1 (ranged-at D d t h s.source s.door b s.arc) in (
+          y.0,
+          rw (labs-step d (first_labels by.rule by.tally) D h) y.1,
+          y.2 w (subst (Tells (bit_or x.0.all (bit_of s.door)) (bit_or x.0.some (bit_of s.door))) (sym s.is) (tells-step x.0.all x.0.some s.door (λ w. w ++ (s.door ∷ [])) s.before (at_back s.door) x.2)),
+        )
+
+    -- values and finishes
+    pub good-at : {Allows : ℕ → V → Type 0} (tallied : TallyLaws by.round.n by.tally Allows) → length D ≤ 16 → IsEven by.round.n D → (d : ℕ) → d ≤ length D → Good by ruled tallied d (At d D)
+    good-at tallied k s zero h = good-first by ruled tallied
+    good-at tallied k s (suc d) h =
+        rw (labs-step d (first_labels by.rule by.tally) D h) (good-next by ruled tallied d (At d D) (get_or D d []) (width (drop (suc d) D)) (omega arith) (good-at tallied k s d (omega arith)) (even-at by.round.n D d s h))
+
+-- ---- upward
+ups-node : (L : Layer) (Ls : Net) (a : ℕ) (u : Up) → get_or (ups (L ∷ Ls)) a None ≡ Some u → gather merge_up (climbs_of climb (ups Ls) 1 (node L a)) ≡ Some u
+unfolding ups up
+ups-node L Ls a u e = map-some (λ nd. gather merge_up (climbs_of climb (ups Ls) 1 nd)) L a u e
+
+owed-up : (Ls : Net) (a : ℕ) (u : Up) → get_or (ups Ls) a None ≡ Some u → Owed u.allup u.someup (PathFrom Ls a)
+owed-up [] zero u e =
+    let x : no_up ≡ u = unfold ups up in cc in
+    rw (← x) (record { way = ([], refl); all-if = λ j f. absurd (f [] refl); some-from = λ j g. absurd (none_has j g) })
+owed-up [] (suc a) u e = absurd (unfold ups up in cc)
+owed-up (L ∷ Ls) a u e =
+    gather-all merge_up (λ x. Owed x.allup x.someup (PathFrom (L ∷ Ls) a))
+    (λ x y p q. owed-merge x.allup x.someup y.allup y.someup (PathFrom (L ∷ Ls) a) p q)
+    (climbs_of climb (ups Ls) 1 (node L a)) u
+    (λ x i. let c = outs-from climb (ups Ls) x 1 (node L a) i in each x c (owed-up Ls c.to c.label c.labelled))
+    (ups-node L Ls a u e)
+  where
+    each : (x : Up) (c : Climbs climb (ups Ls) 1 (node L a) x) → Owed c.label.allup c.label.someup (PathFrom Ls c.to) → Owed x.allup x.someup (PathFrom (L ∷ Ls) a)
+    each x c o =
+        let k = suc c.skip in
+        let is : x ≡ climb c.label k = c.is ∙ ap (climb c.label) (omega arith) in
+        rw is (owed-step c.label.allup c.label.someup k (PathFrom Ls c.to) (PathFrom (L ∷ Ls) a) (λ w. k ∷ w) (at_front k) (λ w q. (c.to, c.arc, q)) o)
+
+tells-up : (Ls : Net) (a : ℕ) (u : Up) → get_or (ups Ls) a None ≡ Some u → (w : List ℕ) → PathFrom Ls a w → Tells u.allup u.someup w
+tells-up Ls a u e w p =
+    let q = path-up Ls a w p in
+    let x : q.0 ≡ u = cc q.1 in
+    rw (← x) (record { all_in = q.2.all; in_some = q.2.some })
+
+-- the sets of a node, also of one from which no path leads to the end
+pub up-exact : (Ls : Net) (a : ℕ) → let u = or_no_up (get_or (ups Ls) a None) in Exactly u.allup (OnEvery (PathFrom Ls a)) × Exactly u.someup (OnOne (PathFrom Ls a))
+up-exact Ls a = go (get_or (ups Ls) a None) refl
+  where
+    go : (o : Option Up) → get_or (ups Ls) a None ≡ o → Exactly (or_no_up o).allup (OnEvery (PathFrom Ls a)) × Exactly (or_no_up o).someup (OnOne (PathFrom Ls a))
+    go None e =
+        let no : (w : List ℕ) → PathFrom Ls a w → ⊥ = λ w p. let q = path-up Ls a w p in let z : ◌≡◌ {A = ℕ} 0 1 = cc q.1 in omega arith in
+        (λ j. (λ h. absurd (none_has j (true-has 0 j h)), λ h. absurd (no h.0.0 h.0.1)), λ j. (λ h. absurd (none_has j (true-has 0 j h)), λ h. absurd (no h.0 h.1)))
+    go (Some u) e =
+        let o = owed-up Ls a u e in let t = tells-up Ls a u e in
+        (all-exact u.allup u.someup (PathFrom Ls a) o t, some-exact u.allup u.someup (PathFrom Ls a) o t)
 
 module _ {S V : Type 0} {Keeps : List ℕ → Type 0} {Stands : S → List ℕ → Type 0} (by : Setting S V) (ruled : RuleLaws by.round.n by.rule Keeps Stands) (w1 : 1 ≤ by.width) where
   -- a record that stands in the first of these layers has the labels worked out
@@ -42,20 +228,14 @@ module _ {S V : Type 0} {Keeps : List ℕ → Type 0} {Stands : S → List ℕ �
 
   top-at : (labs : Labs by w1) (Ls : Net) (a : ℕ) (other : Node S V) → Full by w1 labs Ls → a < length (top by w1 labs Ls)
       → Stands-at labs Ls a (get_or (top by w1 labs Ls) a other)
-  top-at labs [] a other f h = go (get_or labs 0 None) refl h
+  top-at labs [] a other f h = go (get_or labs 0 None) refl
     where
-      P : Option (Down S V) → Node S V
-      P o = record { arcs = record { to = padded_targets [] }; label = record { down = or_blank by.rule by.tally o; up = no_up } }
-
-      one : (a : ℕ) (l : Down S V) → get_or labs 0 None ≡ Some l → a < 1 → Stands-at labs [] a (get_or (P (Some l) ∷ []) a other)
-      one zero l e k = record { inner = k; label = l; labelled = e; down = refl; up = unfold ups up in refl }
-      one (suc a) l e k = absurd (not-suc-le-zero (le_of_suc-le-suc k))
-
-      go : (o : Option (Down S V)) → get_or labs 0 None ≡ o → a < length (nodes_in (P o ∷ [])) → Stands-at labs [] a (get_or (nodes_in (P o ∷ [])) a other)
-      go None e k = absurd (not-suc-le-zero k)
-      go (Some l) e k =
-          let s : nodes_in (P (Some l) ∷ []) ≡ P (Some l) ∷ [] = ap (λ (z : Bool). cond (not z) (P (Some l) ∷ []) []) (f 0 l e) in
-          subst (λ (N : List (Node S V)). Stands-at labs [] a (get_or N a other)) (sym s) (one a l e (subst (λ (N : List (Node S V)). a < length N) s k))
+      go : (o : Option (Down S V)) → get_or labs 0 None ≡ o → Stands-at labs [] a (get_or (top by w1 labs []) a other)
+      go None e = absurd (omega (arith, rw e at h))
+      go (Some l) e =
+          let s = end-top by w1 labs l e (f 0 l e) in
+          let z : a ≡ 0 = omega (arith, ap (λ (N : List (Node S V)). length N) s) in
+          rw (s, z) (record { inner = omega arith; label = l; labelled = e; down = refl; up = unfold ups up in refl })
   top-at labs (L ∷ Ls) a other f h =
       let F = record_of_place by L labs (ups (L ∷ Ls)) in
       let k : a < length L = omega (arith, table-long (length L) F) in
@@ -76,13 +256,13 @@ module _ {S V : Type 0} {Keeps : List ℕ → Type 0} {Stands : S → List ℕ �
 
   module _ {Allows : ℕ → V → Type 0} (tallied : TallyLaws by.round.n by.tally Allows) where
     -- on the arcs
-    labelled : (later : List (Node S V)) (D : Net) → Well by ruled.same_self w1 later D → Neat by.round.n D → (i a : ℕ) (x : Node S V) → i ≤ length D
+    labelled : (D : Net) → IsLawful by.round.n by.width D → (i a : ℕ) (x : Node S V) → i ≤ length D
         → Stands-at (labels_at by i (first_labels by.rule by.tally) D) (drop i D) a x → Labelled Allows D i a x
-    labelled later D p neat i a x h s =
+    labelled D p i a x h s =
         let o = owed-at by ruled w1 D i h a s.label s.labelled in
         let t : (w : List ℕ) → LeadsTo D i a w → Tells s.label.all s.label.some w =
         λ w q. let y = tells_at by ruled w1 D p.tied i h a w q in let e : y.0 ≡ s.label = cc (y.1, s.labelled) in rw (← e) y.2 in
-        let g : Allows i s.label.value × (s.label.finish ≤ latest_finish i) = unfold Good in good-at by ruled w1 D tallied (omega (arith, p.deep, by.round.most)) neat i h a s.label s.labelled in
+        let g : Allows i s.label.value × (s.label.finish ≤ latest_finish i) = unfold Good in good-at by ruled w1 D tallied (omega (arith, p.deep, by.round.most)) p.even i h a s.label s.labelled in
         let u = up-exact (drop i D) a in
         record {
           reached = o.way;
@@ -96,23 +276,18 @@ module _ {S V : Type 0} {Keeps : List ℕ → Type 0} {Stands : S → List ℕ �
         }
 
     -- on the records
-    labelled-X : (later : List (Node S V)) (D : Net) → Well by ruled.same_self w1 later D → Neat by.round.n D → (i a : ℕ) (other : Node S V) → i ≤ by.round.n
-        → let Y = X by ruled.same_self w1 later D in a < length (layer by.round.n by.width i Y) → Labelled Allows (arcs by.round.n by.width Y) i a (get_or (layer by.round.n by.width i Y) a other)
-    labelled-X later D p neat i a other h k =
-        let Y = X by ruled.same_self w1 later D in
+    labelled-X : (later : List (Node S V)) (D : Net) → IsLawful by.round.n by.width D → (i a : ℕ) (other : Node S V) → i ≤ by.round.n
+        → let Y = X by w1 later D in a < length (layer by.round.n by.width i Y) → Labelled Allows (arcs by.round.n by.width Y) i a (get_or (layer by.round.n by.width i Y) a other)
+    labelled-X later D p i a other h k =
         let labs = labels_at by i (first_labels by.rule by.tally) D in
         let h' : i ≤ length D = omega (arith, p.deep) in
-        let e : layer by.round.n by.width i Y ≡ top by w1 labs (drop i D) =
-        ap (λ (N : List (List (Node S V))). get_or N i []) (nodes-X by ruled.same_self w1 later D p) ∙ stood-top i (first_labels by.rule by.tally) D h' in
-        let f = full_at i (first_labels by.rule by.tally) D h' (full by ruled.same_self w1 later D p) in
-        let s = top-at labs (drop i D) a other f (rw (← e) k) in
-        rw ((arcs-X by ruled.same_self w1 later D p), e) (labelled later D p neat i a (get_or (top by w1 labs (drop i D)) a other) h' s)
+        let e : layer by.round.n by.width i (X by w1 later D) ≡ top by w1 labs (drop i D) = rw (nodes-X by w1 later D p) (stood-top i (first_labels by.rule by.tally) D h') in
+        let s = top-at labs (drop i D) a other (full_at i (first_labels by.rule by.tally) D h' (full by w1 later D p)) (rw (← e) k) in
+        rw (arcs-X by w1 later D p, e) (labelled D p i a (get_or (top by w1 labs (drop i D)) a other) h' s)
 
 pub labels-mean : {S V : Type 0} {Keeps : List ℕ → Type 0} {Stands : S → List ℕ → Type 0} {Allows : ℕ → V → Type 0} (A B : ℕ → Type 0) (rule : RuleSense S) (tally : TallySense V)
     → ((n : ℕ) → A n → RuleLaws n rule Keeps Stands) → ((n : ℕ) → B n → TallyLaws n tally Allows) → LabelsMean A rule B tally Allows
 labels-mean {S} {V} {Allows} A B rule tally ruled tallied r e f W lo hi lent cs =
     let by = setting r rule tally W in
-    let x = ruled r.n e in let y = tallied r.n f in let l = drop (r.n * W + 1) lent in
-    let D = after by cs (opening_arcs r.n) in
-    let p = proper-after by x.same_self lo cs (opening_arcs r.n) (proper-opened by lo) in
-    rw (run-opened by x.same_self lo lent cs) (labelled-X by x lo y l D p (neat-of r.n D p.even))
+    let q = run-reached by lo lent (ruled r.n e).same_self cs in
+    rw q.is (labelled-X by (ruled r.n e) lo (tallied r.n f) (after_end by lo lent) q.net q.well)

@@ -1,90 +1,39 @@
--- What every diagram is, after every list of calls; and so the calls on records are the calls on arcs.
-use Rattle.std.proofs.Common.{◌≡◌, ℕ, zero, suc, ◌<◌, ◌≤◌, Bool, true, false, cond, List, [], ◌∷◌, length, get_or, set, Some, None, Option, sym, refl, ap, ◌∙◌, inl, inr, arith}
-use Rattle.layers.specs.Net.{table, Outs, Layer, Net, node, width, each_node, redirect}
+-- The arcs that opening lays are lawful, and filters, parting and joining keep lawful arcs so.
+use Rattle.std.proofs.Common.{◌≡◌, ℕ, zero, suc, ◌<◌, ◌≤◌, Bool, true, false, cond, List, [], ◌∷◌, length, get_or, set, Some, None, Option, refl, ap, ◌∙◌, inl, inr, le_of_suc-le-suc, not-suc-le-zero, arith, length-set}
+use Rattle.std.proofs.lemmas.Bool.{cases_eq, cases_lt}
+use Rattle.std.proofs.lemmas.List.{get_or-set_same, get_or-set_other}
+use Rattle.layers.specs.Net.{table, Outs, Layer, Net, node, width, redirect}
 use Rattle.layers.specs.Flow.{arrivals_at}
 use Rattle.layers.specs.Tidy.{Mark, marks_next, marks_up, flags, compress, renumber, tidy, tidied_arcs}
 use Rattle.layers.specs.Join.{without_place, place_after_join, both_out, clash, joined_arcs}
-use Rattle.layers.specs.Lawful.{IsRanged, IsTied, IsRoomy, IsLawful}
+use Rattle.layers.specs.Lawful.{IsRanged, IsTied, IsRoomy, IsEven, IsLawful}
 use Rattle.layers.specs.declared.node.Up.{Up}
-use Rattle.layers.specs.Labels.{is_barred, is_above_ceiling, first_labels, arrival_over, all_agree, opening_arcs, all_doors}
-use Rattle.layers.specs.declared.call.Call.{Call}
+use Rattle.layers.specs.Labels.{first_labels, arrival_over, all_agree, opening_arcs, all_doors}
 use Rattle.layers.specs.Calls.{LayerLabels, parted_arcs, kept_arcs}
 use Rattle.layers.proofs.Ways.{length-snoc}
-use Rattle.layers.proofs.Flows.{Among, among-split}
-use Rattle.layers.proofs.Model.{labels_from, one_group, parted, refines, sweep, cut, part_at, after, labels_at}
-use Rattle.layers.proofs.Walk.{node-among, Neat}
-use Rattle.layers.proofs.Shapes.{each_door-length}
-use Rattle.layers.proofs.Keeping.{safe-after, safe-parted, safe-refines, any-cut, tidied-length, join-length}
-use Rattle.layers.proofs.Tied.{redirect-back, redirect-length, tidied-tied}
-use Rattle.layers.proofs.Ties.{opened-tied, parted-tied, join_tied}
-use Rattle.layers.proofs.Lively.{roomy-tidied, roomy-join, roomy-open}
-use Rattle.layers.proofs.Bridge.{IsEven, table-long, group_at}
+use Rattle.layers.proofs.Flows.{EvenLayer, table-long, compress-at}
+use Rattle.layers.proofs.Ties.{drop-below, drop-above, opened-tied, more-even, drop-length, parted-tied, join_tied}
+use Rattle.layers.proofs.Model.{one_group, part_at, labels_at}
+use Rattle.layers.proofs.Tied.{redirect-length, redirect-long, compress-back, tidied-tied, kept-back}
 use Rattle.layers.specs.Settings.{Setting}
 use Rattle.layers.specs.declared.node.Down.{Down}
 
-abbrev pub EvenLayer : ℕ → Layer → Type 0
-EvenLayer n L = (nd : Outs) → Among nd L → length nd ≡ n
+-- ---- as many targets to each node as there are doors
+even-redirect : (n : ℕ) (f : ℕ → ℕ → ℕ → ℕ) (L : Layer) → EvenLayer n L → EvenLayer n (redirect f L)
+even-redirect n f L h a k = redirect-long f L a ∙ h a (omega (arith, redirect-length f L))
 
-abbrev pub EvenIn : ℕ → Net → Type 0
-EvenIn n [] = Unit {0}
-EvenIn n (L ∷ Ls) = EvenLayer n L × EvenIn n Ls
+even-compress : (n : ℕ) (fs : List Bool) (L : Layer) → EvenLayer n L → EvenLayer n (compress fs L)
+even-compress n fs L h c k = let q = compress-back fs L c k in rw (← q.2, compress-at fs L q.0 q.1) (h q.0 q.3)
 
--- so no node has more targets than there are doors
-pub neat-of : (n : ℕ) (Ls : Net) → EvenIn n Ls → Neat n Ls
-neat-of n [] h = tt
-neat-of n (L ∷ Ls) h = (λ nd i. omega (arith, h.0 nd i), neat-of n Ls h.1)
+even-set : (n : ℕ) (L : Layer) (i : ℕ) (v : Outs) → length v ≡ n → EvenLayer n L → EvenLayer n (set L i v)
+even-set n L i v g h a k =
+    let in' : a < length L = omega (arith, length-set L i v) in
+    elim (cases_eq a i) [ inl e ↦ rw (e, get_or-set_same L i v [] (omega arith)) g | inr e ↦ rw (get_or-set_other L i a v [] e) (h a in') ]
 
-module _ (n : ℕ) where
-  pub even-of : (Ls : Net) → EvenIn n Ls → IsEven n Ls
-  even-of [] h = tt
-  even-of (L ∷ Ls) h = (λ a k. h.0 (node L a) (node-among L a k), even-of Ls h.1)
-
-  even-each : (f : ℕ → ℕ → ℕ → ℕ) (c : ℕ) (L : Layer) → EvenLayer n L → EvenLayer n (each_node f c L)
-  unfolding each_node
-  even-each f c [] h nd i = absurd i
-  even-each f c (x ∷ L) h nd (inl e) = rw e (each_door-length (f c) 1 x ∙ h x (inl refl))
-  even-each f c (x ∷ L) h nd (inr i) = even-each f (suc c) L (λ y k. h y (inr k)) nd i
-
-  pub even-redirect : (f : ℕ → ℕ → ℕ → ℕ) (L : Layer) → EvenLayer n L → EvenLayer n (redirect f L)
-  unfolding redirect
-  even-redirect f L h = even-each f 0 L h
-
-  even-compress : (fs : List Bool) (L : Layer) → EvenLayer n L → EvenLayer n (compress fs L)
-  unfolding compress
-  even-compress [] L h nd i = absurd i
-  even-compress (f ∷ fs) [] h nd i = absurd i
-  even-compress (true ∷ fs) (x ∷ L) h nd (inl e) = h nd (inl e)
-  even-compress (true ∷ fs) (x ∷ L) h nd (inr i) = even-compress fs L (λ y k. h y (inr k)) nd i
-  even-compress (false ∷ fs) (x ∷ L) h nd i = even-compress fs L (λ y k. h y (inr k)) nd i
-
-  even-set : (L : Layer) (i : ℕ) (v : Outs) → length v ≡ n → EvenLayer n L → EvenLayer n (set L i v)
-  even-set [] i v g h nd k = absurd k
-  even-set (x ∷ L) zero v g h nd (inl e) = rw e g
-  even-set (x ∷ L) zero v g h nd (inr k) = h nd (inr k)
-  even-set (x ∷ L) (suc i) v g h nd (inl e) = h nd (inl e)
-  even-set (x ∷ L) (suc i) v g h nd (inr k) = even-set L i v g (λ y m. h y (inr m)) nd k
-
-  even-drop : (i : ℕ) (L : Layer) → EvenLayer n L → EvenLayer n (without_place i L)
-  unfolding without_place
-  even-drop zero [] h nd k = absurd k
-  even-drop (suc i) [] h nd k = absurd k
-  even-drop zero (x ∷ L) h nd k = h nd (inr k)
-  even-drop (suc i) (x ∷ L) h nd (inl e) = h nd (inl e)
-  even-drop (suc i) (x ∷ L) h nd (inr k) = even-drop i L (λ y m. h y (inr m)) nd k
-
-  even-tidy : (fr : List (Option Mark)) (Ls : Net) → EvenIn n Ls → EvenIn n (tidy fr Ls)
-  unfolding tidy
-  even-tidy fr [] h = tt
-  even-tidy fr (L ∷ Ls) h = (
-    even-compress (flags fr (marks_up (L ∷ Ls))) (redirect (λ a j b. renumber (flags (marks_next fr L (width Ls)) (marks_up Ls)) b) L)
-        (even-redirect (λ a j b. renumber (flags (marks_next fr L (width Ls)) (marks_up Ls)) b) L h.0),
-    even-tidy (marks_next fr L (width Ls)) Ls h.1,
-  )
-
-  even-tidied : (Ls : Net) → EvenIn n Ls → EvenIn n (tidied_arcs Ls)
-  unfolding tidied_arcs
-  even-tidied [] h = tt
-  even-tidied (L ∷ Ls) h = (even-redirect (λ a j b. renumber (flags (marks_next (Some tt ∷ []) L (width Ls)) (marks_up Ls)) b) L h.0, even-tidy (marks_next (Some tt ∷ []) L (width Ls)) Ls h.1)
+even-drop : (n i : ℕ) (L : Layer) → i < length L → EvenLayer n L → EvenLayer n (without_place i L)
+even-drop n i L inn h a k =
+    let m = drop-length i L inn in
+    elim (cases_lt a i) [ inl x ↦ rw (drop-below i a L x) (h a (omega arith)) | inr x ↦ rw (drop-above i a L x) (h (suc a) (omega arith)) ]
 
 both-even : (n : ℕ) (x y : Outs) → length x ≡ n → length y ≡ n → length (both_out x y) ≡ n
 unfolding both_out
@@ -93,41 +42,54 @@ both-even n (s ∷ x) [] a b = a
 both-even zero (s ∷ x) (t ∷ y) a b = absurd (omega arith)
 both-even (suc n) (s ∷ x) (t ∷ y) a b = ap suc (both-even n x y (omega arith) (omega arith))
 
-even-join : (n d lo hi : ℕ) (Ls : Net) → lo < hi → hi < length (get_or Ls (suc d) []) → EvenIn n Ls → EvenIn n (joined_arcs d lo hi Ls)
-unfolding joined_arcs
-even-join n zero lo hi [] a b h = h
-even-join n (suc d) lo hi [] a b h = h
-even-join n zero lo hi (L ∷ []) a b h = h
-even-join n zero lo hi (L ∷ M ∷ Ls) a b h =
-    let v = both_out (node M lo) (node M hi) in (
-      even-redirect n (λ a j b. suc (place_after_join lo hi b)) L h.0,
-      (even-drop n hi (set M lo v) (even-set n M lo v (both-even n (node M lo) (node M hi) (h.1.0 (node M lo) (node-among M lo (omega arith))) (h.1.0 (node M hi) (node-among M hi b))) h.1.0), h.1.1),
-    )
-even-join n (suc d) lo hi (L ∷ Ls) a b h = (h.0, even-join n d lo hi Ls a b h.1)
+-- ---- tidying
+compress-short : (fs : List Bool) (L : Layer) (m : ℕ) → length L ≤ m → length (compress fs L) ≤ m
+unfolding compress
+compress-short [] L m h = omega arith
+compress-short (f ∷ fs) [] m h = omega arith
+compress-short (true ∷ fs) (x ∷ L) zero h = absurd (not-suc-le-zero h)
+compress-short (true ∷ fs) (x ∷ L) (suc m) h = let z = compress-short fs L m (le_of_suc-le-suc h) in omega arith
+compress-short (false ∷ fs) (x ∷ L) m h = compress-short fs L m (omega arith)
 
-first-join : (d lo hi : ℕ) (Ls : Net) → width (joined_arcs d lo hi Ls) ≡ width Ls
-unfolding joined_arcs
-first-join zero lo hi [] = refl
-first-join (suc d) lo hi [] = refl
-first-join zero lo hi (L ∷ []) = refl
-first-join zero lo hi (L ∷ M ∷ Ls) = simp redirect-length
-first-join (suc d) lo hi (L ∷ Ls) = refl
+tidy-less : (n W : ℕ) (fr : List (Option Mark)) (Ls : Net) → (length (tidy fr Ls) ≡ length Ls) × (IsEven n Ls → IsEven n (tidy fr Ls)) × (IsRoomy W Ls → IsRoomy W (tidy fr Ls))
+unfolding tidy
+tidy-less n W fr [] = (refl, λ h. h, λ h. h)
+tidy-less n W fr (L ∷ Ls) =
+    let r = tidy-less n W (marks_next fr L (width Ls)) Ls in
+    let f : ℕ → ℕ → ℕ → ℕ = λ a j b. renumber (flags (marks_next fr L (width Ls)) (marks_up Ls)) b in
+    let fs = flags fr (marks_up (L ∷ Ls)) in
+    (ap suc r.0, λ h. (even-compress n fs (redirect f L) (even-redirect n f L h.0), r.1 h.1), λ h. (compress-short fs (redirect f L) W (omega (arith, h.0, redirect-length f L)), r.2 h.1))
 
-first-tidied : (Ls : Net) → width (tidied_arcs Ls) ≡ width Ls
+tidied-less : (n W : ℕ) (Ls : Net) → (length (tidied_arcs Ls) ≡ length Ls) × (width (tidied_arcs Ls) ≡ width Ls) × (IsEven n Ls → IsEven n (tidied_arcs Ls)) × (IsRoomy W Ls → IsRoomy W (tidied_arcs Ls))
 unfolding tidied_arcs
-first-tidied [] = refl
-first-tidied (L ∷ Ls) = simp redirect-length
+tidied-less n W [] = (refl, refl, λ h. h, λ h. h)
+tidied-less n W (L ∷ Ls) =
+    let fr = marks_next (Some tt ∷ []) L (width Ls) in
+    let f : ℕ → ℕ → ℕ → ℕ = λ a j b. renumber (flags fr (marks_up Ls)) b in
+    let r = tidy-less n W fr Ls in
+    (ap suc r.0, redirect-length f L, λ h. (even-redirect n f L h.0, r.1 h.1), λ h. (omega (arith, h.0, redirect-length f L), r.2 h.1))
 
--- every diagram of n doors and width W: n layers of arcs, one first node, n targets to a node, at most W nodes to a layer, each node on a path
-pub record Proper (n W : ℕ) (Ls : Net) : Type 0 where
-  pub deep : length Ls ≡ n
-  pub one_first : width Ls ≡ 1
-  pub even : EvenIn n Ls
-  pub roomy : IsRoomy W Ls
-  pub tied : IsTied Ls
+pub tidied-length : (Ls : Net) → length (tidied_arcs Ls) ≡ length Ls
+tidied-length Ls = (tidied-less 0 0 Ls).0
 
-pub lawful : (n W : ℕ) (Ls : Net) → Proper n W Ls → IsLawful n W Ls
-lawful n W Ls p = record { deep = p.deep; one_first = p.one_first; even = even-of n Ls p.even; roomy = p.roomy; tied = p.tied }
+-- ---- joining
+joined-less : (n W d lo hi : ℕ) (Ls : Net) → lo < hi → hi < length (get_or Ls (suc d) []) → let Ms = joined_arcs d lo hi Ls in
+    (length Ms ≡ length Ls) × (width Ms ≡ width Ls) × (IsEven n Ls → IsEven n Ms) × (IsRoomy W Ls → IsRoomy W Ms)
+unfolding joined_arcs
+joined-less n W zero lo hi [] a b = absurd (omega arith)
+joined-less n W (suc d) lo hi [] a b = absurd (omega arith)
+joined-less n W zero lo hi (L ∷ []) a b = absurd (omega arith)
+joined-less n W zero lo hi (L ∷ M ∷ Ls) a b =
+    let f : ℕ → ℕ → ℕ → ℕ = λ a j b. suc (place_after_join lo hi b) in
+    let v = both_out (node M lo) (node M hi) in
+    let m = length-set M lo v in
+    let e = λ (h : EvenLayer n M). even-set n M lo v (both-even n (node M lo) (node M hi) (h lo (omega arith)) (h hi b)) h in (
+      refl,
+      redirect-length f L,
+      λ h. (even-redirect n f L h.0, (even-drop n hi (set M lo v) (omega arith) (e h.1.0), h.1.1)),
+      λ h. (omega (arith, h.0, redirect-length f L), (omega (arith, h.1.0, drop-length hi (set M lo v) (omega arith)), h.1.1)),
+    )
+joined-less n W (suc d) lo hi (L ∷ Ls) a b = let r = joined-less n W d lo hi Ls a b in (ap suc r.0, refl, λ h. (h.0, r.2 h.1), λ h. (h.0, r.3 h.1))
 
 -- ---- no arc leads out of the next layer
 abbrev pub RangedAll : Net → Type 0
@@ -140,22 +102,14 @@ tied-ranged (L ∷ []) t = (t, tt)
 tied-ranged (L ∷ M ∷ Ls) t = (t.0, tied-ranged (M ∷ Ls) t.3)
 
 -- ---- arcs taken out, layer by layer
-either-back : (q : Bool) (b c : ℕ) → cond q 0 (suc b) ≡ suc c → b ≡ c
-either-back true b c e = absurd (omega arith)
-either-back false b c e = omega arith
-
 less-ranged : (t : ℕ → ℕ → ℕ → Bool) (L : Layer) (m : ℕ) → IsRanged L m → IsRanged (redirect (λ a j b. cond (t a j b) 0 (suc b)) L) m
-less-ranged t L m h a j c e =
-    let q = redirect-back (λ a j b. cond (t a j b) 0 (suc b)) L a j c e in
-    let same = either-back (t a j q.0) q.0 c q.2 in
-    let k = h a j q.0 q.1 in
-    omega arith
+less-ranged t L m h a j c e = h a j c (kept-back t L a j c e)
 
 -- what is left has the form of what was there
 pub record Less (n W : ℕ) (Ls Ms : Net) : Type 0 where
   pub deep : length Ms ≡ length Ls
   pub wide : width Ms ≡ width Ls
-  pub even : EvenIn n Ls → EvenIn n Ms
+  pub even : IsEven n Ls → IsEven n Ms
   pub roomy : IsRoomy W Ls → IsRoomy W Ms
   pub ranged : RangedAll Ls → RangedAll Ms
 
@@ -180,12 +134,16 @@ kept-less n W goes i (L ∷ Ls) (x ∷ labs) =
     less-layer n W (λ a j b. goes i (suc (length Ls)) j (get_or x.downs a None) (get_or x.ups b None)) L Ls (kept_arcs goes (suc i) Ls labs) (kept-less n W goes (suc i) Ls labs)
 
 module _ {S V : Type 0} (by : Setting S V) (w : 1 ≤ by.width) where
-  pub proper-opened : Proper by.round.n by.width (opening_arcs by.round.n)
+  roomy-open : (k : ℕ) → IsRoomy by.width (table k (λ i. all_doors by.round.n ∷ []))
+  roomy-open zero = tt
+  roomy-open (suc k) = (w, roomy-open k)
+
+  pub proper-opened : IsLawful by.round.n by.width (opening_arcs by.round.n)
   proper-opened = record {
     deep = unfold opening_arcs in table-long by.round.n (λ i. all_doors by.round.n ∷ []);
     one_first = unfold opening_arcs in wide by.round.n;
     even = unfold opening_arcs in evens by.round.n;
-    roomy = unfold opening_arcs in roomy-open by w by.round.n;
+    roomy = unfold opening_arcs in roomy-open by.round.n;
     tied = opened-tied by;
   }
     where
@@ -193,87 +151,43 @@ module _ {S V : Type 0} (by : Setting S V) (w : 1 ≤ by.width) where
       wide zero = refl
       wide (suc k) = refl
 
-      evens : (k : ℕ) → EvenIn by.round.n (table k (λ i. all_doors by.round.n ∷ []))
+      evens : (k : ℕ) → IsEven by.round.n (table k (λ i. all_doors by.round.n ∷ []))
       evens zero = tt
-      evens (suc k) = (λ nd i. elim i [ inl e ↦ rw e (table-long by.round.n (λ m. 1)) | inr x ↦ absurd x ], evens k)
+      evens (suc k) = (λ a h. let z : a ≡ 0 = omega arith in rw z (table-long by.round.n (λ m. 1)), evens k)
 
-  pub proper-tidied : (Ls : Net) → length Ls ≡ by.round.n → width Ls ≡ 1 → EvenIn by.round.n Ls → IsRoomy by.width Ls → Proper by.round.n by.width (tidied_arcs Ls)
-  proper-tidied Ls a b c d = record { deep = tidied-length Ls ∙ a; one_first = first-tidied Ls ∙ b; even = even-tidied by.round.n Ls c; roomy = roomy-tidied by.width Ls d; tied = tidied-tied Ls }
+  pub proper-tidied : (Ls : Net) → length Ls ≡ by.round.n → width Ls ≡ 1 → IsEven by.round.n Ls → IsRoomy by.width Ls → IsLawful by.round.n by.width (tidied_arcs Ls)
+  proper-tidied Ls a b c d = let t = tidied-less by.round.n by.width Ls in record { deep = t.0 ∙ a; one_first = t.1 ∙ b; even = t.2 c; roomy = t.3 d; tied = tidied-tied Ls }
 
   -- what is left of a proper net, tidied, is proper
-  pub proper-less : (Ls Ms : Net) → Less by.round.n by.width Ls Ms → Proper by.round.n by.width Ls → Proper by.round.n by.width (tidied_arcs Ms)
+  pub proper-less : (Ls Ms : Net) → Less by.round.n by.width Ls Ms → IsLawful by.round.n by.width Ls → IsLawful by.round.n by.width (tidied_arcs Ms)
   proper-less Ls Ms l p = proper-tidied Ms (l.deep ∙ p.deep) (l.wide ∙ p.one_first) (l.even p.even) (l.roomy p.roomy)
 
-  pub proper-kept : (goes : ℕ → ℕ → ℕ → Option (Down S V) → Option Up → Bool) (Ls : Net) (labs : List (LayerLabels S V)) → Proper by.round.n by.width Ls → Proper by.round.n by.width (tidied_arcs (kept_arcs goes 0 Ls labs))
+  pub proper-kept : (goes : ℕ → ℕ → ℕ → Option (Down S V) → Option Up → Bool) (Ls : Net) (labs : List (LayerLabels S V)) → IsLawful by.round.n by.width Ls → IsLawful by.round.n by.width (tidied_arcs (kept_arcs goes 0 Ls labs))
   proper-kept goes Ls labs p = proper-less Ls _ (kept-less by.round.n by.width goes 0 Ls labs) p
 
-  pub proper-sweep : (Ls : Net) → Proper by.round.n by.width Ls → Proper by.round.n by.width (sweep by Ls)
-  unfolding sweep
-  proper-sweep Ls p = proper-kept (is_barred by.round by.rule) Ls (labels_from by (first_labels by.rule by.tally) Ls) p
-
-  pub proper-cut : (c : V) (Ls : Net) → Unit {0} → Proper by.round.n by.width Ls → Proper by.round.n by.width (cut by c Ls)
-  unfolding cut
-  proper-cut c Ls u p = proper-kept (is_above_ceiling by.round by.tally c) Ls (labels_from by (first_labels by.rule by.tally) Ls) p
-
-  pub proper-join : (d lo hi : ℕ) (Ls : Net) → lo < hi → hi < length (get_or Ls (suc d) []) → clash (node (get_or Ls (suc d) []) lo) (node (get_or Ls (suc d) []) hi) ≡ false → Proper by.round.n by.width Ls → Proper by.round.n by.width (joined_arcs d lo hi Ls)
+  pub proper-join : (d lo hi : ℕ) (Ls : Net) → lo < hi → hi < length (get_or Ls (suc d) []) → clash (node (get_or Ls (suc d) []) lo) (node (get_or Ls (suc d) []) hi) ≡ false → IsLawful by.round.n by.width Ls → IsLawful by.round.n by.width (joined_arcs d lo hi Ls)
   proper-join d lo hi Ls x y z p =
-      record { deep = join-length d lo hi Ls ∙ p.deep; one_first = first-join d lo hi Ls ∙ p.one_first; even = even-join by.round.n d lo hi Ls x y p.even; roomy = roomy-join by.width d lo hi Ls y p.roomy; tied = join_tied d lo hi Ls x y z p.tied }
+      let r = joined-less by.round.n by.width d lo hi Ls x y in
+      record { deep = r.0 ∙ p.deep; one_first = r.1 ∙ p.one_first; even = r.2 p.even; roomy = r.3 p.roomy; tied = join_tied d lo hi Ls x y z p.tied }
 
   -- parting with any labels of the layer before
-  parted-even : (d a : ℕ) (labs : List (Option (Down S V))) (Ls : Net) → a < length (get_or Ls (suc d) []) → EvenIn by.round.n Ls → EvenIn by.round.n (parted_arcs by d a labs Ls) × (width (parted_arcs by d a labs Ls) ≡ width Ls)
+  parted-less : (d a : ℕ) (labs : List (Option (Down S V))) (Ls : Net) → a < length (get_or Ls (suc d) []) → length (get_or Ls (suc d) []) < by.width → let Ms = parted_arcs by d a labs Ls in
+      (length Ms ≡ length Ls) × (width Ms ≡ width Ls) × (IsEven by.round.n Ls → IsEven by.round.n Ms) × (IsRoomy by.width Ls → IsRoomy by.width Ms)
   unfolding parted_arcs
-  parted-even zero a labs [] k h = (h, refl)
-  parted-even (suc d) a labs [] k h = (h, refl)
-  parted-even zero a labs (L ∷ []) k h = (h, refl)
-  parted-even zero a labs (L ∷ M ∷ Ls) k h = (
-    (
-      even-redirect by.round.n _ L h.0,
-      ((λ nd i. elim (among-split nd M (node M a ∷ []) i) [ inl x ↦ h.1.0 nd x | inr x ↦ elim x [ inl e ↦ rw e (h.1.0 (node M a) (node-among M a k)) | inr y ↦ absurd y ] ]), h.1.1),
-    ),
-    simp redirect-length,
-  )
-  parted-even (suc d) a labs (L ∷ Ls) k h = ((h.0, (parted-even d a labs Ls k h.1).0), refl)
-
-  parted-roomy : (d a : ℕ) (labs : List (Option (Down S V))) (Ls : Net) → length (get_or Ls (suc d) []) < by.width → IsRoomy by.width Ls → IsRoomy by.width (parted_arcs by d a labs Ls)
-  unfolding parted_arcs
-  parted-roomy zero a labs [] k h = h
-  parted-roomy (suc d) a labs [] k h = h
-  parted-roomy zero a labs (L ∷ []) k h = h
-  parted-roomy zero a labs (L ∷ M ∷ Ls) k h = (simp redirect-length h.0, (omega (arith, length-snoc M (node M a)), h.1.1))
-  parted-roomy (suc d) a labs (L ∷ Ls) k h = (h.0, parted-roomy d a labs Ls k h.1)
-
-  parted-length : (d a : ℕ) (labs : List (Option (Down S V))) (Ls : Net) → length (parted_arcs by d a labs Ls) ≡ length Ls
-  unfolding parted_arcs
-  parted-length zero a labs [] = refl
-  parted-length (suc d) a labs [] = refl
-  parted-length zero a labs (L ∷ []) = refl
-  parted-length zero a labs (L ∷ M ∷ Ls) = refl
-  parted-length (suc d) a labs (L ∷ Ls) = ap suc (parted-length d a labs Ls)
+  parted-less zero a labs [] k u = absurd (omega arith)
+  parted-less (suc d) a labs [] k u = absurd (omega arith)
+  parted-less zero a labs (L ∷ []) k u = absurd (omega arith)
+  parted-less zero a labs (L ∷ M ∷ Ls) k u =
+      (refl, redirect-length _ L, λ h. (even-redirect by.round.n _ L h.0, (more-even M a k by.round.n h.1.0, h.1.1)), λ h. (simp redirect-length h.0, (omega (arith, length-snoc M (node M a)), h.1.1)))
+  parted-less (suc d) a labs (L ∷ Ls) k u = let r = parted-less d a labs Ls k u in (ap suc r.0, refl, λ h. (h.0, r.2 h.1), λ h. (h.0, r.3 h.1))
 
   pub proper-parted-at : ((s : S) → by.rule.same s s ≡ true) → (d a : ℕ) (labs : List (Option (Down S V))) (Ls : Net) → a < length (get_or Ls (suc d) []) → length (get_or Ls (suc d) []) < by.width
-      → all_agree by.rule (arrivals_at (arrival_over by) a labs (get_or Ls d [])) ≡ false → Proper by.round.n by.width Ls → Proper by.round.n by.width (parted_arcs by d a labs Ls)
+      → all_agree by.rule (arrivals_at (arrival_over by) a labs (get_or Ls d [])) ≡ false → IsLawful by.round.n by.width Ls → IsLawful by.round.n by.width (parted_arcs by d a labs Ls)
   proper-parted-at self d a labs Ls x y z p =
-      let e = parted-even d a labs Ls x p.even in
-      record { deep = parted-length d a labs Ls ∙ p.deep; one_first = e.1 ∙ p.one_first; even = e.0; roomy = parted-roomy d a labs Ls y p.roomy; tied = parted-tied by self d a labs Ls x z p.tied }
+      let r = parted-less d a labs Ls x y in
+      record { deep = r.0 ∙ p.deep; one_first = r.1 ∙ p.one_first; even = r.2 p.even; roomy = r.3 p.roomy; tied = parted-tied by self d a labs Ls x z p.tied }
 
--- parting, and so a list of calls, by the laws of the rule: an arrival agrees with itself
+-- parting, by the laws of the rule: an arrival agrees with itself
 module _ {S V : Type 0} (by : Setting S V) (self : (s : S) → by.rule.same s s ≡ true) (w : 1 ≤ by.width) where
-  pub proper-part : (d a : ℕ) (Ls : Net) → a < length (get_or Ls (suc d) []) → length (get_or Ls (suc d) []) < by.width → one_group by d a (first_labels by.rule by.tally) Ls ≡ false → Proper by.round.n by.width Ls → Proper by.round.n by.width (part_at by d a (first_labels by.rule by.tally) Ls)
-  proper-part d a Ls x y z p =
-      let in' = there (suc d) Ls a x in
-      let g = group_at by w d a (first_labels by.rule by.tally) Ls (omega arith) in
-      proper-parted-at by w self d a (labels_at by d (first_labels by.rule by.tally) Ls) Ls x y (sym g ∙ z) p
-    where
-      there : (d : ℕ) (Ls : Net) (a : ℕ) → a < length (get_or Ls d []) → d < length Ls
-      there d [] a h = absurd (omega arith)
-      there zero (L ∷ Ls) a h = omega arith
-      there (suc d) (L ∷ Ls) a h = let k = there d Ls a h in omega arith
-
-  pub proper-after : (cs : List (Call V)) (Ls : Net) → Proper by.round.n by.width Ls → Proper by.round.n by.width (after by cs Ls)
-  proper-after cs Ls p = safe-after by (Proper by.round.n by.width) (λ c. Unit {0}) (proper-sweep by w) (proper-cut by w) proper-part (proper-join by w) cs Ls (any-cut by cs) p
-
-  pub proper-parted : (k i a : ℕ) (Ls : Net) → 1 ≤ i → Proper by.round.n by.width Ls → Proper by.round.n by.width (parted by k i a Ls).1
-  proper-parted = safe-parted by (Proper by.round.n by.width) (λ c. Unit {0}) (proper-sweep by w) (proper-cut by w) proper-part (proper-join by w)
-
-  pub proper-refines : (k i : ℕ) (Ls : Net) → 1 ≤ i → Proper by.round.n by.width Ls → Proper by.round.n by.width (refines by k i Ls).1
-  proper-refines = safe-refines by (Proper by.round.n by.width) (λ c. Unit {0}) (proper-sweep by w) (proper-cut by w) proper-part (proper-join by w)
+  pub proper-part : (d a : ℕ) (Ls : Net) → a < length (get_or Ls (suc d) []) → length (get_or Ls (suc d) []) < by.width → one_group by d a (first_labels by.rule by.tally) Ls ≡ false → IsLawful by.round.n by.width Ls → IsLawful by.round.n by.width (part_at by d a (first_labels by.rule by.tally) Ls)
+  proper-part d a Ls x y z p = proper-parted-at by w self d a (labels_at by d (first_labels by.rule by.tally) Ls) Ls x y z p

@@ -1,53 +1,75 @@
--- Records that have the shape of a diagram have arcs that a diagram may have, and arcs that are laid out anew have that shape.
-use Rattle.std.proofs.Common.{◌≡◌, ℕ, zero, suc, ◌+◌, ◌-◌, ◌*◌, ◌<◌, ◌≤◌, Bool, true, false, cond, List, [], ◌∷◌, ◌++◌, map, length, get_or, take, drop, Some, None, Option, sym, refl, ap, ◌∙◌, inl, inr, ⊎_elim, suc-mul, suc-add, zero-add, arith}
+-- Where the nodes stand in the flat list. Records of the shape of a diagram have lawful arcs, and lawful arcs that are laid out anew have that shape, and finishes in time.
+use Rattle.std.proofs.Common.{◌≡◌, ℕ, zero, suc, ◌+◌, ◌-◌, ◌*◌, ◌<◌, ◌≤◌, Bool, cond, List, [], ◌∷◌, ◌++◌, map, length, get_or, take, drop, Some, None, Option, sym, refl, ap, ◌∙◌, inl, inr, ⊎_elim, suc-mul, suc-add, zero-add, arith, eqb, le_of_suc-le-suc, not-suc-le-zero, zero-mul, subst, append_assoc}
 use lib.ListN.{length-map}
-use Rattle.std.proofs.lemmas.List.{length-take, length-take-le}
-use Rattle.std.proofs.lemmas.Bool.{cases_lt}
+use Rattle.std.proofs.lemmas.List.{length-take, length-take-le, drop-drop, drop_more}
+use Rattle.std.proofs.lemmas.Bool.{cases_lt, eq-eqb, ne_eqb}
 use Rattle.round.specs.declared.table.Round.{Round}
 use Rattle.layers.specs.declared.node.Node.{Node}
 use Rattle.layers.specs.Net.{table, Outs, Layer, Net, node, target, width, count_doors, count_layer}
 use Rattle.layers.specs.Tidy.{tidied_arcs}
-use Rattle.layers.specs.Lawful.{IsTied, IsRoomy}
+use Rattle.layers.specs.Lawful.{IsEven, IsLawful, IsRoomy, IsTied}
 use Rattle.layers.specs.declared.node.Up.{Up}
-use Rattle.layers.specs.Labels.{first_labels, labels_next, no_up}
-use Rattle.layers.specs.Records.{is_used, nodes_in, layers, arcs_in, arcs_of_layers, arcs_at, laid_arcs, arcs_read, record_of_place}
-use Rattle.layers.specs.Calls.{arcs, layer, records_with}
-use Rattle.layers.specs.Shape.{targets_of, HasEnd, IsShaped}
-use Rattle.layers.proofs.Flows.{Among}
+use Rattle.layers.specs.Labels.{first_labels, labels_next, no_up, leg, ups, first_label, arrival_over, merge}
+use Rattle.layers.specs.Records.{nodes_in, layers, arcs_in, arcs_of_layers, arcs_at, laid_arcs, arcs_read, record_of_place, labelled_from, labelled_records}
+use Rattle.layers.specs.Calls.{arcs, layer, records_with, bound, value_in}
+use Rattle.layers.specs.Shape.{targets_of, HasEnd, IsShaped, IsTimely}
+use Rattle.layers.proofs.Flows.{EvenLayer, Among, From, ins-from, next-some, gather-all}
 use Rattle.layers.proofs.Bridge.{ups-end, Full, top, stood, table-long}
-use Rattle.layers.proofs.Counts.{tidied-same}
+use Rattle.layers.proofs.Tidying.{tidied-same}
 use Rattle.layers.proofs.Tied.{tidied-tied}
-use Rattle.layers.proofs.Places.{end-at}
-use Rattle.layers.proofs.Laid.{full, nodes-laid, arcs-laid, written}
-use Rattle.layers.proofs.Proper.{EvenLayer, EvenIn, Proper}
+use Rattle.layers.proofs.Standing.{full, nodes-X, arcs-X, written}
 use Rattle.layers.specs.Settings.{Setting}
 use Rattle.layers.specs.declared.node.Down.{Down}
+use Rattle.std.specs.List.{AllByRecursion as All}
+use Rattle.std.proofs.ByRecursion.{All-append}
+use Rattle.round.proofs.Clocks.{clock-laws}
+use Rattle.round.specs.Clock.{latest_finish}
+use Rattle.layers.specs.Flow.{arrivals_at}
+use Rattle.layers.proofs.Ways.{leg-bound}
+use Rattle.layers.proofs.Model.{or_blank}
+
+module _ {S V : Type 0} (W : ℕ) where
+  pub layer-at : (n i : ℕ) (xs : List (Node S V)) → i < n → get_or (layers W n xs) i [] ≡ nodes_in (take W (drop (i * W) xs))
+  layer-at zero i xs h = absurd (not-suc-le-zero h)
+  layer-at (suc n) zero xs h = ap (λ (q : ℕ). nodes_in (take W (drop q xs))) (sym (zero-mul W))
+  layer-at (suc n) (suc i) xs h = layer-at n i (drop W xs) (le_of_suc-le-suc h) ∙ ap (λ (z : List (Node S V)). nodes_in (take W z)) (drop-drop (i * W) W xs ∙ ap (λ (q : ℕ). drop q xs) (omega (arith, suc-mul i W)))
+
+  pub end-at : (n : ℕ) (xs : List (Node S V)) → get_or (layers W n xs) n [] ≡ nodes_in (take 1 (drop (n * W) xs))
+  end-at zero xs = ap (λ (q : ℕ). nodes_in (take 1 (drop q xs))) (sym (zero-mul W))
+  end-at (suc n) xs = end-at n (drop W xs) ∙ ap (λ (z : List (Node S V)). nodes_in (take 1 z)) (drop-drop (n * W) W xs ∙ ap (λ (q : ℕ). drop q xs) (omega (arith, suc-mul n W)))
+
+-- the bound is read at the end's place
+pub bound_at : {S V : Type 0} (n W : ℕ) (xs : List (Node S V)) (d : Node S V) → n * W < length xs
+    → bound n W xs ≡ cond (eqb (get_or xs (n * W) d).label.down.lasts 0) None (Some (get_or xs (n * W) d).label.down.value)
+unfolding bound
+bound_at {S} {V} n W xs d h = ap value_in (end-at W n xs ∙ ap (λ (ys : List (Node S V)). nodes_in (take 1 ys)) (drop_more xs (n * W) d h)) ∙ grind arith
+
+module _ {S V : Type 0} (n W : ℕ) (xs : List (Node S V)) (x : Node S V) (h : n * W < length xs) (is : x ≡ get_or xs (n * W) x) where
+  read-bound : bound n W xs ≡ cond (eqb x.label.down.lasts 0) None (Some x.label.down.value)
+  read-bound = bound_at n W xs x h ∙ ap (λ (y : Node S V). cond (eqb y.label.down.lasts 0) None (Some y.label.down.value)) (sym is)
+
+  pub bound-none : x.label.down.lasts ≡ 0 → None ≡ bound n W xs
+  bound-none e = sym (read-bound ∙ ap (λ (q : Bool). cond q None (Some x.label.down.value)) (eq-eqb x.label.down.lasts 0 e))
+
+  pub bound_some : (x.label.down.lasts ≡ 0 → ⊥) → Some x.label.down.value ≡ bound n W xs
+  bound_some e = sym (read-bound ∙ ap (λ (q : Bool). cond q None (Some x.label.down.value)) (ne_eqb x.label.down.lasts 0 e))
 
 -- ---- the nodes that stand are the first of their places
 pub standing-at : {S V : Type 0} (us : List (Node S V)) (a : ℕ) (d : Node S V) → a < length (nodes_in us) → get_or (nodes_in us) a d ≡ get_or us a d
 standing-at [] a d h = refl
-standing-at (u ∷ us) a d h = go (is_used u) a h (λ b k. standing-at us b d k)
-  where
-    go : (q : Bool) (a : ℕ) → a < length (cond q (u ∷ nodes_in us) []) → ((b : ℕ) → b < length (nodes_in us) → get_or (nodes_in us) b d ≡ get_or us b d) → get_or (cond q (u ∷ nodes_in us) []) a d ≡ get_or (u ∷ us) a d
-    go true zero h f = refl
-    go true (suc a) h f = f a (omega arith)
-    go false a h f = absurd (omega arith)
+standing-at (u ∷ us) zero d h = grind (arith, h)
+standing-at (u ∷ us) (suc a) d h = grind (arith, h, standing-at us a d)
 
 -- ---- depth and room
 pub standing-short : {S V : Type 0} (us : List (Node S V)) → length (nodes_in us) ≤ length us
 standing-short [] = omega arith
-standing-short (u ∷ us) = go (is_used u) (standing-short us)
-  where
-    go : (q : Bool) → length (nodes_in us) ≤ length us → length (cond q (u ∷ nodes_in us) []) ≤ suc (length us)
-    go true h = omega arith
-    go false h = omega arith
+standing-short (u ∷ us) = grind (arith, standing-short us)
 
 take-among : {A : Type 0} (m k : ℕ) (xs : List A) (x : A) → m ≤ k → Among x (take m xs) → Among x (take k xs)
 take-among zero k xs x h i = absurd i
 take-among (suc m) zero xs x h i = absurd (omega arith)
 take-among (suc m) (suc k) [] x h i = i
-take-among (suc m) (suc k) (y ∷ xs) x h (inl e) = inl e
-take-among (suc m) (suc k) (y ∷ xs) x h (inr i) = inr (take-among m k xs x (omega arith) i)
+take-among (suc m) (suc k) (y ∷ xs) x h i = grind (arith, h, i, take-among m k xs x)
 
 drop-among : {A : Type 0} (w m : ℕ) (xs : List A) (x : A) → Among x (take m (drop w xs)) → Among x (take (w + m) xs)
 drop-among zero m xs x i = rw (zero-add m) i
@@ -75,19 +97,14 @@ module _ {S V : Type 0} (n W : ℕ) where
 
   standing-among : (us : List (Node S V)) (x : Node S V) → Among x (nodes_in us) → Among x us
   standing-among [] x i = i
-  standing-among (u ∷ us) x i = go (is_used u) i (λ h. standing-among us x h)
-    where
-      go : (q : Bool) → Among x (cond q (u ∷ nodes_in us) []) → (Among x (nodes_in us) → Among x us) → Among x (u ∷ us)
-      go true (inl e) f = inl e
-      go true (inr h) f = inr (f h)
-      go false h f = absurd h
+  standing-among (u ∷ us) x i = grind (arith, i, standing-among us x)
 
   arcs-even : (us : List (Node S V)) → n ≤ 16 → Long us → EvenLayer n (arcs_in n us)
-  arcs-even [] h l nd i = absurd i
-  arcs-even (u ∷ us) h l nd (inl e) = ap length e ∙ length-take-le n u.arcs.to (omega (arith, l u (inl refl)))
-  arcs-even (u ∷ us) h l nd (inr i) = arcs-even us h (λ x j. l x (inr j)) nd i
+  arcs-even [] h l a k = absurd (omega arith)
+  arcs-even (u ∷ us) h l zero k = length-take-le n u.arcs.to (omega (arith, l u (inl refl)))
+  arcs-even (u ∷ us) h l (suc a) k = arcs-even us h (λ x j. l x (inr j)) a (omega arith)
 
-  drawn-even : (k : ℕ) (xs : List (Node S V)) → n ≤ 16 → Long (take (k * W + 1) xs) → EvenIn n (arcs_of_layers n (layers W k xs))
+  drawn-even : (k : ℕ) (xs : List (Node S V)) → n ≤ 16 → Long (take (k * W + 1) xs) → IsEven n (arcs_of_layers n (layers W k xs))
   drawn-even zero xs h l = tt
   drawn-even (suc zero) xs h l = (arcs-even (nodes_in (take W xs)) h (λ x i. l x (take-among W (suc 0 * W + 1) xs x (omega (arith, suc-mul 0 W)) (standing-among (take W xs) x i))), tt)
   drawn-even (suc (suc k)) xs h l =
@@ -115,7 +132,7 @@ targets-among (u ∷ us) x (inr i) = inr (targets-among us x i)
 
 -- ---- the arcs of records of that shape
 module _ {S V : Type 0} (r : Round) (W : ℕ) (xs : List (Node S V)) where
-  pub shaped-proper : IsShaped r.n W xs → Proper r.n W (arcs r.n W xs)
+  pub shaped-proper : IsShaped r.n W xs → IsLawful r.n W (arcs r.n W xs)
   shaped-proper s = record {
     deep = drawn-deep r.n W r.n xs;
     one_first = s.first;
@@ -186,15 +203,15 @@ ended-one n W xs h a j b e =
     omega (arith, h, some, at, short, length-take 1 (drop (n * W) xs))
 
 -- ---- arcs laid out anew
-module _ {S V : Type 0} (by : Setting S V) (w : 1 ≤ by.width) (xs : List (Node S V)) (Ls : Net) (p : Proper by.round.n by.width Ls) where
+module _ {S V : Type 0} (by : Setting S V) (w : 1 ≤ by.width) (xs : List (Node S V)) (Ls : Net) (p : IsLawful by.round.n by.width Ls) where
   pub arcs-relaid : arcs by.round.n by.width (records_with by xs Ls) ≡ Ls
   unfolding records_with
-  arcs-relaid = arcs-laid by w (drop (by.round.n * by.width + 1) xs) Ls p
+  arcs-relaid = arcs-X by w (drop (by.round.n * by.width + 1) xs) Ls p
 
   stands-at-end : (a j b : ℕ) → target (node (get_or (arcs by.round.n by.width (records_with by xs Ls)) (by.round.n - 1) []) a) j ≡ suc b → length (layer by.round.n by.width by.round.n (records_with by xs Ls)) ≡ 1
   unfolding records_with
   stands-at-end a j b e =
-      rw (nodes-laid by w (drop (by.round.n * by.width + 1) xs) Ls p) (end_of by w Ls by.round.n p.deep by.round.one p.tied (full by w (drop (by.round.n * by.width + 1) xs) Ls p) a j b (rw (← arcs-relaid) e))
+      rw (nodes-X by w (drop (by.round.n * by.width + 1) xs) Ls p) (end_of by w Ls by.round.n p.deep by.round.one p.tied (full by w (drop (by.round.n * by.width + 1) xs) Ls p) a j b (rw (← arcs-relaid) e))
 
   ended' : HasEnd by.round.n by.width (records_with by xs Ls)
   ended' =
@@ -212,3 +229,74 @@ module _ {S V : Type 0} (by : Setting S V) (w : 1 ≤ by.width) (xs : List (Node
     first = ap width arcs-relaid ∙ p.one_first;
     ended = ended';
   }
+
+-- ---- lists
+take_past : {A : Type 0} (m k : ℕ) (f : ℕ → A) (xs : List A) → take (m + k) (table m f ++ xs) ≡ table m f ++ take k xs
+take_past zero k f xs = ap (λ (c : ℕ). take c xs) (zero-add k)
+take_past (suc m) k f xs = rw (suc-add m k) (ap (λ (l : List _). f 0 ∷ l) (take_past m k (λ i. f (suc i)) xs))
+
+all-table : {A : Type 0} (P : A → Type 0) (m : ℕ) (f : ℕ → A) → ((k : ℕ) → P (f k)) → All P (table m f)
+all-table P zero f h = tt
+all-table P (suc m) f h = (h 0, all-table P m (λ k. f (suc k)) (λ k. h (suc k)))
+
+most-at : {A : Type 0} (f : A → ℕ) (m : ℕ) (xs : List A) → All (λ x. f x ≤ m) xs → (k : ℕ) → get_or (map f xs) k 0 ≤ m
+most-at f m [] h k = omega arith
+most-at f m (x ∷ xs) h zero = h.0
+most-at f m (x ∷ xs) h (suc k) = most-at f m xs h.1 k
+
+module _ {S V : Type 0} (by : Setting S V) where
+  -- ---- no finish of the labels is above what the clock allows after i steps
+  unfoldable Soon : ℕ → List (Option (Down S V)) → Type 0
+  Soon i labs = (a : ℕ) (l : Down S V) → get_or labs a None ≡ Some l → l.finish ≤ latest_finish i
+
+  soon-first : Soon 0 (first_labels by.rule by.tally)
+  unfolding Soon
+  soon-first zero l e = let x : first_label by.rule by.tally ≡ l = cc in rw (← x) (omega arith)
+  soon-first (suc a) l e = absurd cc
+
+  soon-next : (i : ℕ) (labs : List (Option (Down S V))) (L : Layer) (count : ℕ) → Soon i labs → Soon (suc i) (labels_next by labs L count)
+  unfolding Soon labels_next arrival_over merge
+  soon-next i labs L count soon b m e =
+      gather-all (merge by.rule by.tally) (λ x. x.finish ≤ latest_finish (suc i)) (λ x y p q. omega arith) (arrivals_at (arrival_over by) b labs L) m
+      (λ x h. each x (ins-from (arrival_over by) b labs L x h)) (next-some (arrival_over by) (merge by.rule by.tally) labs L count b m e)
+    where
+      each : (x : Down S V) → From (arrival_over by) b labs L x → x.finish ≤ latest_finish (suc i)
+      each x f =
+          let l = f.label in
+          rw f.is ((clock-laws by.round).bound i l.finish (leg by.round l.lasts f.door) f.door (soon f.source l f.labelled) (leg-bound by.round l.lasts f.door))
+
+  -- a place of such a layer; a blank one has finish 0
+  soon-place : (i : ℕ) (labs : List (Option (Down S V))) → i ≤ 15 → Soon i labs → (k : ℕ) → (or_blank by.rule by.tally (get_or labs k None)).finish ≤ latest_finish 15
+  unfolding Soon
+  soon-place i labs h soon k = go (get_or labs k None) refl
+    where
+      go : (o : Option (Down S V)) → get_or labs k None ≡ o → (or_blank by.rule by.tally o).finish ≤ latest_finish 15
+      go None e = omega arith
+      go (Some l) e = omega (arith, soon k l e)
+
+  -- ---- the places of all layers before the end, from layer i on
+  abbrev Early : Node S V → Type 0
+  Early x = x.label.down.finish ≤ latest_finish 15
+
+  laid-early : (i : ℕ) (labs : List (Option (Down S V))) (Ls : Net) (later : List (Node S V)) → i + length Ls ≤ 16 → Soon i labs
+      → All Early (take (length Ls * by.width) (labelled_from by labs Ls ++ later))
+  unfolding labelled_from
+  laid-early i labs [] later h soon = rw (zero-mul by.width) tt
+  laid-early i labs (L ∷ Ls) later h soon =
+      let f = record_of_place by L labs (ups (L ∷ Ls)) in
+      let X = labelled_from by (labels_next by labs L (width Ls)) Ls in
+      let m = length Ls * by.width in
+      let both : suc (length Ls) * by.width ≡ by.width + m = omega (arith, suc-mul (length Ls) by.width) in
+      let split : take (suc (length Ls) * by.width) ((table by.width f ++ X) ++ later) ≡ table by.width f ++ take m (X ++ later) =
+      ap (λ (c : ℕ). take c ((table by.width f ++ X) ++ later)) both ∙ ap (take (by.width + m)) (append_assoc (table by.width f) X later) ∙ take_past by.width m f (X ++ later) in
+      rw split (All-append Early (table by.width f) (take m (X ++ later)) (all-table Early by.width f (soon-place i labs (omega arith) soon))
+      (laid-early (suc i) (labels_next by labs L (width Ls)) Ls later (omega arith) (soon-next i labs L (width Ls) soon)))
+
+-- the finishes of records that are laid out anew are in time
+pub relaid-timely : {S V : Type 0} (by : Setting S V) (xs : List (Node S V)) (Ls : Net) → length Ls ≡ by.round.n → IsTimely by.round.n by.width (records_with by xs Ls)
+unfolding records_with labelled_records
+relaid-timely {S} {V} by xs Ls e =
+    let ys = labelled_from by (first_labels by.rule by.tally) Ls ++ drop (by.round.n * by.width + 1) xs in
+    most-at (λ (x : Node S V). x.label.down.finish) (latest_finish 15) (take (by.round.n * by.width) ys)
+    (subst (λ (n : ℕ). All (Early by) (take (n * by.width) ys)) e
+    (laid-early by 0 (first_labels by.rule by.tally) Ls (drop (by.round.n * by.width + 1) xs) (omega (arith, by.round.most)) (soon-first by)))

@@ -1,198 +1,279 @@
--- In a run with one rule and one tally, from opened records on, the labels that stand are those worked out from the arcs: each call on records is the call on arcs.
-use Rattle.std.proofs.Common.{◌≡◌, ℕ, zero, suc, ◌+◌, ◌-◌, ◌*◌, ◌<◌, ◌≤◌, min, max, Bool, true, false, not, ◌&&◌, eqb, ltb, leb, List, [], ◌∷◌, ◌++◌, length, get_or, drop, sym, refl, ap, ◌∙◌, ap₂, arith}
+-- Records that are proper arcs with the labels worked out from them: opened records are such, and so is what every list of calls leaves.
+use Rattle.std.proofs.Common.{◌≡◌, ℕ, zero, suc, ◌+◌, ◌-◌, ◌*◌, ◌<◌, ◌≤◌, min, max, Bool, true, false, ◌&&◌, eqb, List, [], ◌∷◌, ◌++◌, length, get_or, take, drop, Option, sym, refl, ap, ◌∙◌, ap₂, arith}
 use Rattle.std.proofs.lemmas.Bool.Decides.{nat_tests}
-use Rattle.std.proofs.lemmas.Bool.{leb-false, eqb-true, eq-eqb, and_parts}
+use Rattle.std.proofs.lemmas.Bool.{eqb-true, eq-eqb, and_parts}
+use Rattle.std.proofs.lemmas.List.{map-append, take_at}
+use Rattle.layers.specs.Lawful.{IsLawful}
 use Rattle.layers.specs.declared.node.Node.{Node}
-use Rattle.layers.specs.declared.refined.Refined.{Refined}
-use Rattle.layers.specs.Net.{Net, count_arcs, has_path_with}
-use Rattle.layers.specs.Flow.{arrivals_at}
+use Rattle.layers.specs.declared.node.Down.{Down}
+use Rattle.layers.specs.declared.node.Up.{Up}
+use Rattle.layers.specs.Net.{table, Net, node, width, count_arcs}
 use Rattle.layers.specs.Tidy.{tidied_arcs}
-use Rattle.layers.specs.Join.{joined_arcs}
-use Rattle.layers.specs.Labels.{is_barred, is_above_ceiling, first_labels, arrival_over, opening_arcs}
-use Rattle.layers.specs.Records.{arcs_in, downs_in, labelled_records}
+use Rattle.layers.specs.Join.{clash, joined_arcs}
+use Rattle.layers.specs.Labels.{is_barred, is_above_ceiling, first_labels, labels_next, ups, opening_arcs}
+use Rattle.layers.specs.Records.{layers, arcs_in, downs_in, arcs_read, laid_arcs, record_of_place, labelled_from, labelled_records}
 use Rattle.layers.specs.declared.call.Call.{Call}
 use Rattle.layers.specs.declared.call.Call.TheVariants.{Sweep, Part, Join, Cut, Refine}
-use Rattle.layers.specs.Calls.{parted_arcs, nodes, arcs, labels, layer, records_with, after_open, arcs_lost, after_sweep, sweep_answer, after_cut, part_answer, parted_records, join_answer, after_join, parts_of_layer, refinement_from, after_sweeps, refinement, after_call, after_calls, bound, must, is_settled, in_arcs_agree, value_in, one_group as oneGroupIn, after_part as partedIn}
-use Rattle.layers.proofs.Model.{sweep, cut, one_group, part_at, count, bad_layer, part, join, unless, swept as untilQuiet, parted as partedArcs, refines, refine, act, after, agrees, settles, bound as boundOf, must as mustOf, settled as settled_of, labels_at}
-use Rattle.layers.proofs.Counts.{same_bool, sweep-fewer, settled-yes, settled-if}
-use Rattle.layers.proofs.Bridge.{Full, stood, kept-stood, all-kept-stood, agrees-stood, stood-at, group_at, value-stood, later-stays}
-use Rattle.layers.proofs.Laid.{full as full-laid, nodes-laid, arcs-laid}
-use Rattle.layers.proofs.Proper.{Proper, proper-opened, proper-sweep, proper-part, proper-after, proper-parted, proper-refines}
+use Rattle.layers.specs.Calls.{EachCut, kept_arcs, nodes, arcs, labels, layer, records_with, after_open, arcs_lost, after_sweep, sweep_answer, after_cut, count_of, part_answer, parted_records, after_part, join_answer, after_join, parts_of_layer, refinement_from, after_sweeps, refinement, after_call, after_calls, bound, is_settled, in_arcs_agree, value_in, one_group as oneGroupIn}
+use Rattle.layers.proofs.Model.{kept, sweep, cut, one_group, part_at, agrees, settles, bound as boundOf, settled as settled_of, labels_at}
+use Rattle.layers.proofs.Counts.{same_bool, kept-same, sweep-fewer, settled-yes, settled-if}
+use Rattle.layers.proofs.Bridge.{Full, stood, map-table, full-first, layers-laid, drawn-stood, kept-stood, agrees-stood, stood-at, value-stood, laid-long, later-stays}
+use Rattle.layers.proofs.Proper.{proper-opened, proper-kept, proper-part, proper-join}
 use Rattle.layers.specs.Settings.{Setting}
 
-past : (m a : ℕ) → ltb m (suc a) ≡ leb m a
-past m a = grind (arith, nat_tests)
+-- ---- what sweep, part, join and cut each keep, every list of calls keeps
+module _ {S V : Type 0} (by : Setting S V) where
+  abbrev pub Recs : Type 0
+  Recs = List (Node S V)
+
+  -- P is kept by each of them that is not refused, and by cuts at ceilings of which Q holds
+  pub record KeptBySteps (P : Recs → Type 0) (Q : V → Type 0) : Type 0 where
+    pub sweep : (xs : Recs) → P xs → P (after_sweep by xs)
+    pub cut : (c : V) (xs : Recs) → Q c → P xs → P (after_cut by c xs)
+    pub part : (i a : ℕ) (xs : Recs) → 1 ≤ i → i < by.round.n → 1 ≤ a → a ≤ count_of by i xs → oneGroupIn by i a xs ≡ false → count_of by i xs < by.width → P xs → P (parted_records by i a xs)
+    pub join : (i lo hi : ℕ) (xs : Recs) → 1 ≤ i → i < by.round.n → lo < hi → hi < count_of by i xs
+        → let D = arcs by.round.n by.width xs in clash (node (get_or D i []) lo) (node (get_or D i []) hi) ≡ false → P xs → P (records_with by xs (joined_arcs (i - 1) lo hi D))
+
+  module _ (P : Recs → Type 0) (Q : V → Type 0) (k : KeptBySteps P Q) where
+    kept-part : (i a : ℕ) (xs : Recs) → P xs → P (after_part by i a xs)
+    unfolding after_part part_answer
+    kept-part i a xs p = grind (arith, nat_tests, p, k.part i a xs)
+
+    kept-join : (i a b : ℕ) (xs : Recs) → P xs → P (after_join by i a b xs)
+    unfolding after_join join_answer
+    kept-join i a b xs p = grind (arith, nat_tests, p, k.join i (min a b - 1) (max a b - 1) xs)
+
+    kept-parts : (m i a : ℕ) (xs : Recs) → 1 ≤ i → i < by.round.n → 1 ≤ a → P xs → P (parts_of_layer by m i a xs).1
+    unfolding parts_of_layer
+    kept-parts zero i a xs lo hi one p = p
+    kept-parts (suc m) i a xs lo hi one p = grind (arith, nat_tests, p, kept-parts m i (suc a), k.part i a xs)
+
+    pub kept-layers : (m i : ℕ) (xs : Recs) → 1 ≤ i → i + m ≤ by.round.n → P xs → P (refinement_from by m i xs).1
+    unfolding refinement_from
+    kept-layers zero i xs lo hi p = p
+    kept-layers (suc m) i xs lo hi p =
+        let q = kept-parts by.width i 1 (after_sweep by xs) lo (omega arith) (omega arith) (k.sweep xs p) in
+        grind (arith, q, kept-layers m (suc i))
+
+    kept-sweeps : (m : ℕ) (xs : Recs) → P xs → P (after_sweeps by m xs)
+    unfolding after_sweeps
+    kept-sweeps zero xs p = p
+    kept-sweeps (suc m) xs p = let q = k.sweep xs p in grind (arith, q, kept-sweeps m (after_sweep by xs) q)
+
+    kept-refine : (xs : Recs) → P xs → P (refinement by xs).1
+    unfolding refinement
+    kept-refine xs p =
+        let ys = (refinement_from by (by.round.n - 1) 1 xs).1 in
+        kept-sweeps (suc (count_arcs (arcs by.round.n by.width ys))) ys (kept-layers (by.round.n - 1) 1 xs (omega arith) (omega (arith, by.round.one)) p)
+
+    pub kept-calls : (cs : List (Call V)) (xs : Recs) → EachCut Q cs → P xs → P (after_calls by cs xs)
+    unfolding after_call
+    kept-calls [] xs u p = p
+    kept-calls (Sweep ∷ cs) xs u p = kept-calls cs (after_sweep by xs) u (k.sweep xs p)
+    kept-calls (Part i a ∷ cs) xs u p = kept-calls cs (after_part by i a xs) u (kept-part i a xs p)
+    kept-calls (Join i a b ∷ cs) xs u p = kept-calls cs (after_join by i a b xs) u (kept-join i a b xs p)
+    kept-calls (Cut c ∷ cs) xs u p = kept-calls cs (after_cut by c xs) u.1 (k.cut c xs u.0 p)
+    kept-calls (Refine ∷ cs) xs u p = kept-calls cs (refinement by xs).1 u (kept-refine xs p)
+
+any-cut : {V : Type 0} (cs : List (Call V)) → EachCut (λ c. Unit {0}) cs
+any-cut [] = tt
+any-cut (Sweep ∷ cs) = any-cut cs
+any-cut (Part i a ∷ cs) = any-cut cs
+any-cut (Join i a b ∷ cs) = any-cut cs
+any-cut (Cut c ∷ cs) = (tt, any-cut cs)
+any-cut (Refine ∷ cs) = any-cut cs
 
 nothing-less : (m k : ℕ) → k ≤ m → eqb (m - k) 0 ≡ eqb k m
 nothing-less m k h = grind (arith, nat_tests)
 
-module _ {S V : Type 0} (by : Setting S V) (self : (s : S) → by.rule.same s s ≡ true) (w : 1 ≤ by.width) (later : List (Node S V)) where
-  abbrev pub Well : Net → Type 0
-  Well Ls = Proper by.round.n by.width Ls
+module _ {S V : Type 0} (by : Setting S V) (w : 1 ≤ by.width) (later : List (Node S V)) where
+  abbrev Well : Net → Type 0
+  Well Ls = IsLawful by.round.n by.width Ls
 
+  abbrev first : List (Option (Down S V))
+  first = first_labels by.rule by.tally
+
+  -- the records of these arcs
   abbrev pub X : Net → List (Node S V)
   X Ls = labelled_records by Ls ++ later
 
-  pub full : (Ls : Net) → Well Ls → Full by w (first_labels by.rule by.tally) Ls
-  full = full-laid by w later
-
-  abbrev pub Stood : Net → List (List (Node S V))
-  Stood Ls = stood by w (first_labels by.rule by.tally) Ls
+  pub full : (Ls : Net) → Well Ls → Full by w first Ls
+  full [] p = absurd (omega (arith, p.deep, by.round.one))
+  full (L ∷ Ls) p = full-first by w L Ls p.one_first p.tied p.roomy p.even
 
   -- the nodes that stand are those of the arcs, with the labels worked out from the arcs
-  pub nodes-X : (Ls : Net) → Well Ls → nodes by.round.n by.width (X Ls) ≡ Stood Ls
-  nodes-X = nodes-laid by w later
+  pub nodes-X : (Ls : Net) → Well Ls → nodes by.round.n by.width (X Ls) ≡ stood by w first Ls
+  unfolding labelled_records
+  nodes-X Ls p = ap (λ (k : ℕ). layers by.width k (labelled_records by Ls ++ later)) (sym p.deep) ∙ layers-laid by w later first Ls (full Ls p)
 
   pub arcs-X : (Ls : Net) → Well Ls → arcs by.round.n by.width (X Ls) ≡ Ls
-  arcs-X = arcs-laid by w later
+  arcs-X Ls p = rw (nodes-X Ls p) (drawn-stood by w first Ls (full Ls p))
+
+  -- the arcs as they were written
+  written_from : (labs : List (Option (Down S V))) (Ls : Net) → arcs_read (labelled_from by labs Ls) ≡ laid_arcs by.width Ls
+  unfolding labelled_from
+  written_from labs [] = refl
+  written_from labs (L ∷ Ls) =
+      let here = record_of_place by L labs (ups (L ∷ Ls)) in
+      map-append (λ (x : Node S V). x.arcs) (table by.width here) _ ∙ ap₂ (λ xs ys. xs ++ ys) (map-table (λ (x : Node S V). x.arcs) by.width here) (written_from (labels_next by labs L (width Ls)) Ls)
+
+  pub written : (Ls : Net) → Well Ls → arcs_read (take (by.round.n * by.width + 1) (X Ls)) ≡ laid_arcs by.width (arcs by.round.n by.width (X Ls))
+  unfolding labelled_records
+  written Ls p =
+      rw (arcs-X Ls p, take_at (labelled_records by Ls) later (by.round.n * by.width + 1) (laid-long by w first Ls ∙ ap (λ (k : ℕ). k * by.width + 1) p.deep)) (written_from first Ls)
 
   relaid-X : (Ls Ms : Net) → Well Ls → records_with by (X Ls) Ms ≡ X Ms
   unfolding records_with
-  relaid-X Ls Ms p = ap (λ (y : List (Node S V)). labelled_records by Ms ++ y) (later-stays by w later Ls p.deep)
+  relaid-X Ls Ms p = rw (later-stays by w later Ls p.deep)
+
+  -- ---- the steps
+  -- a filter, and then tidying
+  filtered-X : (goes : ℕ → ℕ → ℕ → Option (Down S V) → Option Up → Bool) (Ls : Net) → Well Ls
+      → records_with by (X Ls) (tidied_arcs (kept_arcs goes 0 (arcs by.round.n by.width (X Ls)) (labels by.round.n by.width (X Ls)))) ≡ X (tidied_arcs (kept by goes 0 first Ls))
+  filtered-X goes Ls p = relaid-X Ls _ p ∙ rw (arcs-X Ls p, nodes-X Ls p) (ap (λ (z : Net). X (tidied_arcs z)) (kept-stood by w goes 0 first Ls (full Ls p)))
+
+  pub proper-sweep : (Ls : Net) → Well Ls → Well (sweep by Ls)
+  unfolding sweep
+  proper-sweep Ls p = proper-kept by w (is_barred by.round by.rule) Ls _ p
 
   pub swept-X : (Ls : Net) → Well Ls → after_sweep by (X Ls) ≡ X (sweep by Ls)
   unfolding after_sweep sweep
-  swept-X Ls p = relaid-X Ls _ p ∙ rw (arcs-X Ls p, nodes-X Ls p) (ap (λ (z : Net). X (tidied_arcs z)) (kept-stood by w (is_barred by.round by.rule) 0 (first_labels by.rule by.tally) Ls (full Ls p)))
+  swept-X = filtered-X (is_barred by.round by.rule)
 
-  pub cut-X : (c : V) (Ls : Net) → Well Ls → after_cut by c (X Ls) ≡ X (cut by c Ls)
+  cut-X : (c : V) (Ls : Net) → Well Ls → after_cut by c (X Ls) ≡ X (cut by c Ls)
   unfolding after_cut cut
-  cut-X c Ls p = relaid-X Ls _ p ∙ rw (arcs-X Ls p, nodes-X Ls p) (ap (λ (z : Net). X (tidied_arcs z)) (kept-stood by w (is_above_ceiling by.round by.tally c) 0 (first_labels by.rule by.tally) Ls (full Ls p)))
+  cut-X c = filtered-X (is_above_ceiling by.round by.tally c)
 
-  pub at-X : (d : ℕ) (Ls : Net) (p : Well Ls) → d < by.round.n → (downs_in (layer by.round.n by.width d (X Ls)) ≡ labels_at by d (first_labels by.rule by.tally) Ls) × (arcs_in by.round.n (layer by.round.n by.width d (X Ls)) ≡ get_or Ls d []) × (length (layer by.round.n by.width d (X Ls)) ≡ length (get_or Ls d []))
-  at-X d Ls p h =
-      let q = stood-at by w d (first_labels by.rule by.tally) Ls (full Ls p) (omega (arith, p.deep)) in
-      let e = ap (λ (N : List (List (Node S V))). get_or N d []) (nodes-X Ls p) in
-      (ap downs_in e ∙ q.0, ap (arcs_in by.round.n) e ∙ q.1, rw e q.2)
+  -- layer d
+  pub at-X : (d : ℕ) (Ls : Net) (p : Well Ls) → d < by.round.n → (downs_in (layer by.round.n by.width d (X Ls)) ≡ labels_at by d first Ls) × (arcs_in by.round.n (layer by.round.n by.width d (X Ls)) ≡ get_or Ls d []) × (count_of by d (X Ls) ≡ length (get_or Ls d []))
+  at-X d Ls p h = rw (nodes-X Ls p) (stood-at by w d first Ls (full Ls p) (omega (arith, p.deep)))
 
-  group-X : (i a c : ℕ) (Ls : Net) → Well Ls → 1 ≤ i → i < by.round.n → a - 1 ≡ c → oneGroupIn by i a (X Ls) ≡ one_group by (i - 1) c (first_labels by.rule by.tally) Ls
+  pub group-X : (i a d c : ℕ) (Ls : Net) → Well Ls → i ≡ suc d → a ≡ suc c → i < by.round.n → oneGroupIn by i a (X Ls) ≡ one_group by d c first Ls
   unfolding oneGroupIn
-  group-X i a c Ls p lo hi e =
-      let q = at-X (i - 1) Ls p (omega arith) in
-      rw (ap₂ (λ x y. arrivals_at (arrival_over by) (a - 1) x y) q.0 q.1 ∙ ap (λ (k : ℕ). arrivals_at (arrival_over by) k (labels_at by (i - 1) (first_labels by.rule by.tally) Ls) (get_or Ls (i - 1) [])) e) (sym (group_at by w (i - 1) c (first_labels by.rule by.tally) Ls (omega (arith, p.deep))))
+  group-X i a d c Ls p e f hi = let q = at-X d Ls p (omega arith) in let x : i - 1 ≡ d = omega arith in let y : a - 1 ≡ c = omega arith in rw (x, y, q.0, q.1)
 
-  split-X : (i a c : ℕ) (Ls : Net) → Well Ls → 1 ≤ i → i < by.round.n → a - 1 ≡ c → parted_records by i a (X Ls) ≡ X (part_at by (i - 1) c (first_labels by.rule by.tally) Ls)
+  pub split-X : (i a d c : ℕ) (Ls : Net) → Well Ls → i ≡ suc d → a ≡ suc c → i < by.round.n → parted_records by i a (X Ls) ≡ X (part_at by d c first Ls)
   unfolding parted_records
-  split-X i a c Ls p lo hi e =
-      relaid-X Ls _ p ∙ ap X
-      (ap₂ (λ x y. parted_arcs by (i - 1) (a - 1) x y) (at-X (i - 1) Ls p (omega arith)).0 (arcs-X Ls p)
-      ∙ ap (λ (z : ℕ). parted_arcs by (i - 1) z (labels_at by (i - 1) (first_labels by.rule by.tally) Ls) Ls) e)
-
-  -- ---- part and join: a refusal leaves the list
-  placed : (i : ℕ) → bad_layer by i ≡ false → (1 ≤ i) × (i < by.round.n)
-  placed i e = (grind (arith, nat_tests), grind (arith, nat_tests))
-
-  pub part-X : (i a : ℕ) (Ls : Net) → Well Ls → partedIn by i a (X Ls) ≡ X (unless by Ls (part by i a Ls))
-  unfolding partedIn part_answer part
-  part-X i a Ls p = go (bad_layer by i) refl
-    where
-      go : (q : Bool) → bad_layer by i ≡ q → partedIn by i a (X Ls) ≡ X (unless by Ls (part by i a Ls))
-      go true e = grind (arith, nat_tests)
-      go false e =
-          let b = placed i e in
-          grind (arith, nat_tests, (at-X i Ls p b.1).2, group-X i a (a - 1) Ls p b.0 b.1 refl, split-X i a (a - 1) Ls p b.0 b.1 refl)
-
-  pub join-X : (i a b : ℕ) (Ls : Net) → Well Ls → after_join by i a b (X Ls) ≡ X (unless by Ls (join by i a b Ls))
-  unfolding after_join join_answer join
-  join-X i a b Ls p = go (bad_layer by i) refl
-    where
-      go : (q : Bool) → bad_layer by i ≡ q → after_join by i a b (X Ls) ≡ X (unless by Ls (join by i a b Ls))
-      go true e = grind (arith, nat_tests)
-      go false e = grind (arith, nat_tests, (at-X i Ls p (placed i e).1).2, arcs-X Ls p, relaid-X Ls (joined_arcs (i - 1) (min a b - 1) (max a b - 1) Ls) p)
-
-  -- ---- refine
-  abbrev pub lift : {A : Type 0} → A × Net → A × List (Node S V)
-  lift p = (p.0, X p.1)
-
-  pub splits-X : (k i a : ℕ) (Ls : Net) → Well Ls → 1 ≤ i → i < by.round.n → parts_of_layer by k i (suc a) (X Ls) ≡ lift (partedArcs by k i a Ls)
-  unfolding parts_of_layer partedArcs
-  splits-X zero i a Ls p lo hi = refl
-  splits-X (suc k) i a Ls p lo hi =
-      let P = part_at by (i - 1) a (first_labels by.rule by.tally) Ls in
-      let ei : suc (i - 1) ≡ i = omega arith in
-      let more : leb (count by i Ls) a ≡ false → leb by.width (count by i Ls) ≡ false → one_group by (i - 1) a (first_labels by.rule by.tally) Ls ≡ false
-      → parts_of_layer by k i (suc (suc a)) (X P) ≡ lift (partedArcs by k i (suc a) P) =
-      λ e g f. splits-X k i (suc a) P (proper-part by self w (i - 1) a Ls (rw ei (leb-false (count by i Ls) a e)) (rw ei (leb-false by.width (count by i Ls) g)) f p) lo hi in
-      grind (
-        arith,
-        nat_tests,
-        (at-X i Ls p hi).2,
-        group-X i (suc a) a Ls p lo hi (omega arith),
-        split-X i (suc a) a Ls p lo hi (omega arith),
-        splits-X k i (suc a) Ls p lo hi,
-        past (count by i Ls) a,
-        more,
-      )
-
-  splits_all-X : (k i : ℕ) (Ls : Net) → Well Ls → 1 ≤ i → i + k ≤ by.round.n → refinement_from by k i (X Ls) ≡ lift (refines by k i Ls)
-  unfolding refinement_from refines
-  splits_all-X zero i Ls p lo hi = refl
-  splits_all-X (suc k) i Ls p lo hi =
-      let s = sweep by Ls in
-      let ps = proper-sweep by w Ls p in
-      let q = partedArcs by by.width i 0 s in
-      grind (arith, swept-X Ls p, splits-X by.width i 0 s ps lo (omega arith), splits_all-X k (suc i) q.1 (proper-parted by self w by.width i 0 s lo ps) (omega arith) (omega arith))
-
-  pub answer-X : (Ls : Net) → Well Ls → sweep_answer by (X Ls) ≡ count_arcs Ls - count_arcs (sweep by Ls)
-  unfolding arcs_lost
-  answer-X Ls p = ap₂ (λ (x y : Net). count_arcs x - count_arcs y) (arcs-X Ls p) (ap (arcs by.round.n by.width) (swept-X Ls p) ∙ arcs-X (sweep by Ls) (proper-sweep by w Ls p))
-
-  swept_out-X : (k : ℕ) (Ls : Net) → Well Ls → after_sweeps by k (X Ls) ≡ X (untilQuiet by k Ls)
-  unfolding after_sweeps untilQuiet
-  swept_out-X zero Ls p = refl
-  swept_out-X (suc k) Ls p =
-      let s = sweep by Ls in
-      grind (arith, answer-X Ls p, nothing-less (count_arcs Ls) (count_arcs s) (sweep-fewer by Ls), swept-X Ls p, swept_out-X k s (proper-sweep by w Ls p))
-
-  pub refined-X : (Ls : Net) → Well Ls → refinement by (X Ls) ≡ ((refine by Ls).0, X (refine by Ls).1)
-  unfolding refinement refine
-  refined-X Ls p =
-      let q = refines by (by.round.n - 1) 1 Ls in
-      let pq = proper-refines by self w (by.round.n - 1) 1 Ls (omega arith) p in
-      let G : Refined × List (Node S V) → Refined × List (Node S V) = λ p. (p.0, after_sweeps by (suc (count_arcs (arcs by.round.n by.width p.1))) p.1) in
-      ap G (splits_all-X (by.round.n - 1) 1 Ls p (omega arith) (omega (arith, by.round.one)))
-      ∙ ap (λ (m : Net). (q.0, after_sweeps by (suc (count_arcs m)) (X q.1))) (arcs-X q.1 pq)
-      ∙ ap (λ (m : List (Node S V)). (q.0, m)) (swept_out-X (suc (count_arcs q.1)) q.1 pq)
-
-  -- ---- every call, every list of calls
-  does-X : (c : Call V) (Ls : Net) → Well Ls → after_call by c (X Ls) ≡ X (act by c Ls)
-  unfolding after_call act
-  does-X Sweep Ls p = swept-X Ls p
-  does-X (Part i a) Ls p = part-X i a Ls p
-  does-X (Join i a b) Ls p = join-X i a b Ls p
-  does-X (Cut c) Ls p = cut-X c Ls p
-  does-X Refine Ls p = ap (λ (z : Refined × List (Node S V)). z.1) (refined-X Ls p)
-
-  run-X : (cs : List (Call V)) (Ls : Net) → Well Ls → after_calls by cs (X Ls) ≡ X (after by cs Ls)
-  run-X [] Ls p = refl
-  run-X (c ∷ cs) Ls p = ap (after_calls by cs) (does-X c Ls p) ∙ run-X cs (act by c Ls) (proper-after by self w (c ∷ []) Ls p)
+  split-X i a d c Ls p e f hi = let x : i - 1 ≡ d = omega arith in let y : a - 1 ≡ c = omega arith in relaid-X Ls _ p ∙ rw (x, y, (at-X d Ls p (omega arith)).0, arcs-X Ls p)
 
   -- ---- the questions
+  pub answer-X : (Ls : Net) → Well Ls → sweep_answer by (X Ls) ≡ count_arcs Ls - count_arcs (sweep by Ls)
+  unfolding arcs_lost
+  answer-X Ls p = rw (swept-X Ls p, arcs-X Ls p, arcs-X (sweep by Ls) (proper-sweep Ls p))
+
   pub bound-X : (Ls : Net) → Well Ls → bound by.round.n by.width (X Ls) ≡ boundOf by Ls
   unfolding bound boundOf
-  bound-X Ls p =
-      ap₂ (λ (N : List (List (Node S V))) (k : ℕ). value_in (get_or N k [])) (nodes-X Ls p) (sym p.deep) ∙ value-stood by w (first_labels by.rule by.tally) Ls (full Ls p)
+  bound-X Ls p = rw (nodes-X Ls p) (ap (λ (k : ℕ). value_in (get_or (stood by w first Ls) k [])) (sym p.deep) ∙ value-stood by w first Ls (full Ls p))
 
-  pub must-X : (i j : ℕ) (Ls : Net) → Well Ls → must by.round.n by.width i j (X Ls) ≡ mustOf by i j Ls
-  unfolding must mustOf
-  must-X i j Ls p = ap (λ (D : Net). not (has_path_with D 0 (j ∷ i ∷ []))) (arcs-X Ls p)
+  agrees-X : (Ls : Net) → Well Ls → in_arcs_agree by (arcs by.round.n by.width (X Ls)) (labels by.round.n by.width (X Ls)) ≡ agrees by first Ls
+  agrees-X Ls p = rw (arcs-X Ls p, nodes-X Ls p) (agrees-stood by w first Ls (full Ls p))
 
   pub settled-X : (Ls : Net) → Well Ls → is_settled by (X Ls) ≡ settled_of by Ls
   unfolding is_settled settled_of settles
   settled-X Ls p =
-      rw (arcs-X Ls p, nodes-X Ls p) (ap₂ ◌&&◌ (agrees-stood by w (first_labels by.rule by.tally) Ls (full Ls p)) (all-kept-stood by w (is_barred by.round by.rule) 0 (first_labels by.rule by.tally) Ls (full Ls p)))
+      let k = kept-stood by w (is_barred by.round by.rule) 0 first Ls (full Ls p) in
+      let t = kept-same (is_barred by.round by.rule) 0 Ls in
+      ap₂ ◌&&◌ (agrees-X Ls p) (rw (arcs-X Ls p, nodes-X Ls p) (sym (t _) ∙ ap (λ (z : Net). eqb (count_arcs z) (count_arcs Ls)) k ∙ t _))
 
   -- settled is yes exactly when the in-arcs agree and a sweep would answer 0
   pub settled-means-X : (Ls : Net) → Well Ls → is_settled by (X Ls) ≡ (in_arcs_agree by (arcs by.round.n by.width (X Ls)) (labels by.round.n by.width (X Ls)) && eqb (sweep_answer by (X Ls)) 0)
   settled-means-X Ls p =
-      let ea : in_arcs_agree by (arcs by.round.n by.width (X Ls)) (labels by.round.n by.width (X Ls)) ≡ agrees by (first_labels by.rule by.tally) Ls =
-      rw (arcs-X Ls p, nodes-X Ls p) (agrees-stood by w (first_labels by.rule by.tally) Ls (full Ls p)) in
-      let en : eqb (sweep_answer by (X Ls)) 0 ≡ eqb (count_arcs (sweep by Ls)) (count_arcs Ls) = ap (λ (m : ℕ). eqb m 0) (answer-X Ls p) ∙ nothing-less (count_arcs Ls) (count_arcs (sweep by Ls)) (sweep-fewer by Ls) in
-      settled-X Ls p ∙ same_bool (settled_of by Ls) (agrees by (first_labels by.rule by.tally) Ls && eqb (count_arcs (sweep by Ls)) (count_arcs Ls))
-      (λ e. let q = settled-yes by Ls p.one_first p.tied e in ap₂ ◌&&◌ q.0 (eq-eqb (count_arcs (sweep by Ls)) (count_arcs Ls) (ap count_arcs q.1)))
-      (λ e. let q = and_parts (agrees by (first_labels by.rule by.tally) Ls) (eqb (count_arcs (sweep by Ls)) (count_arcs Ls)) e in settled-if by Ls q.0 (eqb-true (count_arcs (sweep by Ls)) (count_arcs Ls) q.1))
-      ∙ sym (ap₂ ◌&&◌ ea en)
+      let b = count_arcs (sweep by Ls) in
+      let m = count_arcs Ls in
+      settled-X Ls p ∙ same_bool (settled_of by Ls) (agrees by first Ls && eqb b m)
+      (λ e. let q = settled-yes by Ls p.one_first p.tied e in ap₂ ◌&&◌ q.0 (eq-eqb b m (ap count_arcs q.1)))
+      (λ e. let q = and_parts (agrees by first Ls) (eqb b m) e in settled-if by Ls q.0 (eqb-true b m q.1))
+      ∙ sym (ap₂ ◌&&◌ (agrees-X Ls p) (ap (λ (k : ℕ). eqb k 0) (answer-X Ls p) ∙ nothing-less m b (sweep-fewer by Ls)))
 
-pub run-opened : {S V : Type 0} (by : Setting S V) (self : (s : S) → by.rule.same s s ≡ true) (w : 1 ≤ by.width) (lent : List (Node S V)) (cs : List (Call V))
-    → after_calls by cs (after_open by lent) ≡ labelled_records by (after by cs (opening_arcs by.round.n)) ++ drop (by.round.n * by.width + 1) lent
-unfolding after_open records_with
-run-opened by self w lent cs = run-X by self w (drop (by.round.n * by.width + 1) lent) cs (opening_arcs by.round.n) (proper-opened by w)
+  -- ---- records that are those of proper arcs, of which P holds
+  pub record Reached (P : Net → Type 0) (xs : List (Node S V)) : Type 0 where
+    pub net : Net
+    pub well : Well net
+    pub is : xs ≡ X net
+    pub holds : P net
+
+  pub arcs-of : (P : Net → Type 0) (xs : List (Node S V)) (r : Reached P xs) → arcs by.round.n by.width xs ≡ r.net
+  arcs-of P xs r = ap (arcs by.round.n by.width) r.is ∙ arcs-X r.net r.well
+
+  abbrev pub reached-sweep : (P : Net → Type 0) (xs : List (Node S V)) (r : Reached P xs) → P (sweep by r.net) → Reached P (after_sweep by xs)
+  reached-sweep P xs r h = record { net = sweep by r.net; well = proper-sweep r.net r.well; is = ap (after_sweep by) r.is ∙ swept-X r.net r.well; holds = h }
+
+  pub count-of : (P : Net → Type 0) (xs : List (Node S V)) (r : Reached P xs) (i d : ℕ) → i ≡ suc d → i < by.round.n → count_of by i xs ≡ length (get_or r.net (suc d) [])
+  count-of P xs r i d e hi = ap (count_of by i) r.is ∙ (at-X i r.net r.well hi).2 ∙ ap (λ (z : ℕ). length (get_or r.net z [])) e
+
+  pub group-of : (P : Net → Type 0) (xs : List (Node S V)) (r : Reached P xs) (i a d c : ℕ) → i ≡ suc d → a ≡ suc c → i < by.round.n → oneGroupIn by i a xs ≡ one_group by d c first r.net
+  group-of P xs r i a d c e f hi = ap (oneGroupIn by i a) r.is ∙ group-X i a d c r.net r.well e f hi
+
+  module _ (self : (s : S) → by.rule.same s s ≡ true) (P : Net → Type 0) where
+    -- parting node c of layer d + 1
+    abbrev pub reached-part : (i a d c : ℕ) (xs : List (Node S V)) → i ≡ suc d → a ≡ suc c → i < by.round.n → a ≤ count_of by i xs → oneGroupIn by i a xs ≡ false → count_of by i xs < by.width
+        → (r : Reached P xs) → P (part_at by d c first r.net) → Reached P (parted_records by i a xs)
+    reached-part i a d c xs e f hi inn apart room r h = record {
+      net = part_at by d c first r.net;
+      well = proper-part by self w d c r.net (omega (arith, count-of P xs r i d e hi)) (omega (arith, count-of P xs r i d e hi)) (sym (group-of P xs r i a d c e f hi) ∙ apart) r.well;
+      is = ap (parted_records by i a) r.is ∙ split-X i a d c r.net r.well e f hi;
+      holds = h;
+    }
+
+  -- P is kept on arcs by what leaves proper arcs
+  pub record KeptOnArcs (P : Net → Type 0) (Q : V → Type 0) : Type 0 where
+    pub sweep : (Ls : Net) → Well Ls → P Ls → P (sweep by Ls)
+    pub cut : (c : V) (Ls : Net) → Q c → Well Ls → P Ls → P (cut by c Ls)
+    pub part : (d a : ℕ) (Ls : Net) → Well Ls → P Ls → P (part_at by d a first Ls)
+    pub join : (d lo hi : ℕ) (Ls : Net) → lo < hi → hi < length (get_or Ls (suc d) []) → clash (node (get_or Ls (suc d) []) lo) (node (get_or Ls (suc d) []) hi) ≡ false → Well Ls → P Ls → P (joined_arcs d lo hi Ls)
+
+  module _ (self : (s : S) → by.rule.same s s ≡ true) (P : Net → Type 0) (Q : V → Type 0) (k : KeptOnArcs P Q) where
+    reached-cut : (c : V) (xs : List (Node S V)) → Q c → Reached P xs → Reached P (after_cut by c xs)
+    reached-cut c xs u r = record {
+      net = cut by c r.net;
+      well = unfold cut in proper-kept by w (is_above_ceiling by.round by.tally c) r.net _ r.well;
+      is = ap (after_cut by c) r.is ∙ cut-X c r.net r.well;
+      holds = k.cut c r.net u r.well r.holds;
+    }
+
+    reached-join : (i lo hi : ℕ) (xs : List (Node S V)) → 1 ≤ i → i < by.round.n → lo < hi → hi < count_of by i xs
+        → let D = arcs by.round.n by.width xs in clash (node (get_or D i []) lo) (node (get_or D i []) hi) ≡ false → Reached P xs → Reached P (records_with by xs (joined_arcs (i - 1) lo hi D))
+    reached-join i lo hi xs one i_in up inn e r =
+        let Ls = r.net in
+        let j : suc (i - 1) ≡ i = omega arith in
+        let d = arcs-of P xs r in
+        let hi_in : hi < length (get_or Ls (suc (i - 1)) []) = omega (arith, count-of P xs r i (i - 1) (sym j) i_in) in
+        let c : clash (node (get_or Ls (suc (i - 1)) []) lo) (node (get_or Ls (suc (i - 1)) []) hi) ≡ false = rw (j, ← d) e in
+        record {
+          net = joined_arcs (i - 1) lo hi Ls;
+          well = proper-join by w (i - 1) lo hi Ls up hi_in c r.well;
+          is = ap₂ (λ (ys : List (Node S V)) (D : Net). records_with by ys (joined_arcs (i - 1) lo hi D)) r.is d ∙ relaid-X Ls _ r.well;
+          holds = k.join (i - 1) lo hi Ls up hi_in c r.well r.holds;
+        }
+
+    steps : KeptBySteps by (Reached P) Q
+    steps = record {
+      sweep = λ xs r. reached-sweep P xs r (k.sweep r.net r.well r.holds);
+      cut = reached-cut;
+      part = λ i a xs lo hi one inn e room r. reached-part self P i a (i - 1) (a - 1) xs (omega arith) (omega arith) hi inn e room r (k.part (i - 1) (a - 1) r.net r.well r.holds);
+      join = reached-join;
+    }
+
+    -- whatever is called
+    pub reached : (cs : List (Call V)) (xs : List (Node S V)) → EachCut Q cs → Reached P xs → Reached P (after_calls by cs xs)
+    reached = kept-calls by (Reached P) Q steps
+
+    -- and after each layer that refine parts
+    pub layers-refined : (m i : ℕ) (xs : List (Node S V)) → 1 ≤ i → i + m ≤ by.round.n → Reached P xs → Reached P (refinement_from by m i xs).1
+    layers-refined = kept-layers by (Reached P) Q steps
+
+  -- of which nothing else is said
+  pub plain : KeptOnArcs (λ Ls. Unit {0}) (λ c. Unit {0})
+  plain = record { sweep = λ Ls p h. tt; cut = λ c Ls u p h. tt; part = λ d a Ls p h. tt; join = λ d lo hi Ls x y z p h. tt }
+
+-- opening, and whatever is called then
+module _ {S V : Type 0} (by : Setting S V) (w : 1 ≤ by.width) (lent : List (Node S V)) where
+  abbrev pub after_end : List (Node S V)
+  after_end = drop (by.round.n * by.width + 1) lent
+
+  pub opened-reached : (P : Net → Type 0) → P (opening_arcs by.round.n) → Reached by w after_end P (after_open by lent)
+  unfolding after_open records_with
+  opened-reached P h = record { net = opening_arcs by.round.n; well = proper-opened by w; is = refl; holds = h }
+
+  pub run-reached : (self : (s : S) → by.rule.same s s ≡ true) (cs : List (Call V)) → Reached by w after_end (λ Ls. Unit {0}) (after_calls by cs (after_open by lent))
+  run-reached self cs = reached by w after_end self (λ Ls. Unit {0}) (λ c. Unit {0}) (plain by w after_end) cs (after_open by lent) (any-cut cs) (opened-reached (λ Ls. Unit {0}) tt)

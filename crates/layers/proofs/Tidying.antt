@@ -1,5 +1,7 @@
--- Tidying in the subject's words: the paths stay, and exactly the nodes on a path, numbered anew in their order.
-use Rattle.std.proofs.Common.{◌≡◌, ℕ, zero, suc, ◌<◌, ◌≤◌, Bool, true, false, ◌⊎◌, List, [], ◌∷◌, length, get_or, drop, Some, None, Option, sym, refl, ap, ◌∙◌, subst, inl, inr, not-suc-le-zero, arith}
+-- Tidying in the subject's words: the paths stay, and exactly the nodes on a path, numbered anew in their order. A tied diagram is left as it is.
+use Rattle.layers.proofs.Ways.{length-snoc}
+use Rattle.layers.specs.Lawful.{IsLed, IsTied, IsRanged}
+use Rattle.std.proofs.Common.{◌≡◌, ℕ, zero, suc, ◌<◌, ◌≤◌, Bool, true, false, ◌⊎◌, List, [], ◌∷◌, length, get_or, drop, Some, None, Option, sym, refl, ap, ◌∙◌, subst, inl, inr, not-suc-le-zero, arith, ◌++◌, le_of_suc-le-suc}
 use Rattle.std.proofs.lemmas.Bool.{true≢false, false≢true, cases_eq}
 use Rattle.std.proofs.lemmas.List.{ext_get_or}
 use Rattle.layers.specs.Net.{Outs, Layer, Net, node, target, width, PathFrom, each_node, redirect}
@@ -8,21 +10,16 @@ use Rattle.layers.specs.Tidy.{Mark, marks_next, marks_up, flags, rank, compress,
 use Rattle.layers.specs.LabelLaws.{PathTo}
 use Rattle.layers.specs.TidyLaws.{layer_of, IsOnPath, Stays, CountBelow, Becomes, IsRenumbered, IsTidied, TidyMeans, IsTidy, TidyStays}
 use Rattle.layers.proofs.Flows.{has-arc, inside, redirect-arc, mark-next, mark-up, flags-at, compress-at, rank-zero, renumber-at, tidy-keeps}
-use Rattle.layers.proofs.Shapes.{each_door-length}
-use Rattle.layers.proofs.Tied.{redirect-back, redirect-length, flags-back, renumber-back, marked_from, climbs-from}
+use Rattle.layers.proofs.Proper.{tidied-length}
+use Rattle.layers.proofs.Tied.{redirect-back, redirect-length, redirect-long, flags-back, renumber-back, marked_from, climbs-from}
 
 -- ---- counting
 count-only : (P : ℕ → Type 0) (b k m : ℕ) → CountBelow P b k → CountBelow P b m → k ≡ m
 count-only P zero k m x y = x ∙ sym y
 count-only P (suc b) zero zero x y = refl
-count-only P (suc b) zero (suc m) x (inl y) = absurd (x.0 y.0)
-count-only P (suc b) zero (suc m) x (inr y) = count-only P b zero (suc m) x.1 y.1
-count-only P (suc b) (suc k) zero (inl x) y = absurd (y.0 x.0)
-count-only P (suc b) (suc k) zero (inr x) y = count-only P b (suc k) zero x.1 y.1
-count-only P (suc b) (suc k) (suc m) (inl x) (inl y) = ap suc (count-only P b k m x.1 y.1)
-count-only P (suc b) (suc k) (suc m) (inl x) (inr y) = absurd (y.0 x.0)
-count-only P (suc b) (suc k) (suc m) (inr x) (inl y) = absurd (x.0 y.0)
-count-only P (suc b) (suc k) (suc m) (inr x) (inr y) = count-only P b (suc k) (suc m) x.1 y.1
+count-only P (suc b) zero (suc m) x y = grind (arith, x, y, count-only P b zero)
+count-only P (suc b) (suc k) zero x y = grind (arith, x, y, count-only P b (suc k) zero)
+count-only P (suc b) (suc k) (suc m) x y = grind (arith, x, y, count-only P b k m, count-only P b (suc k) (suc m))
 
 count-skip : (P : ℕ → Type 0) (b k : ℕ) → ¬ (P b) → CountBelow P b k → CountBelow P (suc b) k
 count-skip P b zero n h = (n, h)
@@ -31,34 +28,28 @@ count-skip P b (suc k) n h = inr (n, h)
 rank-on : (fs : List Bool) (b : ℕ) → get_or fs b false ≡ true → rank fs (suc b) ≡ suc (rank fs b)
 unfolding rank
 rank-on [] b e = absurd (false≢true e)
-rank-on (true ∷ fs) zero e = ap suc (rank-zero fs)
-rank-on (false ∷ fs) zero e = absurd (false≢true e)
-rank-on (true ∷ fs) (suc b) e = ap suc (rank-on fs b e)
-rank-on (false ∷ fs) (suc b) e = rank-on fs b e
+rank-on (f ∷ fs) zero e = grind (arith, e, rank-zero fs)
+rank-on (f ∷ fs) (suc b) e = grind (arith, e, rank-on fs b)
 
 rank-off : (fs : List Bool) (b : ℕ) → get_or fs b false ≡ false → rank fs (suc b) ≡ rank fs b
 unfolding rank
 rank-off [] b e = refl
-rank-off (true ∷ fs) zero e = absurd (true≢false e)
-rank-off (false ∷ fs) zero e = rank-zero fs
-rank-off (true ∷ fs) (suc b) e = ap suc (rank-off fs b e)
-rank-off (false ∷ fs) (suc b) e = rank-off fs b e
+rank-off (f ∷ fs) zero e = grind (arith, e, rank-zero fs)
+rank-off (f ∷ fs) (suc b) e = grind (arith, e, rank-off fs b)
 
 -- a rank is the count of the flags before
 count-rank : (P : ℕ → Type 0) (fs : List Bool) → ((b : ℕ) → get_or fs b false ≡ true → P b) → ((b : ℕ) → P b → get_or fs b false ≡ true) → (b : ℕ) → CountBelow P b (rank fs b)
 count-rank P fs f g zero = rank-zero fs
-count-rank P fs f g (suc b) = go (get_or fs b false) refl (count-rank P fs f g b)
-  where
-    go : (q : Bool) → get_or fs b false ≡ q → CountBelow P b (rank fs b) → CountBelow P (suc b) (rank fs (suc b))
-    go true e h = rw (rank-on fs b e) (inl (f b e, h))
-    go false e h = rw (rank-off fs b e) (count-skip P b (rank fs b) (λ p. true≢false (sym (g b p) ∙ e)) h)
+count-rank P fs f g (suc b) = let h = count-rank P fs f g b in elim (get_or fs b false) as (λ q. get_or fs b false ≡ q → CountBelow P (suc b) (rank fs (suc b))) [
+  | true ↦ λ e. rw (rank-on fs b e) (inl (f b e, h))
+  | false ↦ λ e. rw (rank-off fs b e) (count-skip P b (rank fs b) (λ p. true≢false (sym (g b p) ∙ e)) h)
+] refl
 
 compress-long : (fs : List Bool) (X : Layer) → length (compress fs X) ≡ rank fs (length X)
 unfolding compress rank
 compress-long [] X = refl
 compress-long (f ∷ fs) [] = refl
-compress-long (true ∷ fs) (x ∷ X) = ap suc (compress-long fs X)
-compress-long (false ∷ fs) (x ∷ X) = compress-long fs X
+compress-long (f ∷ fs) (x ∷ X) = grind (arith, compress-long fs X)
 
 -- ---- the flags of layer i, where fr are the marks of the first layer
 abbrev flags_of : List (Option Mark) → Net → ℕ → List Bool
@@ -151,18 +142,11 @@ module _ (D : Net) where
       go [] = refl
       go (L ∷ Ls) = tidy-at (marks_next start L (width Ls)) Ls i
 
-  each_node-long : (f : ℕ → ℕ → ℕ → ℕ) (c : ℕ) (L : Layer) (a : ℕ) → length (node (each_node f c L) a) ≡ length (node L a)
-  unfolding each_node
-  each_node-long f c [] a = refl
-  each_node-long f c (nd ∷ L) zero = each_door-length (f c) 1 nd
-  each_node-long f c (nd ∷ L) (suc a) = each_node-long f (suc c) L a
-
   renumbered : (i : ℕ) (L : Layer) (a : ℕ) → IsRenumbered D i (node L a) (node (redirect (λ a j b. renumber (F (suc i)) b) L) a)
-  unfolding redirect
   renumbered i L a =
       let f : ℕ → ℕ → ℕ → ℕ = λ a j b. renumber (F (suc i)) b in
       record {
-        doors = each_node-long f 0 L a;
+        doors = redirect-long f L a;
         arcs = λ j c. (
           (λ e. let q = redirect-back f L a j c e in let h = renumber-back (F (suc i)) q.0 c q.2 in
               (q.0, q.1, record { stays = on-path (suc i) q.0 h.0; before = subst (CountBelow (Stays D (suc i)) q.0) h.1 (counted i q.0) })),
@@ -214,20 +198,10 @@ tidied-back (L ∷ Ls) (j ∷ w) p =
     let h = renumber-back fs q.0 p.0 q.2 in
     (q.0, q.1, tidy-back fr Ls q.0 w h.0 (subst (λ (c : ℕ). PathFrom (tidy fr Ls) c w) (sym h.1) p.2))
 
-tidy-layers : (fr : List (Option Mark)) (Ls : Net) → length (tidy fr Ls) ≡ length Ls
-unfolding tidy
-tidy-layers fr [] = refl
-tidy-layers fr (L ∷ Ls) = ap suc (tidy-layers (marks_next fr L (width Ls)) Ls)
-
-tidied-layers : (Ls : Net) → length (tidied_arcs Ls) ≡ length Ls
-unfolding tidied_arcs
-tidied-layers [] = refl
-tidied-layers (L ∷ Ls) = ap suc (tidy-layers (marks_next start L (width Ls)) Ls)
-
 tidies : (D : Net) → IsTidied D (tidied_arcs D)
 tidies D = record {
   paths = λ w. (tidied-back D w, tidy-keeps D w);
-  layers = tidied-layers D;
+  layers = tidied-length D;
   nodes = as-many D;
   node_at = place D;
 }
@@ -275,8 +249,7 @@ tidy-means D E = (λ x. same-net D E (tidied_arcs D) x (tidies D), λ e. rw e (t
 count-le : (P : ℕ → Type 0) (m n : ℕ) → CountBelow P m n → n ≤ m
 count-le P zero n h = omega arith
 count-le P (suc m) zero h = omega arith
-count-le P (suc m) (suc n) (inl h) = omega (arith, count-le P m n h.1)
-count-le P (suc m) (suc n) (inr h) = omega (arith, count-le P m (suc n) h.1)
+count-le P (suc m) (suc n) h = grind (arith, h, count-le P m n, count-le P m (suc n))
 
 count-full : (P : ℕ → Type 0) (m : ℕ) → CountBelow P m m → (b : ℕ) → b < m → P b
 count-full P zero h b lt = absurd (not-suc-le-zero lt)
@@ -346,3 +319,70 @@ tidy-same D t = record {
 
 pub tidy-stays : TidyStays
 tidy-stays D = (λ t. sym ((tidy-means D D).0 (tidy-same D t)), λ e. same-tidy D ((tidy-means D D).1 (sym e)))
+
+-- ---- where each node of a layer has an in-arc and an out-arc
+-- from each node there is a way on to the end
+way_on : (M : Layer) (Ls : Net) → IsLed M → IsTied (M ∷ Ls) → (a : ℕ) → a < length M → (w : List ℕ) × PathFrom (M ∷ Ls) a w
+way_on M [] led t a h = let s = led a h in (s.0 ∷ [], (s.1, s.2, omega (arith, t a s.0 s.1 s.2)))
+way_on M (N ∷ Ls) led t a h =
+    let s = led a h in let x = way_on N Ls t.2 t.3 s.1 (t.0 a s.0 s.1 s.2) in (s.0 ∷ x.0, (s.1, s.2, x.1))
+
+-- after the first layer a path leads on from each node
+pub leads-at : (D : Net) (i a : ℕ) → IsTied D → 1 ≤ i → i ≤ length D → a < width (drop i D) → (w : List ℕ) × PathFrom (drop i D) a w
+leads-at D zero a t lo hi h = absurd (omega arith)
+leads-at [] (suc i) a t lo hi h = absurd (not-suc-le-zero hi)
+leads-at (L ∷ []) (suc zero) a t lo hi h = ([], omega arith)
+leads-at (L ∷ []) (suc (suc i)) a t lo hi h = absurd (not-suc-le-zero (le_of_suc-le-suc hi))
+leads-at (L ∷ M ∷ Ls) (suc zero) a t lo hi h = way_on M Ls t.2 t.3 a h
+leads-at (L ∷ M ∷ Ls) (suc (suc i)) a t lo hi h = leads-at (M ∷ Ls) (suc i) a t.3 (omega arith) (le_of_suc-le-suc hi) h
+
+pub ranged-at : (D : Net) (d : ℕ) → IsTied D → d < length D → IsRanged (get_or D d []) (width (drop (suc d) D))
+ranged-at [] d t h = absurd (not-suc-le-zero h)
+ranged-at (L ∷ []) zero t h = t
+ranged-at (L ∷ []) (suc d) t h = absurd (not-suc-le-zero (le_of_suc-le-suc h))
+ranged-at (L ∷ M ∷ Ls) zero t h = t.0
+ranged-at (L ∷ M ∷ Ls) (suc d) t h = ranged-at (M ∷ Ls) d t.3 (le_of_suc-le-suc h)
+
+pub path-push : (D : Net) (x a k b : ℕ) (p : List ℕ) → PathTo D x p a → target (node (get_or D (length p) []) a) k ≡ suc b → PathTo D x (p ++ (k ∷ [])) b
+path-push [] x a zero b [] q e = absurd (omega arith)
+path-push [] x a (suc k) b [] q e = absurd (omega arith)
+path-push [] x a k b (j ∷ p) q e = absurd q
+path-push (L ∷ Ls) x a k b [] q e = (b, rw q e, refl)
+path-push (L ∷ Ls) x a k b (j ∷ p) q e = (q.0, q.1, path-push Ls q.0 a k b p q.2 e)
+
+-- and a way to it
+way-to : (D : Net) → width D ≡ 1 → IsTied D → (i b : ℕ) → i < length D → b < length (layer_of D i) → (w : List ℕ) × PathTo D 0 w b × (length w ≡ i)
+way-to [] o t i b lo h = absurd (not-suc-le-zero lo)
+way-to (L ∷ Ls) o t zero b lo h = ([], omega arith, refl)
+way-to (L ∷ Ls) o t (suc i) b lo h =
+    let s = fed-at (L ∷ Ls) i b t h in
+    let p = way-to (L ∷ Ls) o t i s.0 (omega arith) (has-arc (layer_of (L ∷ Ls) i) s.0 s.1 b s.2) in
+    (p.0 ++ (s.1 ∷ []), path-push (L ∷ Ls) 0 s.0 s.1 b p.0 p.1 (rw p.2 s.2), length-snoc p.0 s.1 ∙ ap suc p.2)
+  where
+    fed-at : (D : Net) (i b : ℕ) → IsTied D → b < length (layer_of D (suc i)) → (a : ℕ) × (j : ℕ) × (target (node (layer_of D i) a) j ≡ suc b)
+    fed-at [] i b t h = absurd (omega arith)
+    fed-at (L ∷ []) i b t h = absurd (omega arith)
+    fed-at (L ∷ M ∷ Ls) zero b t h = t.1 b h
+    fed-at (L ∷ M ∷ Ls) (suc i) b t h = fed-at (M ∷ Ls) i b t.3 h
+
+at-within : (D : Net) (i b : ℕ) → b < length (layer_of D i) → i < length D
+at-within [] i b h = absurd (omega arith)
+at-within (L ∷ D) zero b h = omega arith
+at-within (L ∷ D) (suc i) b h = let z = at-within D i b h in omega arith
+
+-- so nothing is to go
+pub tidied-same : (D : Net) → width D ≡ 1 → IsTied D → tidied_arcs D ≡ D
+tidied-same D o t = (tidy-stays D).0 (record {
+  nodes = λ i b h. let k = at-within D (suc i) b h in let p = way-to D o t (suc i) b k h in
+      record { to = (p.0, (p.1, p.2)); on = leads-at D (suc i) b t (omega arith) (omega arith) (within D (suc i) b h) };
+  arcs = λ i a j b e. let h = has-arc (layer_of D i) a j b e in let k = at-within D i a h in let p = way-to D o t i a k h in
+      record {
+        to = (p.0 ++ (j ∷ []), (path-push D 0 a j b p.0 p.1 (rw p.2 e), length-snoc p.0 j ∙ ap suc p.2));
+        on = leads-at D (suc i) b t (omega arith) k (ranged-at D i t k a j b e);
+      };
+})
+  where
+    within : (D : Net) (i b : ℕ) → b < length (layer_of D i) → b < width (drop i D)
+    within [] i b h = absurd (omega arith)
+    within (L ∷ D) zero b h = h
+    within (L ∷ D) (suc i) b h = within D i b h

@@ -1,35 +1,27 @@
 -- After tidying, every node lies on a path.
-use Rattle.std.proofs.Common.{◌≡◌, ℕ, zero, suc, ◌+◌, ◌<◌, Bool, true, false, cond, List, [], ◌∷◌, length, get_or, Some, None, Option, sym, refl, ap, ◌∙◌, le_of_suc-le-suc, not-suc-le-zero, arith}
+use Rattle.std.proofs.Common.{◌≡◌, ℕ, zero, suc, ◌<◌, Bool, true, false, List, [], ◌∷◌, length, get_or, Some, None, Option, sym, refl, ap, ◌∙◌, le_of_suc-le-suc, not-suc-le-zero, arith, cond}
 use lib.ListN.{length-map}
-use Rattle.std.proofs.lemmas.Bool.{false≢true, and_parts}
+use Rattle.std.proofs.lemmas.Bool.{false≢true}
 use Rattle.std.proofs.lemmas.Option.{none-some}
+use Rattle.std.proofs.lemmas.List.{ext_get_or}
 use Rattle.layers.specs.Net.{Outs, Layer, Net, node, target, width, each_door, each_node, redirect}
 use Rattle.layers.specs.Flow.{arrivals_at, gather, climbs_of, up}
 use Rattle.layers.specs.Tidy.{Mark, marks_next, marks_up, flags, rank, compress, renumber, tidy, tidied_arcs}
 use Rattle.layers.specs.Lawful.{IsRanged, IsLed, IsTied}
-use Rattle.layers.proofs.Flows.{gather-any, outs-from, map-some, redirect-arc, has-arc, ins-from, next-some, up_at, mark-next, flags-at, compress-at, renumber-at}
-use Rattle.std.specs.Prelude.{is_some}
+use Rattle.layers.specs.Targets.{at_door}
+use Rattle.layers.proofs.Flows.{gather-any, outs-from, map-some, redirect-get, redirect-arc, has-arc, ins-from, next-some, up_at, mark-next, flags-at, compress-at, renumber-at, rank-zero}
 
 -- ---- redirecting, backwards
-each_door-back : (f : ℕ → ℕ → ℕ) (j : ℕ) (ts : Outs) (k m c : ℕ) → j + k ≡ m → get_or (each_door f j ts) k 0 ≡ suc c → (b : ℕ) × (get_or ts k 0 ≡ suc b) × (f m b ≡ suc c)
-unfolding each_door
-each_door-back f j [] k m c h e = absurd (omega arith)
-each_door-back f j (zero ∷ ts) zero m c h e = absurd (omega arith)
-each_door-back f j (zero ∷ ts) (suc k) m c h e = each_door-back f (suc j) ts k m c (omega arith) e
-each_door-back f j (suc b ∷ ts) zero m c h e = (b, refl, ap (λ (x : ℕ). f x b) (omega arith) ∙ e)
-each_door-back f j (suc b ∷ ts) (suc k) m c h e = each_door-back f (suc j) ts k m c (omega arith) e
-
-each_node-back : (f : ℕ → ℕ → ℕ → ℕ) (i : ℕ) (L : Layer) (a m j c : ℕ) → i + a ≡ m → target (node (each_node f i L) a) j ≡ suc c → (b : ℕ) × (target (node L a) j ≡ suc b) × (f m j b ≡ suc c)
-unfolding each_node
-each_node-back f i [] a m zero c h e = absurd (omega arith)
-each_node-back f i [] a m (suc k) c h e = absurd (omega arith)
-each_node-back f i (nd ∷ L) zero m zero c h e = absurd (omega arith)
-each_node-back f i (nd ∷ L) zero m (suc k) c h e = let q = each_door-back (f i) 1 nd k (suc k) c (omega arith) e in (q.0, q.1, ap (λ (x : ℕ). f x (suc k) q.0) (omega arith) ∙ q.2)
-each_node-back f i (nd ∷ L) (suc a) m j c h e = each_node-back f (suc i) L a m j c (omega arith) e
-
 pub redirect-back : (f : ℕ → ℕ → ℕ → ℕ) (L : Layer) (a j c : ℕ) → target (node (redirect f L) a) j ≡ suc c → (b : ℕ) × (target (node L a) j ≡ suc b) × (f a j b ≡ suc c)
-unfolding redirect
-redirect-back f L a j c e = each_node-back f 0 L a a j c (omega arith) e
+redirect-back f L a j c e = go (target (node L a) j) refl (sym (redirect-get f L a j) ∙ e)
+  where
+    go : (t : ℕ) → target (node L a) j ≡ t → at_door (f a) j t ≡ suc c → (b : ℕ) × (target (node L a) j ≡ suc b) × (f a j b ≡ suc c)
+    go zero h g = absurd (omega arith)
+    go (suc b) h g = (b, h, g)
+
+-- where some arcs are taken out, the others stay
+pub kept-back : (t : ℕ → ℕ → ℕ → Bool) (L : Layer) (a j c : ℕ) → target (node (redirect (λ a j b. cond (t a j b) 0 (suc b)) L) a) j ≡ suc c → target (node L a) j ≡ suc c
+kept-back t L a j c e = let q = redirect-back (λ a j b. cond (t a j b) 0 (suc b)) L a j c e in let x = q.1 in let y = q.2 in grind (arith, x, y)
 
 each_node-length : (f : ℕ → ℕ → ℕ → ℕ) (i : ℕ) (L : Layer) → length (each_node f i L) ≡ length L
 unfolding each_node
@@ -40,16 +32,46 @@ pub redirect-length : (f : ℕ → ℕ → ℕ → ℕ) (L : Layer) → length (
 unfolding redirect
 redirect-length f L = each_node-length f 0 L
 
--- ---- flags
-pub some_of : (o : Option Mark) → is_some o ≡ true → o ≡ Some tt
-some_of None e = absurd (false≢true e)
-some_of (Some tt) e = refl
+pub each_door-length : (f : ℕ → ℕ → ℕ) (j : ℕ) (ts : Outs) → length (each_door f j ts) ≡ length ts
+unfolding each_door
+each_door-length f j [] = refl
+each_door-length f j (zero ∷ ts) = ap suc (each_door-length f (suc j) ts)
+each_door-length f j (suc b ∷ ts) = ap suc (each_door-length f (suc j) ts)
 
+each_node-long : (f : ℕ → ℕ → ℕ → ℕ) (c : ℕ) (L : Layer) (a : ℕ) → length (node (each_node f c L) a) ≡ length (node L a)
+unfolding each_node
+each_node-long f c [] a = refl
+each_node-long f c (nd ∷ L) zero = each_door-length (f c) 1 nd
+each_node-long f c (nd ∷ L) (suc a) = each_node-long f (suc c) L a
+
+pub redirect-long : (f : ℕ → ℕ → ℕ → ℕ) (L : Layer) (a : ℕ) → length (node (redirect f L) a) ≡ length (node L a)
+unfolding redirect
+redirect-long f L a = each_node-long f 0 L a
+
+-- ---- only arcs that are there matter
+pub redirect-cong : (f g : ℕ → ℕ → ℕ → ℕ) (L : Layer) → ((a j b : ℕ) → target (node L a) j ≡ suc b → f a j b ≡ g a j b) → redirect f L ≡ redirect g L
+redirect-cong f g L h = ext_get_or [] (redirect f L) (redirect g L) (redirect-length f L ∙ sym (redirect-length g L)) (λ a lt.
+    ext_get_or 0 (node (redirect f L) a) (node (redirect g L) a) (redirect-long f L a ∙ sym (redirect-long g L a))
+    (λ k in'. redirect-get f L a (suc k) ∙ go a (suc k) (target (node L a) (suc k)) refl ∙ sym (redirect-get g L a (suc k))))
+  where
+    go : (a j t : ℕ) → target (node L a) j ≡ t → at_door (f a) j t ≡ at_door (g a) j t
+    go a j zero e = refl
+    go a j (suc b) e = h a j b e
+
+pub redirect-same : (f : ℕ → ℕ → ℕ → ℕ) (L : Layer) → ((a j b : ℕ) → target (node L a) j ≡ suc b → f a j b ≡ suc b) → redirect f L ≡ L
+redirect-same f L h = ext_get_or [] (redirect f L) L (redirect-length f L) (λ a lt.
+    ext_get_or 0 (node (redirect f L) a) (node L a) (redirect-long f L a) (λ k in'. redirect-get f L a (suc k) ∙ go a (suc k) (target (node L a) (suc k)) refl))
+  where
+    go : (a j t : ℕ) → target (node L a) j ≡ t → at_door (f a) j t ≡ t
+    go a j zero e = refl
+    go a j (suc b) e = h a j b e
+
+-- ---- flags
 pub flags-back : (fr us : List (Option Mark)) (a : ℕ) → get_or (flags fr us) a false ≡ true → (get_or fr a None ≡ Some tt) × (get_or us a None ≡ Some tt)
 unfolding flags
 flags-back [] us a e = absurd (false≢true e)
 flags-back (x ∷ fr) [] a e = absurd (false≢true e)
-flags-back (x ∷ fr) (u ∷ us) zero e = let q = and_parts (is_some x) (is_some u) e in (some_of x q.0, some_of u q.1)
+flags-back (x ∷ fr) (u ∷ us) zero e = grind (arith, e)
 flags-back (x ∷ fr) (u ∷ us) (suc a) e = flags-back fr us a e
 
 within : (us : List (Option Mark)) (a : ℕ) → get_or us a None ≡ Some tt → a < length us
@@ -66,26 +88,20 @@ rank_lt : (fs : List Bool) (X : Layer) (b : ℕ) → get_or fs b false ≡ true 
 unfolding rank compress
 rank_lt [] X b e h = absurd (false≢true e)
 rank_lt (f ∷ fs) [] b e h = absurd (not-suc-le-zero h)
-rank_lt (true ∷ fs) (x ∷ X) zero e h = omega arith
-rank_lt (false ∷ fs) (x ∷ X) zero e h = absurd (false≢true e)
-rank_lt (true ∷ fs) (x ∷ X) (suc b) e h = let q = rank_lt fs X b e (le_of_suc-le-suc h) in omega arith
-rank_lt (false ∷ fs) (x ∷ X) (suc b) e h = rank_lt fs X b e (le_of_suc-le-suc h)
+rank_lt (f ∷ fs) (x ∷ X) zero e h = grind (arith, e)
+rank_lt (f ∷ fs) (x ∷ X) (suc b) e h = grind (arith, e, rank_lt fs X b)
 
-pub compress-back : (fs : List Bool) (X : Layer) (c : ℕ) → c < length (compress fs X) → (b : ℕ) × (get_or fs b false ≡ true) × (rank fs b ≡ c)
+pub compress-back : (fs : List Bool) (X : Layer) (c : ℕ) → c < length (compress fs X) → (b : ℕ) × (get_or fs b false ≡ true) × (rank fs b ≡ c) × (b < length X)
 unfolding rank compress
 compress-back [] X c h = absurd (not-suc-le-zero h)
 compress-back (f ∷ fs) [] c h = absurd (not-suc-le-zero h)
-compress-back (true ∷ fs) (x ∷ X) zero h = (0, refl, refl)
-compress-back (true ∷ fs) (x ∷ X) (suc c) h = let q = compress-back fs X c (le_of_suc-le-suc h) in (suc q.0, q.1, ap suc q.2)
-compress-back (false ∷ fs) (x ∷ X) c h = let q = compress-back fs X c h in (suc q.0, q.1, q.2)
+compress-back (true ∷ fs) (x ∷ X) zero h = (0, refl, refl, omega arith)
+compress-back (true ∷ fs) (x ∷ X) (suc c) h = let q = compress-back fs X c (le_of_suc-le-suc h) in (suc q.0, q.1, ap suc q.2, omega arith)
+compress-back (false ∷ fs) (x ∷ X) c h = let q = compress-back fs X c h in (suc q.0, q.1, q.2, omega arith)
 
 pub renumber-back : (fs : List Bool) (b c : ℕ) → renumber fs b ≡ suc c → (get_or fs b false ≡ true) × (rank fs b ≡ c)
 unfolding renumber
-renumber-back fs b c e = go (get_or fs b false) refl e
-  where
-    go : (q : Bool) → get_or fs b false ≡ q → cond q (suc (rank fs b)) 0 ≡ suc c → (get_or fs b false ≡ true) × (rank fs b ≡ c)
-    go true f g = (f, omega arith)
-    go false f g = absurd (omega arith)
+renumber-back fs b c e = grind (arith, e)
 
 -- ---- what marks say
 pub marked_from : (fr : List (Option Mark)) (L : Layer) (count b : ℕ) → get_or (marks_next fr L count) b None ≡ Some tt → (a : ℕ) × (j : ℕ) × (target (node L a) j ≡ suc b) × (get_or fr a None ≡ Some tt)
@@ -167,12 +183,7 @@ ranged-end fr L a j c e =
     let w = flag-within fr L [] q.0 h.0 in
     let z : q.0 ≡ 0 = omega arith in
     let y = ap (rank (fs fr L [])) (sym z) ∙ h.1 in
-    omega (arith, zero_rank (fs fr L []), y)
-  where
-    zero_rank : (gs : List Bool) → rank gs 0 ≡ 0
-    zero_rank [] = unfold rank in refl
-    zero_rank (true ∷ gs) = unfold rank in refl
-    zero_rank (false ∷ gs) = unfold rank in refl
+    omega (arith, rank-zero (fs fr L []), y)
 
 tidy-tied : (fr : List (Option Mark)) (Ls : Net) → IsTied (tidy fr Ls)
 unfolding tidy

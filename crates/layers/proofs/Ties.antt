@@ -1,19 +1,108 @@
--- Opening, part and join keep every node on a path.
+-- Part and join keep every path; and opening, part and join keep every node on a path.
 use Rattle.std.proofs.Common.{◌≡◌, ℕ, zero, suc, ◌-◌, ◌<◌, ◌≤◌, Bool, true, false, cond, not, ◌&&◌, eqb, ltb, ◌⊎◌, List, [], ◌∷◌, ◌++◌, length, get_or, set, Some, None, Option, sym, refl, ap, ◌∙◌, inl, inr, le_of_suc-le-suc, not-suc-le-zero, arith, length-set}
-use Rattle.std.proofs.lemmas.Bool.{true≢false, ltb-true, ltb-false, eqb-true, lt-ltb, eq-eqb, ne_eqb, cases_lt, cases_eq, and_cases}
+use Rattle.std.proofs.lemmas.Bool.Decides.{nat_tests}
+use Rattle.std.proofs.lemmas.Bool.{true≢false, ltb-true, ltb-false, eqb-true, eq-eqb, cases_lt, cases_eq, and_cases, and_parts}
 use Rattle.std.proofs.lemmas.List.{get_or_append_left, get_or_push, get_or-set_same, get_or-set_other}
-use Rattle.layers.specs.Net.{table, Outs, Layer, Net, node, target, redirect}
+use Rattle.layers.specs.Net.{table, Outs, Layer, Net, node, target, redirect, width, PathFrom}
 use Rattle.layers.specs.Flow.{arrivals_at}
-use Rattle.layers.specs.Join.{clash, either_target, both_out, without_place, place_after_join, joined_arcs}
+use Rattle.layers.specs.Join.{clash, either_target, both_out, without_place, place_after_join, joined_arcs, targets_differ}
 use Rattle.layers.specs.Lawful.{IsRanged, IsFed, IsLed, IsTied}
-use Rattle.layers.specs.Labels.{arrival_over, agree, agrees_with_all, all_agree, differs_from_first, first_arrival, opening_arcs, all_doors}
-use Rattle.layers.specs.Calls.{parted_arcs}
-use Rattle.layers.proofs.Flows.{Among, redirect-arc, has-arc, table_at, From, ins-from}
+use Rattle.layers.specs.Labels.{arrival_over, agree, agrees_with_all, all_agree, differs_from_first, first_arrival, opening_arcs, all_doors, labels_next}
+use Rattle.layers.specs.Calls.{parted_arcs, arrivals}
+use Rattle.layers.proofs.Flows.{EvenLayer, Among, redirect-arc, has-arc, table_at, From, ins-from}
 use Rattle.layers.proofs.Ways.{length-snoc}
-use Rattle.layers.proofs.Shapes.{drop-below, drop-above, join-node}
 use Rattle.layers.proofs.Tied.{redirect-back, redirect-length}
 use Rattle.layers.specs.Settings.{Setting}
 use Rattle.layers.specs.declared.node.Down.{Down}
+use Rattle.layers.proofs.Model.{part_at, moved}
+
+-- ---- part
+module _ {S V : Type 0} (by : Setting S V) where
+  pub part-keeps : (d a : ℕ) (labs : List (Option (Down S V))) (Ls : Net) (x : ℕ) (w : List ℕ) → PathFrom Ls x w → PathFrom (part_at by d a labs Ls) x w
+  unfolding parted_arcs
+  part-keeps zero a labs [] x w p = p
+  part-keeps (suc d) a labs [] x w p = p
+  part-keeps zero a labs (L ∷ []) x w p = p
+  part-keeps zero a labs (L ∷ M ∷ Ls) x [] p = absurd p
+  part-keeps zero a labs (L ∷ M ∷ Ls) x (j ∷ []) p = absurd p.2
+  part-keeps zero a labs (L ∷ M ∷ Ls) x (j ∷ k ∷ w) p =
+      go (eqb p.0 a && differs_from_first by (first_arrival (arrivals by labs L a)) (get_or labs x None) j) refl
+    where
+      go : (q : Bool) → (eqb p.0 a && differs_from_first by (first_arrival (arrivals by labs L a)) (get_or labs x None) j) ≡ q → PathFrom (redirect (moved by a labs L (length M)) L ∷ (M ++ (node M a ∷ [])) ∷ Ls) x (j ∷ k ∷ w)
+      go true e =
+          let same = eqb-true p.0 a (and_parts (eqb p.0 a) _ e).0 in
+          (length M, redirect-arc _ L x j p.0 p.1 ∙ rw e refl, (p.2.0, rw (get_or_push M (node M a) [] (length M) refl, ← same) p.2.1, p.2.2))
+      go false e = (p.0, redirect-arc _ L x j p.0 p.1 ∙ rw e refl, (p.2.0, rw (get_or_append_left M (node M a ∷ []) [] p.0 (has-arc M p.0 k p.2.0 p.2.1)) p.2.1, p.2.2))
+  part-keeps (suc d) a labs (L ∷ Ls) x [] p = absurd p
+  part-keeps (suc d) a labs (L ∷ Ls) x (j ∷ w) p = (p.0, p.1, part-keeps d a (labels_next by labs L (width Ls)) Ls p.0 w p.2)
+
+-- ---- join
+pub drop-below : (i b : ℕ) (M : Layer) → b < i → node (without_place i M) b ≡ node M b
+unfolding without_place
+drop-below zero b M h = absurd (not-suc-le-zero h)
+drop-below (suc i) b [] h = refl
+drop-below (suc i) zero (x ∷ M) h = refl
+drop-below (suc i) (suc b) (x ∷ M) h = drop-below i b M (le_of_suc-le-suc h)
+
+pub drop-above : (i b : ℕ) (M : Layer) → i ≤ b → node (without_place i M) b ≡ node M (suc b)
+unfolding without_place
+drop-above zero b [] h = refl
+drop-above zero b (x ∷ M) h = refl
+drop-above (suc i) b [] h = refl
+drop-above (suc i) zero (x ∷ M) h = absurd (not-suc-le-zero h)
+drop-above (suc i) (suc b) (x ∷ M) h = drop-above i b M (le_of_suc-le-suc h)
+
+-- the targets of both
+both-get : (x y : Outs) (k : ℕ) → get_or (both_out x y) k 0 ≡ either_target (get_or x k 0) (get_or y k 0)
+unfolding both_out
+both-get [] y k = refl
+both-get (zero ∷ x) [] zero = refl
+both-get (suc s ∷ x) [] zero = refl
+both-get (s ∷ x) [] (suc k) = grind arith
+both-get (s ∷ x) (t ∷ y) zero = refl
+both-get (s ∷ x) (t ∷ y) (suc k) = both-get x y k
+
+clash-get : (x y : Outs) (k : ℕ) → clash x y ≡ false → targets_differ (get_or x k 0) (get_or y k 0) ≡ false
+unfolding clash
+clash-get [] y k n = refl
+clash-get (s ∷ x) [] k n = grind arith
+clash-get (s ∷ x) (t ∷ y) zero n = grind (arith, n)
+clash-get (s ∷ x) (t ∷ y) (suc k) n = grind (arith, n, clash-get x y k)
+
+target_left : (x y : Outs) (k c : ℕ) → target x k ≡ suc c → target (both_out x y) k ≡ suc c
+target_left x y zero c e = e
+target_left x y (suc k) c e = both-get x y k ∙ grind (arith, e)
+
+target_right : (x y : Outs) (k c : ℕ) → clash x y ≡ false → target y k ≡ suc c → target (both_out x y) k ≡ suc c
+target_right x y zero c n e = e
+target_right x y (suc k) c n e = both-get x y k ∙ grind (arith, nat_tests, e, clash-get x y k n)
+
+target-back : (x y : Outs) (j b : ℕ) → target (both_out x y) j ≡ suc b → (target x j ≡ suc b) ⊎ (target y j ≡ suc b)
+target-back x y zero b e = inl e
+target-back x y (suc k) b e = grind (arith, e, both-get x y k)
+
+join-node : (M : Layer) (lo hi b k c : ℕ) → lo < hi → hi < length M → clash (node M lo) (node M hi) ≡ false → target (node M b) k ≡ suc c
+    → target (node (without_place hi (set M lo (both_out (node M lo) (node M hi)))) (place_after_join lo hi b)) k ≡ suc c
+unfolding place_after_join
+join-node M lo hi b k c lt inn nc e =
+    let v = both_out (node M lo) (node M hi) in
+    let X = set M lo v in
+    let left = target_left (node M lo) (node M hi) k c in
+    let right = target_right (node M lo) (node M hi) k c nc in
+    grind (arith, nat_tests, e, lt, inn, left, right, drop-below hi b X, drop-below hi lo X lt, drop-above hi (b - 1) X, get_or-set_same M lo v [], get_or-set_other M lo b v [])
+
+pub join-keeps : (d lo hi : ℕ) (Ls : Net) (x : ℕ) (w : List ℕ) → lo < hi → hi < length (get_or Ls (suc d) []) → clash (node (get_or Ls (suc d) []) lo) (node (get_or Ls (suc d) []) hi) ≡ false
+    → PathFrom Ls x w → PathFrom (joined_arcs d lo hi Ls) x w
+unfolding joined_arcs
+join-keeps zero lo hi [] x w a b n p = p
+join-keeps (suc d) lo hi [] x w a b n p = p
+join-keeps zero lo hi (L ∷ []) x w a b n p = p
+join-keeps zero lo hi (L ∷ M ∷ Ls) x [] a b n p = absurd p
+join-keeps zero lo hi (L ∷ M ∷ Ls) x (j ∷ []) a b n p = absurd p.2
+join-keeps zero lo hi (L ∷ M ∷ Ls) x (j ∷ k ∷ w) a b n p =
+    (place_after_join lo hi p.0, redirect-arc (λ a j b. suc (place_after_join lo hi b)) L x j p.0 p.1, (p.2.0, join-node M lo hi p.0 k p.2.0 a b n p.2.1, p.2.2))
+join-keeps (suc d) lo hi (L ∷ Ls) x [] a b n p = absurd p
+join-keeps (suc d) lo hi (L ∷ Ls) x (j ∷ w) a b n p = (p.0, p.1, join-keeps d lo hi Ls p.0 w a b n p.2)
 
 -- ---- open
 module _ {S V : Type 0} (by : Setting S V) where
@@ -50,20 +139,17 @@ module _ {S V : Type 0} (by : Setting S V) where
 -- ---- part
 -- the nodes of a layer with one more are those of the layer
 pub more-back : (M : Layer) (nd : Outs) (c : ℕ) → c < suc (length M) → ((c < length M) × (node (M ++ (nd ∷ [])) c ≡ node M c)) ⊎ ((c ≡ length M) × (node (M ++ (nd ∷ [])) c ≡ nd))
-more-back M nd c h = go (ltb c (length M)) refl
-  where
-    go : (q : Bool) → ltb c (length M) ≡ q → ((c < length M) × (node (M ++ (nd ∷ [])) c ≡ node M c)) ⊎ ((c ≡ length M) × (node (M ++ (nd ∷ [])) c ≡ nd))
-    go true e = let k = ltb-true c (length M) e in inl (k, get_or_append_left M (nd ∷ []) [] c k)
-    go false e = let k : c ≡ length M = omega (arith, ltb-false c (length M) e) in
-        inr (k, rw k (get_or_push M nd [] (length M) refl))
+more-back M nd c h = elim (cases_lt c (length M)) [ inl k ↦ inl (k, get_or_append_left M (nd ∷ []) [] c k) | inr k ↦ inr (omega arith, get_or_push M nd [] c (omega arith)) ]
 
 module _ (M : Layer) (a : ℕ) (inn : a < length M) where
   more-ranged : (m : ℕ) → IsRanged M m → IsRanged (M ++ (node M a ∷ [])) m
   more-ranged m h c j b e =
-      elim (more-back M (node M a) c (let z = has-arc (M ++ (node M a ∷ [])) c j b e in omega (arith, length-snoc M (node M a)))) [
-        | inl q ↦ h c j b (rw (← q.1) e)
-        | inr q ↦ h a j b (rw (← q.1) e)
-      ]
+      let k = has-arc (M ++ (node M a ∷ [])) c j b e in
+      let q = more-back M (node M a) c (omega (arith, length-snoc M (node M a))) in
+      grind (arith, e, q, h c j b, h a j b)
+
+  pub more-even : (n : ℕ) → EvenLayer n M → EvenLayer n (M ++ (node M a ∷ []))
+  more-even n h c k = elim (more-back M (node M a) c (omega (arith, length-snoc M (node M a)))) [ inl x ↦ rw x.1 (h c x.0) | inr x ↦ rw x.1 (h a inn) ]
 
   more-led : IsLed M → IsLed (M ++ (node M a ∷ []))
   more-led h c k =
@@ -82,7 +168,7 @@ module _ (M : Layer) (a : ℕ) (inn : a < length M) where
 module _ {S V : Type 0} (by : Setting S V) (self : (s : S) → by.rule.same s s ≡ true) where
   agree-self : (x : Down S V) → agree by.rule x x ≡ true
   unfolding agree
-  agree-self x = rw (eq-eqb x.all x.all refl, eq-eqb x.some x.some refl, eq-eqb x.finish x.finish refl, eq-eqb x.lasts x.lasts refl) (self x.state)
+  agree-self x = grind (arith, nat_tests, self x.state)
 
   odd-one : (x : Down S V) (l : List (Down S V)) → agrees_with_all by.rule x l ≡ false → (y : Down S V) × Among y l × (agree by.rule x y ≡ false)
   unfolding agrees_with_all
@@ -112,17 +198,10 @@ module _ {S V : Type 0} (by : Setting S V) (self : (s : S) → by.rule.same s s 
     h = first_arrival (arrivals_at (arrival_over by) a labs L)
 
     abbrev f : ℕ → ℕ → ℕ → ℕ
-    f u j b = cond (eqb b a && differs_from_first by h (get_or labs u None) j) (suc (length M)) (suc b)
+    f = moved by a labs L (length M)
 
     part-ranged : IsRanged L (length M) → IsRanged (redirect f L) (length (M ++ (node M a ∷ [])))
-    part-ranged g u j c e =
-        let q = redirect-back f L u j c e in
-        let k = g u j q.0 q.1 in
-        go (eqb q.0 a && differs_from_first by h (get_or labs u None) j) q.0 k q.2
-      where
-        go : (t : Bool) (b : ℕ) → b < length M → cond t (suc (length M)) (suc b) ≡ suc c → c < length (M ++ (node M a ∷ []))
-        go true b k e = omega (arith, length-snoc M (node M a))
-        go false b k e = omega (arith, length-snoc M (node M a))
+    part-ranged g u j c e = let q = redirect-back f L u j c e in let k = g u j q.0 q.1 in let z = length-snoc M (node M a) in let y = q.2 in grind (arith, k, y, z)
 
     moves-to : (u j b : ℕ) (q : Bool) → target (node L u) j ≡ suc b → (eqb b a && differs_from_first by h (get_or labs u None) j) ≡ q → target (node (redirect f L) u) j ≡ cond q (suc (length M)) (suc b)
     moves-to u j b q e t = redirect-arc f L u j b e ∙ ap (λ (z : Bool). cond z (suc (length M)) (suc b)) t
@@ -152,11 +231,7 @@ module _ {S V : Type 0} (by : Setting S V) (self : (s : S) → by.rule.same s s 
     part-led : IsLed L → IsLed (redirect f L)
     part-led g u k =
         let s = g u (omega (arith, redirect-length f L)) in
-        go s.0 s.1 s.2 (eqb s.1 a && differs_from_first by h (get_or labs u None) s.0) refl
-      where
-        go : (j b : ℕ) → target (node L u) j ≡ suc b → (q : Bool) → (eqb b a && differs_from_first by h (get_or labs u None) j) ≡ q → (j : ℕ) × (b : ℕ) × (target (node (redirect f L) u) j ≡ suc b)
-        go j b e true t = (j, length M, moves-to u j b true e t)
-        go j b e false t = (j, b, moves-to u j b false e t)
+        (s.0, cond (eqb s.1 a && differs_from_first by h (get_or labs u None) s.0) (length M) s.1, redirect-arc f L u s.0 s.1 s.2 ∙ grind arith)
 
   -- with any labels of the layer before, as they may stand in records
   pub parted-tied : (d a : ℕ) (labs : List (Option (Down S V))) (Ls : Net) → a < length (get_or Ls (suc d) []) → all_agree by.rule (arrivals_at (arrival_over by) a labs (get_or Ls d [])) ≡ false → IsTied Ls → IsTied (parted_arcs by d a labs Ls)
@@ -166,10 +241,7 @@ module _ {S V : Type 0} (by : Setting S V) (self : (s : S) → by.rule.same s s 
   parted-tied zero a labs (L ∷ []) k e t = t
   parted-tied zero a labs (L ∷ M ∷ Ls) k e t =
       (part-ranged a labs L M k e t.0, part-fed a labs L M k e t.1, more-led M a k t.2, more-tied M a k Ls t.3)
-  parted-tied (suc d) a labs (L ∷ []) k e t = absurd (not-suc-le-zero (none-there d a k))
-    where
-      none-there : (d a : ℕ) → a < length {A = Outs} (get_or [] (suc d) []) → a < 0
-      none-there d a k = k
+  parted-tied (suc d) a labs (L ∷ []) k e t = absurd (not-suc-le-zero k)
   parted-tied (suc zero) a labs (L ∷ M ∷ []) k e t = t
   parted-tied (suc zero) a labs (L ∷ M ∷ N ∷ Ls) k e t =
       let rest = parted-tied zero a labs (M ∷ N ∷ Ls) k e t.3 in
@@ -184,37 +256,6 @@ drop-length zero [] h = absurd (not-suc-le-zero h)
 drop-length (suc i) [] h = absurd (not-suc-le-zero h)
 drop-length zero (x ∷ M) h = refl
 drop-length (suc i) (x ∷ M) h = ap suc (drop-length i M (le_of_suc-le-suc h))
-
-pick-back : (s t b : ℕ) → either_target s t ≡ suc b → (s ≡ suc b) ⊎ (t ≡ suc b)
-pick-back zero t b e = inr e
-pick-back (suc s) t b e = inl e
-
-both-back : (x y : Outs) (k b : ℕ) → get_or (both_out x y) k 0 ≡ suc b → (get_or x k 0 ≡ suc b) ⊎ (get_or y k 0 ≡ suc b)
-unfolding both_out
-both-back [] y k b e = inr e
-both-back (s ∷ x) [] k b e = inl e
-both-back (s ∷ x) (t ∷ y) zero b e = pick-back s t b e
-both-back (s ∷ x) (t ∷ y) (suc k) b e = both-back x y k b e
-
-target-back : (x y : Outs) (j b : ℕ) → target (both_out x y) j ≡ suc b → (target x j ≡ suc b) ⊎ (target y j ≡ suc b)
-target-back x y zero b e = inl e
-target-back x y (suc k) b e = both-back x y k b e
-
-moved-below : (lo hi c : ℕ) → c < hi → place_after_join lo hi c ≡ c
-unfolding place_after_join
-moved-below lo hi c h = rw (ne_eqb c hi (omega arith)) (go (ltb hi c) refl)
-  where
-    go : (q : Bool) → ltb hi c ≡ q → cond q (c - 1) c ≡ c
-    go true e = let z = ltb-true hi c e in absurd (omega arith)
-    go false e = refl
-
-moved-above : (lo hi c : ℕ) → hi ≤ c → place_after_join lo hi (suc c) ≡ c
-unfolding place_after_join
-moved-above lo hi c h = rw ((ne_eqb (suc c) hi (omega arith)), (lt-ltb hi (suc c) (omega arith))) (omega arith)
-
-moved_at : (lo hi : ℕ) → place_after_join lo hi hi ≡ lo
-unfolding place_after_join
-moved_at lo hi = ap (λ (q : Bool). cond q lo (cond (ltb hi hi) (hi - 1) hi)) (eq-eqb hi hi refl)
 
 module _ (M : Layer) (lo hi : ℕ) (lt : lo < hi) (inn : hi < length M) (nc : clash (node M lo) (node M hi) ≡ false) where
   abbrev X : Layer
@@ -246,15 +287,12 @@ module _ (M : Layer) (lo hi : ℕ) (lt : lo < hi) (inn : hi < length M) (nc : cl
 
   -- a place of the new layer comes from a place of the old
   from : (c : ℕ) → c < length M' → (b : ℕ) × (b < length M) × (place_after_join lo hi b ≡ c)
-  from c k = elim (cases_lt c hi) [ inl h ↦ (c, omega (arith, long), moved-below lo hi c h) | inr h ↦ (suc c, omega (arith, long), moved-above lo hi c h) ]
+  unfolding place_after_join
+  from c k = elim (cases_lt c hi) [ inl h ↦ (c, omega (arith, long), grind (arith, nat_tests, h)) | inr h ↦ (suc c, omega (arith, long), grind (arith, nat_tests, h)) ]
 
   to : (b : ℕ) → b < length M → place_after_join lo hi b < length M'
-  to b k = go (cases_lt b hi) (cases_eq b hi)
-    where
-      go : (b < hi) ⊎ (hi ≤ b) → (b ≡ hi) ⊎ (¬ (b ≡ hi)) → place_after_join lo hi b < length M'
-      go (inl h) s = omega (arith, long, moved-below lo hi b h)
-      go (inr h) (inl s) = omega (arith, long, ap (place_after_join lo hi) s ∙ moved_at lo hi)
-      go (inr h) (inr s) = let z : suc (b - 1) ≡ b = omega arith in omega (arith, long, ap (place_after_join lo hi) (sym z) ∙ moved-above lo hi (b - 1) (omega arith))
+  unfolding place_after_join
+  to b k = grind (arith, nat_tests, k, long)
 
   join-led : IsLed M → IsLed M'
   join-led h c k = let q = from c k in let s = h q.0 q.1 in

@@ -1,5 +1,5 @@
 -- A label on the way agrees with the beginning that leads to it; so no arc of an allowed order is swept or cut.
-use Rattle.std.proofs.Common.{◌≡◌, ℕ, zero, suc, ◌+◌, ◌<◌, ◌≤◌, Bool, true, false, cond, ◌||◌, ltb, List, [], ◌∷◌, ◌++◌, length, get_or, Some, None, Option, sym, refl, ap, ◌∙◌, subst, inl, inr, le_trans, le_of_suc-le-suc, not-suc-le-zero, arith}
+use Rattle.std.proofs.Common.{◌≡◌, ℕ, zero, suc, ◌+◌, ◌<◌, ◌≤◌, Bool, true, false, cond, ◌||◌, ltb, List, [], ◌∷◌, ◌++◌, length, get_or, Some, None, Option, sym, refl, ap, ◌∙◌, subst, inl, inr, le_trans, arith}
 use lib.Bits.{bit_or}
 use lib.Count.{ones}
 use Rattle.std.proofs.lemmas.Bool.{le-ltb, ne_eqb, false_from_ne_true}
@@ -15,44 +15,31 @@ use Rattle.orders.proofs.Times.{trip-van}
 use Rattle.orders.specs.Allowed.{IsAllowed}
 use Rattle.orders.specs.Costs.{Trip, cost, next_trip, trip_after}
 use Rattle.orders.specs.Times.{van_after}
+use Rattle.layers.specs.Lawful.{IsEven}
 use Rattle.layers.specs.declared.node.Up.{Up}
 use Rattle.layers.specs.Net.{Outs, Layer, Net, node, target, width, PathFrom}
 use Rattle.layers.specs.Flow.{arrivals_at, up}
 use Rattle.layers.specs.Labels.{bit_of, leg, climb, merge_up, no_up, ups, first_label, arrival_over, merge, first_labels, labels_next, is_barred}
-use Rattle.layers.proofs.Flows.{Among, redirect-arc, inside, has-arc, next-at, up_at, tidy-keeps, From, ins-from, next-some, gather-all}
-use Rattle.layers.proofs.Sets.{or_left, or_right, or_split, and_left, and_right, one-self, one_only, none_has, ones_in}
-use Rattle.layers.proofs.Ways.{in_split, in-snd, part-tail, trip-snoc, van-snoc, length-snoc, snoc-assoc, TimelyFrom, timely-from, leg-le, leg-bound}
+use Rattle.layers.proofs.Flows.{EvenLayer, redirect-arc, inside, has-arc, next-at, up_at, tidy-keeps, From, ins-from, next-some, gather-all}
+use Rattle.layers.proofs.Ways.{or_left, or_right, or_split, and_left, and_right, one-self, one_only, none_has, ones_in, in_split, in-snd, part-tail, trip-snoc, van-snoc, length-snoc, snoc-assoc, TimelyFrom, timely-from, leg-le, leg-bound}
 use Rattle.layers.proofs.Model.{sweeps, sweep}
 use Rattle.layers.specs.Settings.{Setting}
 use Rattle.layers.specs.declared.node.Down.{Down}
 use Rattle.layers.specs.Calls.{kept_arcs}
 
--- each node has no more targets than there are doors
-abbrev pub NeatLayer : ℕ → Layer → Type 0
-NeatLayer n L = (nd : Outs) → Among nd L → length nd ≤ n
-
-abbrev pub Neat : ℕ → Net → Type 0
-Neat n [] = Unit {0}
-Neat n (L ∷ Ls) = NeatLayer n L × Neat n Ls
-
--- a finish of fewer than 16 doors and bit_of more
+-- a finish of fewer than 16 doors and one more
 pub within : (k f : ℕ) → k < 16 → f ≤ latest_finish (suc k) → f ≤ latest_finish 16
 within k f h e = omega arith
-
-pub node-among : (L : Layer) (a : ℕ) → a < length L → Among (node L a) L
-node-among [] a h = absurd (not-suc-le-zero h)
-node-among (nd ∷ L) zero h = inl refl
-node-among (nd ∷ L) (suc a) h = inr (node-among L a (le_of_suc-le-suc h))
 
 pub door-at : (ts : Outs) (k b : ℕ) → get_or ts k 0 ≡ suc b → k < length ts
 door-at [] k b e = absurd (omega arith)
 door-at (t ∷ ts) zero b e = omega arith
 door-at (t ∷ ts) (suc k) b e = let h = door-at ts k b e in omega arith
 
-pub neat-door : (r : Round) (L : Layer) → NeatLayer r.n L → (a j b : ℕ) → target (node L a) j ≡ suc b → IsDoor r.n j
-neat-door r L neat a zero b e = absurd (omega arith)
-neat-door r L neat a (suc k) b e =
-    let h = door-at (node L a) k b e in let g = neat (node L a) (node-among L a (has-arc L a (suc k) b e)) in record { low = omega arith; high = omega arith }
+pub even-door : (r : Round) (L : Layer) → EvenLayer r.n L → (a j b : ℕ) → target (node L a) j ≡ suc b → IsDoor r.n j
+even-door r L even a zero b e = absurd (omega arith)
+even-door r L even a (suc k) b e =
+    let h = door-at (node L a) k b e in let g = even a (has-arc L a (suc k) b e) in record { low = omega arith; high = omega arith }
 
 module _ {S V : Type 0} {Keeps : List ℕ → Type 0} {Stands : S → List ℕ → Type 0} {Allows : ℕ → V → Type 0} (by : Setting S V) (ruled : RuleLaws by.round.n by.rule Keeps Stands) (tallied : TallyLaws by.round.n by.tally Allows) where
   -- ---- an order under way
@@ -95,18 +82,10 @@ module _ {S V : Type 0} {Keeps : List ℕ → Type 0} {Stands : S → List ℕ �
   fits-first = record { part = tt; all = λ j h. absurd (none_has j h); some = λ j i. absurd i; finish = omega arith; lasts = refl; state = ruled.start_stands; value = tallied.order_self by.tally.start }
 
   lesser-left : (a b : V) → by.tally.not_above (by.tally.lesser a b) a ≡ true
-  lesser-left a b = rw (tallied.lesser_is a b) (go (by.tally.not_above a b) refl)
-    where
-      go : (q : Bool) → by.tally.not_above a b ≡ q → by.tally.not_above (cond q a b) a ≡ true
-      go true e = tallied.order_self a
-      go false e = tallied.order_total a b e
+  lesser-left a b = rw (tallied.lesser_is a b) (grind (arith, tallied.order_self a, tallied.order_total a b))
 
   lesser-right : (a b : V) → by.tally.not_above (by.tally.lesser a b) b ≡ true
-  lesser-right a b = rw (tallied.lesser_is a b) (go (by.tally.not_above a b) refl)
-    where
-      go : (q : Bool) → by.tally.not_above a b ≡ q → by.tally.not_above (cond q a b) b ≡ true
-      go true e = e
-      go false e = tallied.order_self b
+  lesser-right a b = rw (tallied.lesser_is a b) (grind (arith, tallied.order_self b, tallied.order_total a b))
 
   unfoldable pub Less : Down S V → Down S V → Type 0
   Less x y = (p : List ℕ) → Fits x p → Fits y p
@@ -174,7 +153,7 @@ module _ {S V : Type 0} {Keeps : List ℕ → Type 0} {Stands : S → List ℕ �
             k d g dl early (within (length p) _ k s) fine t.fine f.value);
       }
 
-  -- ---- every label's value is bit_of that the by.tally allows
+  -- ---- every label's value is one that the tally allows
   unfoldable pub Good : ℕ → List (Option (Down S V)) → Type 0
   Good k labs = (a : ℕ) (l : Down S V) → get_or labs a None ≡ Some l → (Allows k l.value) × (l.finish ≤ latest_finish k)
 
@@ -184,15 +163,11 @@ module _ {S V : Type 0} {Keeps : List ℕ → Type 0} {Stands : S → List ℕ �
   good-first (suc a) l e = absurd cc
 
   lesser-fine : (k : ℕ) (a b : V) → Allows k a → Allows k b → Allows k (by.tally.lesser a b)
-  lesser-fine k a b x y = rw (tallied.lesser_is a b) (go (by.tally.not_above a b))
-    where
-      go : (q : Bool) → Allows k (cond q a b)
-      go true = x
-      go false = y
+  lesser-fine k a b x y = rw (tallied.lesser_is a b) (grind (arith, x, y))
 
-  pub good-next : (k : ℕ) (labs : List (Option (Down S V))) (L : Layer) (count : ℕ) → k < 16 → Good k labs → NeatLayer by.round.n L → Good (suc k) (labels_next by labs L count)
+  pub good-next : (k : ℕ) (labs : List (Option (Down S V))) (L : Layer) (count : ℕ) → k < 16 → Good k labs → EvenLayer by.round.n L → Good (suc k) (labels_next by labs L count)
   unfolding Good labels_next arrival_over merge
-  good-next k labs L count h good neat b m e =
+  good-next k labs L count h good even b m e =
       gather-all (merge by.rule by.tally) (λ x. (Allows (suc k) x.value) × (x.finish ≤ latest_finish (suc k)))
       (λ x y p q. (lesser-fine (suc k) x.value y.value p.0 q.0, omega arith))
       (arrivals_at (arrival_over by) b labs L) m
@@ -201,7 +176,7 @@ module _ {S V : Type 0} {Keeps : List ℕ → Type 0} {Stands : S → List ℕ �
     where
       each : (x : Down S V) → From (arrival_over by) b labs L x → (Allows (suc k) x.value) × (x.finish ≤ latest_finish (suc k))
       each x f =
-          let d = neat-door by.round L neat f.source f.door b f.arc in
+          let d = even-door by.round L even f.source f.door b f.arc in
           let g = good f.source f.label f.labelled in
           let lb = leg-bound by.round f.label.lasts f.door in
           let fin = finish by.round f.label.finish (leg by.round f.label.lasts f.door) f.door in
@@ -286,12 +261,12 @@ module _ {S V : Type 0} {Keeps : List ℕ → Type 0} {Stands : S → List ℕ �
       closing = rw (← (sym (van-snoc by.round p j) ∙ sym (trip-van by.round by.tally (p ++ (j ∷ []))))) g.timely.0
 
   pub sweeps-keep : (p w : List ℕ) (labs : List (Option (Down S V))) (Ls : Net) (a : ℕ) → Going by ruled tallied p w → Told by ruled tallied p → At by ruled tallied labs a p
-      → Good by ruled tallied (length p) labs → Neat by.round.n Ls → PathFrom Ls a w → PathFrom (sweeps by (length p) labs Ls) a w
+      → Good by ruled tallied (length p) labs → IsEven by.round.n Ls → PathFrom Ls a w → PathFrom (sweeps by (length p) labs Ls) a w
   unfolding kept_arcs At
-  sweeps-keep p [] labs [] a g t at good neat q = q
-  sweeps-keep p (j ∷ w) labs [] a g t at good neat q = absurd q
-  sweeps-keep p [] labs (L ∷ Ls) a g t at good neat q = absurd q
-  sweeps-keep p (j ∷ w) labs (L ∷ Ls) a g t at good neat q =
+  sweeps-keep p [] labs [] a g t at good even q = q
+  sweeps-keep p (j ∷ w) labs [] a g t at good even q = absurd q
+  sweeps-keep p [] labs (L ∷ Ls) a g t at good even q = absurd q
+  sweeps-keep p (j ∷ w) labs (L ∷ Ls) a g t at good even q =
       let b = q.0 in
       let facts = going-facts p w j g in
       let x = path-up Ls b w q.2 in
@@ -300,10 +275,10 @@ module _ {S V : Type 0} {Keeps : List ℕ → Type 0} {Stands : S → List ℕ �
       let nb' : is_barred by.round by.rule (length p) (suc (length Ls)) j (get_or labs a None) (get_or (ups Ls) b None) ≡ false =
       rw (at.1, x.1, ← path-length Ls b w q.2) nb in
       let next' = at_next by ruled tallied labs L (width Ls) a j b p q.1 (inside Ls b w q.2) at t good facts.0 facts.2 facts.1 in
-      let good' = good-next by ruled tallied (length p) labs L (width Ls) facts.2 good neat.0 in
+      let good' = good-next by ruled tallied (length p) labs L (width Ls) facts.2 good even.0 in
       let rest = sweeps-keep (p ++ (j ∷ [])) w (labels_next by labs L (width Ls)) Ls b (going_next by ruled tallied p w j g)
       (told-next by ruled tallied p j t facts.0 facts.2 facts.1) next'
-      (rw (length-snoc p j) good') neat.1 q.2 in (
+      (rw (length-snoc p j) good') even.1 q.2 in (
         b,
         redirect-arc (λ a j b. cond (is_barred by.round by.rule (length p) (suc (length Ls)) j (get_or labs a None) (get_or (ups Ls) b None)) 0 (suc b)) L a j b q.1 ∙ ap (λ (z : Bool). cond z 0 (suc b)) nb',
         rw (← (length-snoc p j)) rest,
@@ -313,7 +288,7 @@ module _ {S V : Type 0} {Keeps : List ℕ → Type 0} {Stands : S → List ℕ �
   pub setting-out : (w : List ℕ) → IsAllowed by.round Keeps w → Going by ruled tallied [] w
   setting-out w o = record { part = o.part; keeps = o.keeps; timely = timely-from by.round [] w o.timely; total = omega (arith, o.whole) }
 
-  pub sweep-keeps : (w : List ℕ) (Ls : Net) → IsAllowed by.round Keeps w → Neat by.round.n Ls → PathFrom Ls 0 w → PathFrom (sweep by Ls) 0 w
+  pub sweep-keeps : (w : List ℕ) (Ls : Net) → IsAllowed by.round Keeps w → IsEven by.round.n Ls → PathFrom Ls 0 w → PathFrom (sweep by Ls) 0 w
   unfolding sweep
-  sweep-keeps w Ls o neat q = tidy-keeps (sweeps by 0 (first_labels by.rule by.tally) Ls) w
-      (sweeps-keep [] w (first_labels by.rule by.tally) Ls 0 (setting-out w o) (told_none by ruled tallied) (at_first by ruled tallied) (good-first by ruled tallied) neat q)
+  sweep-keeps w Ls o even q = tidy-keeps (sweeps by 0 (first_labels by.rule by.tally) Ls) w
+      (sweeps-keep [] w (first_labels by.rule by.tally) Ls 0 (setting-out w o) (told_none by ruled tallied) (at_first by ruled tallied) (good-first by ruled tallied) even q)

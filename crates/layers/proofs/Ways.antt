@@ -1,7 +1,8 @@
--- Part orders and their beginnings, the van on its way, and legs.
-use Rattle.std.proofs.Common.{◌≡◌, ℕ, zero, suc, ◌+◌, ◌<◌, ◌≤◌, min, Bool, true, false, cond, not, ◌&&◌, eqb, ◌⊎◌, List, [], ◌∷◌, ◌++◌, length, Some, None, fold, Option, unwrap_or, sym, refl, ap, ◌∙◌, subst, inl, inr, append_assoc, arith, length-append}
+-- Sets of doors by the test `has`; part orders and their beginnings, the van on its way, and legs.
+use Rattle.std.proofs.lemmas.Bool.Decides.{nat_tests}
+use Rattle.std.proofs.Common.{◌≡◌, ℕ, zero, suc, ◌+◌, ◌<◌, ◌≤◌, true, false, eqb, ◌⊎◌, List, [], ◌∷◌, ◌++◌, length, Some, None, fold, Option, unwrap_or, refl, ap, subst, inl, inr, append_assoc, arith, length-append, ⊎_elim}
 use Rattle.std.proofs.lemmas.List.Sums.{fold_push}
-use Rattle.std.proofs.lemmas.Bool.{eqb-true, eqb-false, and_parts}
+use Rattle.std.proofs.lemmas.Bool.{cases_eq}
 use Rattle.std.specs.List.{range_with_len}
 use Rattle.doors.specs.Orders.{StandsIn, IsPartOrder}
 use Rattle.doors.specs.Sets.{has}
@@ -12,8 +13,37 @@ use Rattle.tallies.specs.Tallies.{TallySense}
 use Rattle.orders.specs.Costs.{next_trip, trip_after}
 use Rattle.orders.specs.Times.{yard, next_van, van_after, KeepsHours}
 use Rattle.orders.specs.declared.van.Van.{Van}
-use Rattle.layers.specs.Labels.{bit_of, nearest, leg_step, leg}
-use Rattle.layers.proofs.Sets.{one-self, one_only}
+use Rattle.layers.specs.Labels.{bit_of, leg_step, leg}
+use lib.Bits.{bit_and, bit_or}
+use lib.Count.{ones}
+use Rattle.doors.proofs.Sets.{digit_and, digit-one, digit-other, has-none, has_left, has_right, has_either, has-true, true-has, length-within}
+
+pub or_left : (a b j : ℕ) → has a j ≡ true → has (bit_or a b) j ≡ true
+or_left a b j e = true-has (bit_or a b) j (has_left a b j (has-true a j e))
+
+pub or_right : (a b j : ℕ) → has b j ≡ true → has (bit_or a b) j ≡ true
+or_right a b j e = true-has (bit_or a b) j (has_right a b j (has-true b j e))
+
+pub or_split : (a b j : ℕ) → has (bit_or a b) j ≡ true → (has a j ≡ true) ⊎ (has b j ≡ true)
+or_split a b j e = ⊎_elim (λ h. inl (true-has a j h)) (λ h. inr (true-has b j h)) (has_either a b j (has-true (bit_or a b) j e))
+
+pub and_left : (a b j : ℕ) → has (bit_and a b) j ≡ true → has a j ≡ true
+and_left a b j e = true-has a j (omega (arith, digit_and a b j, has-true (bit_and a b) j e))
+
+pub and_right : (a b j : ℕ) → has (bit_and a b) j ≡ true → has b j ≡ true
+and_right a b j e = true-has b j (omega (arith, digit_and a b j, has-true (bit_and a b) j e))
+
+pub none_has : (j : ℕ) → has 0 j ≡ true → ⊥
+none_has j e = has-none j (has-true 0 j e)
+
+pub one-self : (j : ℕ) → has (bit_of j) j ≡ true
+one-self j = true-has (bit_of j) j (digit-one j)
+
+pub one_only : (k j : ℕ) → has (bit_of k) j ≡ true → j ≡ k
+one_only k j e = ⊎_elim (λ h. h) (λ n. absurd (omega (arith, digit-other k j n, has-true (bit_of k) j e))) (cases_eq j k)
+
+pub ones_in : (n m : ℕ) (w : List ℕ) → IsPartOrder n w → ((j : ℕ) → StandsIn j w → has m j ≡ true) → length w ≤ ones m
+ones_in n m w p h = length-within n m w p (λ j i. has-true m j (h j i))
 
 -- ---- lists of doors
 pub in_split : (j : ℕ) (u v : List ℕ) → StandsIn j (u ++ v) → StandsIn j u ⊎ StandsIn j v
@@ -39,7 +69,7 @@ length-snoc p j = omega (arith, length-append p (j ∷ []))
 pub snoc-assoc : (p w : List ℕ) (j : ℕ) → (p ++ (j ∷ [])) ++ w ≡ p ++ (j ∷ w)
 snoc-assoc p w j = append_assoc p (j ∷ []) w
 
--- ---- bit_of door more
+-- ---- one door more
 pub trip-snoc : {V : Type 0} (r : Round) (tally : TallySense V) (p : List ℕ) (j : ℕ) → trip_after r tally (p ++ (j ∷ [])) ≡ next_trip r tally (trip_after r tally p) j
 trip-snoc r tally p j = fold_push (next_trip r tally) (record { van = yard; cost = tally.start }) p j
 
@@ -62,9 +92,6 @@ timely-from r p (j ∷ w) h = (
 )
 
 -- ---- legs
-abbrev nearest_if : Bool → Option ℕ → ℕ → Option ℕ
-nearest_if q o d = cond q (nearest o d) o
-
 abbrev or_zero : Option ℕ → ℕ
 or_zero o = unwrap_or o 0
 
@@ -72,52 +99,27 @@ or_zero o = unwrap_or o 0
 abbrev legs : Round → ℕ → ℕ → ℕ → ℕ → Option ℕ → Option ℕ
 legs r m j k i o = fold (leg_step r m j) o (range_with_len i k)
 
-near-some : (q : Bool) (d x d₀ : ℕ) → d ≤ d₀ → (e : ℕ) × (nearest_if q (Some d) x ≡ Some e) × (e ≤ d₀)
-near-some true d x d₀ h = (min d x, refl, omega arith)
-near-some false d x d₀ h = (d, refl, h)
-
-near : (o : Option ℕ) (d : ℕ) → (e : ℕ) × (nearest o d ≡ Some e) × (e ≤ d)
-near None d = (d, refl, omega arith)
-near (Some e) d = (min e d, refl, omega arith)
-
 module _ (r : Round) (m j : ℕ) where
   legs-below : (k i d d₀ : ℕ) → d ≤ d₀ → or_zero (legs r m j k i (Some d)) ≤ d₀
   unfolding leg_step
   legs-below zero i d d₀ h = h
-  legs-below (suc k) i d d₀ h =
-      let q = near-some (has m i && not (eqb i j)) d (drive r i j) d₀ h in
-      subst (λ (o : Option ℕ). or_zero (legs r m j k (i + 1) o) ≤ d₀) (sym q.1) (legs-below k (i + 1) q.0 d₀ q.2)
+  legs-below (suc k) i d d₀ h = grind (arith, nat_tests, h, legs-below k (i + 1))
 
   legs-le : (k i t : ℕ) (o : Option ℕ) → i ≤ t → t < i + k → has m t ≡ true → eqb t j ≡ false → or_zero (legs r m j k i o) ≤ drive r t j
   unfolding leg_step
   legs-le zero i t o a b h g = absurd (omega arith)
-  legs-le (suc k) i t o a b h g = go (eqb i t) refl (λ c. legs-le k (i + 1) t (nearest_if (has m i && not (eqb i j)) o (drive r i j)) c (omega arith) h g)
-    where
-      go : (q : Bool) → eqb i t ≡ q → (i + 1 ≤ t → or_zero (legs r m j k (i + 1) (nearest_if (has m i && not (eqb i j)) o (drive r i j))) ≤ drive r t j)
-          → or_zero (legs r m j k (i + 1) (nearest_if (has m i && not (eqb i j)) o (drive r i j))) ≤ drive r t j
-      go true e f =
-          let s : i ≡ t = eqb-true i t e in
-          let x : (has m i && not (eqb i j)) ≡ true = rw (s, h, g) refl in
-          let y = near o (drive r i j) in
-          rw (x, y.1) (legs-below k (i + 1) y.0 (drive r t j) (rw (← s) y.2))
-      go false e f = f (differ i t a e)
-        where
-          differ : (x y : ℕ) → x ≤ y → eqb x y ≡ false → x + 1 ≤ y
-          differ x y l ne = omega (arith, eqb-false x y ne)
+  legs-le (suc k) i t None a b h g = grind (arith, nat_tests, h, g, legs-le k (i + 1) t, legs-below k (i + 1))
+  legs-le (suc k) i t (Some d) a b h g = grind (arith, nat_tests, h, g, legs-le k (i + 1) t, legs-below k (i + 1))
 
   pub leg-le : (t : ℕ) → t ≤ r.n → has m t ≡ true → eqb t j ≡ false → leg r m j ≤ drive r t j
   unfolding leg
   leg-le t h a b = legs-le (r.n + 1) 0 t None (omega arith) (omega arith) a b
 
-  near-bound : (q : Bool) (o : Option ℕ) (d : ℕ) → or_zero o ≤ 999 → d ≤ 999 → or_zero (nearest_if q o d) ≤ 999
-  near-bound true None d a b = b
-  near-bound true (Some e) d a b = omega arith
-  near-bound false o d a b = a
-
   legs-bound : (k i : ℕ) (o : Option ℕ) → or_zero o ≤ 999 → or_zero (legs r m j k i o) ≤ 999
   unfolding leg_step
   legs-bound zero i o h = h
-  legs-bound (suc k) i o h = legs-bound k (i + 1) (nearest_if (has m i && not (eqb i j)) o (drive r i j)) (near-bound (has m i && not (eqb i j)) o (drive r i j) h (r.legs i j))
+  legs-bound (suc k) i None h = grind (arith, nat_tests, r.legs i j, legs-bound k (i + 1))
+  legs-bound (suc k) i (Some d) h = grind (arith, nat_tests, r.legs i j, legs-bound k (i + 1))
 
   pub leg-bound : leg r m j ≤ 999
   unfolding leg
@@ -125,34 +127,15 @@ module _ (r : Round) (m j : ℕ) where
 
 -- from a single last place
 module _ (r : Round) (t j : ℕ) where
-  near-stay : (q : Bool) (i : ℕ) → (q ≡ true → i ≡ t) → nearest_if q (Some (drive r t j)) (drive r i j) ≡ Some (drive r t j)
-  near-stay true i f = let e = f refl in ap (λ (x : ℕ). Some x) (let y : drive r i j ≡ drive r t j = ap (λ (z : ℕ). drive r z j) e in omega arith)
-  near-stay false i f = refl
-
   legs-stay : (k i : ℕ) → legs r (bit_of t) j k i (Some (drive r t j)) ≡ Some (drive r t j)
   unfolding leg_step
   legs-stay zero i = refl
-  legs-stay (suc k) i =
-      ap (legs r (bit_of t) j k (i + 1)) (near-stay (has (bit_of t) i && not (eqb i j)) i (λ e. one_only t i (and_parts (has (bit_of t) i) (not (eqb i j)) e).0)) ∙ legs-stay k (i + 1)
+  legs-stay (suc k) i = grind (arith, nat_tests, one_only t i, legs-stay k (i + 1))
 
   legs_one : (k i : ℕ) → i ≤ t → t < i + k → eqb t j ≡ false → legs r (bit_of t) j k i None ≡ Some (drive r t j)
   unfolding leg_step
   legs_one zero i a b g = absurd (omega arith)
-  legs_one (suc k) i a b g = go (eqb i t) refl (λ c. legs_one k (i + 1) c (omega arith) g)
-    where
-      go : (q : Bool) → eqb i t ≡ q → (i + 1 ≤ t → legs r (bit_of t) j k (i + 1) None ≡ Some (drive r t j))
-          → legs r (bit_of t) j k (i + 1) (nearest_if (has (bit_of t) i && not (eqb i j)) None (drive r i j)) ≡ Some (drive r t j)
-      go true e f =
-          let s : i ≡ t = eqb-true i t e in
-          let x : (has (bit_of t) i && not (eqb i j)) ≡ true = rw (s, one-self t, g) refl in
-          ap (λ (b : Bool). legs r (bit_of t) j k (i + 1) (nearest_if b None (drive r i j))) x ∙ ap (λ (y : ℕ). legs r (bit_of t) j k (i + 1) (Some (drive r y j))) s ∙ legs-stay k (i + 1)
-      go false e f =
-          let x : (has (bit_of t) i && not (eqb i j)) ≡ false = off (has (bit_of t) i) refl in
-          rw x (f (omega (arith, eqb-false i t e)))
-        where
-          off : (q : Bool) → has (bit_of t) i ≡ q → (q && not (eqb i j)) ≡ false
-          off true h = absurd (eqb-false i t e (one_only t i h))
-          off false h = refl
+  legs_one (suc k) i a b g = grind (arith, nat_tests, a, b, g, one_only t i, one-self t, legs-stay k (i + 1), legs_one k (i + 1))
 
   pub leg-one : t ≤ r.n → eqb t j ≡ false → leg r (bit_of t) j ≡ drive r t j
   unfolding leg

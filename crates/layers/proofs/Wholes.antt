@@ -1,6 +1,7 @@
--- Refine that answers whole leaves a settled diagram: each layer that it has parted through has keys, and keeps them while later layers are swept and parted.
-use Rattle.std.proofs.Common.{◌≡◌, ℕ, zero, suc, ◌+◌, ◌-◌, ◌*◌, ◌<◌, ◌≤◌, Bool, true, false, cond, ◌&&◌, eqb, leb, ◌⊎◌, List, [], ◌∷◌, length, get_or, drop, Some, None, Option, sym, refl, ap, ◌∙◌, subst, inl, inr, not-suc-le-zero, arith}
-use Rattle.std.proofs.lemmas.Bool.{true≢false, not-false, leb-true, leb-false, eqb-true, eqb-false, eq-eqb, cases_eq}
+-- Refine that answers whole leaves a settled diagram: each layer that it has parted through has keys, and keeps them while later layers are swept and parted. Its last sweep leaves nothing to sweep.
+use Rattle.std.proofs.lemmas.Bool.Decides.{nat_tests}
+use Rattle.std.proofs.Common.{◌≡◌, ℕ, zero, suc, ◌+◌, ◌-◌, ◌<◌, ◌≤◌, Bool, true, false, eqb, leb, ltb, ◌⊎◌, List, [], ◌∷◌, length, get_or, Some, None, Option, sym, refl, ap, ◌∙◌, subst, inl, inr, not-suc-le-zero, arith}
+use Rattle.std.proofs.lemmas.Bool.{true≢false, leb-false, ltb-true, ltb-false, eqb-true, eqb-false, cases_eq, cond_both}
 use Rattle.rules.specs.Rules.{RuleLaws, RuleSense}
 use Rattle.tallies.specs.Tallies.{TallySense}
 use Rattle.layers.specs.declared.node.Node.{Node}
@@ -8,20 +9,18 @@ use Rattle.layers.specs.declared.refined.Refined.{Refined}
 use Rattle.layers.specs.declared.refined.Refined.TheVariants.{Whole, Full}
 use Rattle.layers.specs.Net.{Layer, Net, node, target, width, redirect, count_arcs}
 use Rattle.layers.specs.Flow.{arrivals_at}
-use Rattle.layers.specs.Lawful.{IsTied, IsRoomy}
-use Rattle.layers.specs.Labels.{first_label, first_labels, arrival_over, merge, labels_next, agree, all_agree, first_arrival, differs_from_first, opening_arcs}
-use Rattle.layers.specs.declared.call.Call.TheVariants.{Refine}
-use Rattle.layers.specs.Calls.{refinement, is_settled, parted_arcs}
+use Rattle.layers.specs.Lawful.{IsLawful, IsRoomy, IsTied}
+use Rattle.layers.specs.Labels.{first_label, first_labels, arrival_over, merge, labels_next, agree, all_agree, first_arrival}
+use Rattle.layers.specs.Calls.{arcs, parted_arcs, after_sweep, sweep_answer, count_of, one_group as oneGroupIn, parted_records, parts_of_layer, refinement_from, after_sweeps, refinement, after_open, after_calls, is_settled}
+use Rattle.layers.specs.SweepLaws.{RefineSweepsOutAlways}
 use Rattle.layers.specs.Claim.{WholeSettlesAlways}
-use Rattle.layers.proofs.Flows.{Among, From, has-arc, ins-in, ins-from, next-some, next-at, gather-all}
-use Rattle.layers.proofs.Model.{sweep, part_at, one_group, count, swept, parted, refines, refine, act, after, settled as settled_of, or_blank}
-use Rattle.layers.proofs.Keeping.{either}
-use Rattle.layers.proofs.Counts.{sweep-fewer, settled-yes, settled-if}
+use Rattle.layers.proofs.Flows.{Among, has-arc, ins-in, ins-from, next-some, next-at, gather-all}
+use Rattle.layers.proofs.Model.{sweep, part_at, one_group, or_blank, moved}
+use Rattle.layers.proofs.Counts.{sweep-fewer, sweep-same, settled-if}
 use Rattle.layers.proofs.Tied.{redirect-back, redirect-length}
-use Rattle.layers.proofs.Lively.{labels_full}
-use Rattle.layers.proofs.Proper.{Proper, proper-opened, proper-sweep, proper-part, proper-after, proper-parted, proper-refines}
-use Rattle.layers.proofs.Standing.{settled-X, refined-X, run-opened}
-use Rattle.layers.proofs.Agreeing.{Agree, agree-self, agree-yes, agree-back, agree-merge, agree-arrive, pairs, by-pairs}
+use Rattle.layers.proofs.Bridge.{labels_full}
+use Rattle.layers.proofs.Standing.{answer-X, settled-X, Reached, arcs-of, reached-sweep, count-of, group-of, reached-part, layers-refined, plain, after_end, run-reached}
+use Rattle.layers.proofs.Exact.{Agree, agree-self, agree-yes, agree-back, agree-merge, agree-arrive, pairs, by-pairs}
 use Rattle.layers.proofs.Keys.{Keyed, KeyedTo, keyed-sweep, keyed-part, Fit, fit-first, fit_next, keyed-agrees}
 use Rattle.layers.specs.Settings.{Setting, setting}
 use Rattle.layers.specs.declared.node.Down.{Down}
@@ -30,6 +29,19 @@ roomy-at : (W i : ℕ) (Ls : Net) → IsRoomy W Ls → length (get_or Ls i []) �
 roomy-at W i [] h = omega arith
 roomy-at W zero (L ∷ Ls) h = h.0
 roomy-at W (suc i) (L ∷ Ls) h = roomy-at W i Ls h.1
+
+-- sweeps until one answers 0 leave what a further sweep leaves as it is: each before it takes out an arc, so there are enough of them
+swept-quiet : {S V : Type 0} (by : Setting S V) (w : 1 ≤ by.width) (later : List (Node S V)) (P : Net → Type 0) → ((Ls : Net) → IsLawful by.round.n by.width Ls → P Ls → P (sweep by Ls))
+    → (k : ℕ) (xs : List (Node S V)) (r : Reached by w later P xs) → count_arcs r.net < k → Reached by w later (λ Ls. P Ls × (sweep by Ls ≡ Ls)) (after_sweeps by k xs)
+unfolding after_sweeps
+swept-quiet by w later P keep zero xs r h = absurd (not-suc-le-zero h)
+swept-quiet by w later P keep (suc k) xs r h =
+    let q = reached-sweep by w later P xs r (keep r.net r.well r.holds) in
+    let m = ap (sweep_answer by) r.is ∙ answer-X by w later r.net r.well in
+    let f = sweep-fewer by r.net in
+    cond_both (eqb (sweep_answer by xs) 0) (after_sweep by xs) (after_sweeps by k (after_sweep by xs)) (Reached by w later (λ Ls. P Ls × (sweep by Ls ≡ Ls)))
+    (λ e. record { net = q.net; well = q.well; is = q.is; holds = (q.holds, ap (sweep by) (sweep-same by r.net r.well.one_first r.well.tied (omega (arith, eqb-true (sweep_answer by xs) 0 e)))) })
+    (λ e. swept-quiet by w later P keep k (after_sweep by xs) q (omega (arith, eqb-false (sweep_answer by xs) 0 e)))
 
 module _ {S V : Type 0} {Keeps : List ℕ → Type 0} {Stands : S → List ℕ → Type 0} (by : Setting S V) (ruled : RuleLaws by.round.n by.rule Keeps Stands) where
   part-width : (d a : ℕ) (labs : List (Option (Down S V))) (Ls : Net) → width (part_at by d a labs Ls) ≡ width Ls
@@ -49,7 +61,7 @@ module _ {S V : Type 0} {Keeps : List ℕ → Type 0} {Stands : S → List ℕ �
     h = first_arrival (arrivals a L)
 
     abbrev f : ℕ → ℕ → ℕ → ℕ
-    f u j b = cond (eqb b a && differs_from_first by h (get_or labs u None) j) (suc (length M)) (suc b)
+    f = moved by a labs L (length M)
 
     -- an arrival at an old node was there before, and did not leave
     record Was (b : ℕ) (y : Down S V) : Type 0 where
@@ -60,18 +72,13 @@ module _ {S V : Type 0} {Keeps : List ℕ → Type 0} {Stands : S → List ℕ �
     was b y k i =
         let w = ins-from (arrival_over by) b labs (redirect f L) y i in
         let s = redirect-back f L w.source w.door b w.arc in
-        go w s.0 s.1 (eqb s.0 a && differs_from_first by h (get_or labs w.source None) w.door) refl s.2
-      where
-        go : (w : From (arrival_over by) b labs (redirect f L) y) (c : ℕ) → target (node L w.source) w.door ≡ suc c → (q : Bool) → (eqb c a && differs_from_first by h (get_or labs w.source None) w.door) ≡ q
-            → cond q (suc (length M)) (suc c) ≡ suc b → Was b y
-        go w c e true t g = absurd (omega arith)
-        go w c e false t g =
-            let z : c ≡ b = omega arith in record {
-              here = rw w.is (ins-in (arrival_over by) (merge by.rule by.tally) b labs L w.source w.door w.label (e ∙ ap suc z) w.labelled);
-              stays = λ n x m. not-false (agree by.rule x y)
-                  (rw w.is (sym (rw (eq-eqb c a (z ∙ n), m, w.labelled) refl)
-                  ∙ t));
-            }
+        let t = s.2 in
+        let z : s.0 ≡ b = grind (arith, nat_tests, t, k) in
+        let m = w.labelled in
+        let y = w.is in record {
+          here = rw y (ins-in (arrival_over by) (merge by.rule by.tally) b labs L w.source w.door w.label (s.1 ∙ ap suc z) m);
+          stays = λ n x e. grind (arith, nat_tests, t, z, n, e, m, y);
+        }
 
     head_of : (l : List (Down S V)) (y : Down S V) → Among y l → (x : Down S V) × (first_arrival l ≡ Some x)
     head_of [] y i = absurd i
@@ -88,9 +95,9 @@ module _ {S V : Type 0} {Keeps : List ℕ → Type 0} {Stands : S → List ℕ �
 
   part-groups : (d a : ℕ) (labs : List (Option (Down S V))) (Ls : Net) → a < length (get_or Ls (suc d) []) → ((b : ℕ) → b < a → one_group by d b labs Ls ≡ true)
       → (b : ℕ) → b < suc a → one_group by d b labs (part_at by d a labs Ls) ≡ true
-  unfolding parted_arcs one_group
-  part-groups zero a labs [] k g b h = refl
-  part-groups (suc d) a labs [] k g b h = refl
+  unfolding parted_arcs
+  part-groups zero a labs [] k g b h = absurd (not-suc-le-zero k)
+  part-groups (suc d) a labs [] k g b h = absurd (not-suc-le-zero k)
   part-groups zero a labs (L ∷ []) k g b h = absurd (not-suc-le-zero k)
   part-groups zero a labs (L ∷ M ∷ Ls) k g b h = group-stays a labs L M k g b h
   part-groups (suc d) a labs (L ∷ Ls) k g b h =
@@ -102,7 +109,7 @@ module _ {S V : Type 0} {Keeps : List ℕ → Type 0} {Stands : S → List ℕ �
     keyed-more : (d : ℕ) (K : ℕ → Down S V) (labs : List (Option (Down S V))) (Ls : Net) → IsTied Ls → Fit by ruled labs K
         → ((a : ℕ) → a < width Ls → (l : Down S V) × (get_or labs a None ≡ Some l)) → Keyed by ruled d K Ls
         → ((b : ℕ) → b < length (get_or Ls (suc d) []) → one_group by d b labs Ls ≡ true) → Keyed by ruled (suc d) K Ls
-    unfolding one_group labels_next
+    unfolding labels_next
     keyed-more d K labs [] t fit full k g = tt
     keyed-more d K labs (L ∷ []) t fit full k g = tt
     keyed-more zero K labs (L ∷ M ∷ Ls) t fit full k g = (K', on, tt)
@@ -131,78 +138,77 @@ module _ {S V : Type 0} {Keeps : List ℕ → Type 0} {Stands : S → List ℕ �
     filled Ls e zero h = (first_label by.rule by.tally, refl)
     filled Ls e (suc a) h = absurd (omega arith)
 
-    -- all nodes of layer d + 1 looked at
-    through : (d : ℕ) (Ls : Net) → Proper by.round.n by.width Ls → KeyedTo by ruled d Ls → ((b : ℕ) → b < length (get_or Ls (suc d) []) → one_group by d b (first_labels by.rule by.tally) Ls ≡ true) → KeyedTo by ruled (suc d) Ls
-    through d Ls p k g = keyed-more d (λ a. first_label by.rule by.tally) (first_labels by.rule by.tally) Ls p.tied (fit-first by ruled) (filled Ls p.one_first) k g
-
     one_more : (P : ℕ → Type 0) (a : ℕ) → ((b : ℕ) → b < a → P b) → P a → (b : ℕ) → b < suc a → P b
     one_more P a g e b h = elim (cases_eq b a) [ inl n ↦ rw n e | inr n ↦ g b (omega arith) ]
 
-    -- a layer is parted without being found full: k nodes more, from the one at place a on
-    parted-keyed : (k d a : ℕ) (Ls : Net) → by.width ≤ a + k → Proper by.round.n by.width Ls → KeyedTo by ruled d Ls → ((b : ℕ) → b < a → one_group by d b (first_labels by.rule by.tally) Ls ≡ true)
-        → (parted by k (suc d) a Ls).0 ≡ false → KeyedTo by ruled (suc d) (parted by k (suc d) a Ls).1
-    unfolding parted
-    parted-keyed zero d a Ls u p q g = λ e. through d Ls p q (λ b h. g b (omega (arith, roomy-at by.width (suc d) Ls p.roomy)))
-    parted-keyed (suc k) d a Ls u p q g =
-        either Done (leb (count by (suc d) Ls) a) (false, Ls) _ (λ x e. through d Ls p q (λ b h. g b (omega (arith, leb-true (count by (suc d) Ls) a x)))) (λ x.
-        either Done (one_group by (suc d - 1) a (first_labels by.rule by.tally) Ls) (parted by k (suc d) (suc a) Ls) _ (λ y. parted-keyed k d (suc a) Ls (omega arith) p q (one_more (λ b. one_group by d b (first_labels by.rule by.tally) Ls ≡ true) a g (group true y))) (λ y.
-        either Done (leb by.width (count by (suc d) Ls)) (true, Ls) (parted by k (suc d) (suc a) (P (suc d - 1))) (λ z e. absurd (true≢false e)) (λ z.
-        let inn = leb-false (count by (suc d) Ls) a x in
-        rw less (parted-keyed k d (suc a) (P d) (omega arith) (proper-part by ruled.same_self w d a Ls inn (leb-false by.width (count by (suc d) Ls) z) (group false y) p) (keyed-part by ruled d d a Ls p.tied q) (part-groups d a (first_labels by.rule by.tally) Ls inn g)))))
-      where
-        P : ℕ → Net
-        P m = part_at by m a (first_labels by.rule by.tally) Ls
+    module _ (later : List (Node S V)) where
+      -- records of arcs that have keys up to layer d
+      abbrev R : ℕ → List (Node S V) → Type 0
+      R d = Reached by w later (KeyedTo by ruled d)
 
-        Done : Bool × Net → Type 0
-        Done z = z.0 ≡ false → KeyedTo by ruled (suc d) z.1
+      -- all nodes of layer d + 1 looked at
+      done : (d : ℕ) (xs : List (Node S V)) (r : R d xs) → ((b : ℕ) → b < length (get_or r.net (suc d) []) → one_group by d b (first_labels by.rule by.tally) r.net ≡ true) → R (suc d) xs
+      done d xs r g = record {
+        net = r.net;
+        well = r.well;
+        is = r.is;
+        holds = keyed-more d (λ a. first_label by.rule by.tally) (first_labels by.rule by.tally) r.net r.well.tied (fit-first by ruled) (filled r.net r.well.one_first) r.holds g;
+      }
 
-        less : suc d - 1 ≡ d
-        less = omega arith
+      -- a layer is parted without being found full: k nodes more, from the one at place a on
+      parted-keyed : (k d a : ℕ) (xs : List (Node S V)) → by.width ≤ a + k → suc d < by.round.n → (r : R d xs) → ((b : ℕ) → b < a → one_group by d b (first_labels by.rule by.tally) r.net ≡ true)
+          → (parts_of_layer by k (suc d) (suc a) xs).0 ≡ false → R (suc d) (parts_of_layer by k (suc d) (suc a) xs).1
+      unfolding parts_of_layer
+      parted-keyed zero d a xs u hi r g = λ e. done d xs r (λ b h. g b (omega (arith, roomy-at by.width (suc d) r.net r.well.roomy)))
+      parted-keyed (suc k) d a xs u hi r g =
+          let m = count-of by w later (KeyedTo by ruled d) xs r (suc d) d refl hi in
+          let same = group-of by w later (KeyedTo by ruled d) xs r (suc d) (suc a) d a refl refl hi in
+          cond_both (ltb (count_of by (suc d) xs) (suc a)) (false, xs) _ Done (λ x e. done d xs r (λ b h. g b (omega (arith, ltb-true (count_of by (suc d) xs) (suc a) x)))) (λ x.
+          cond_both (oneGroupIn by (suc d) (suc a) xs) _ _ Done (λ y. parted-keyed k d (suc a) xs (omega arith) hi r (one_more (λ b. one_group by d b (first_labels by.rule by.tally) r.net ≡ true) a g (sym same ∙ y))) (λ y.
+          cond_both (leb by.width (count_of by (suc d) xs)) (true, xs) _ Done (λ z e. absurd (true≢false e)) (λ z.
+          let inn = ltb-false (count_of by (suc d) xs) (suc a) x in
+          let q = reached-part by w later ruled.same_self (KeyedTo by ruled d) (suc d) (suc a) d a xs refl refl hi inn y (leb-false by.width (count_of by (suc d) xs) z) r (keyed-part by ruled d d a r.net r.well.tied r.holds) in
+          parted-keyed k d (suc a) (parted_records by (suc d) (suc a) xs) (omega arith) hi q (part-groups d a (first_labels by.rule by.tally) r.net (omega arith) g))))
+        where
+          Done : Bool × List (Node S V) → Type 0
+          Done z = z.0 ≡ false → R (suc d) z.1
 
-        group : (t : Bool) → one_group by (suc d - 1) a (first_labels by.rule by.tally) Ls ≡ t → one_group by d a (first_labels by.rule by.tally) Ls ≡ t
-        group t y = rw (← less) y
+      -- k layers, from layer d + 1 on
+      refines-keyed : (k d : ℕ) (xs : List (Node S V)) → d + k < by.round.n → R d xs → (refinement_from by k (suc d) xs).0 ≡ Whole → R (d + k) (refinement_from by k (suc d) xs).1
+      unfolding refinement_from
+      refines-keyed zero d xs hi r = λ e. subst (λ (m : ℕ). R m xs) (omega arith) r
+      refines-keyed (suc k) d xs hi r =
+          let t = parts_of_layer by by.width (suc d) 1 (after_sweep by xs) in
+          cond_both t.0 (Full (suc d), t.1) (refinement_from by k (suc (suc d)) t.1) Done (λ x e. cc) (λ x e.
+          subst (λ (m : ℕ). R m (refinement_from by k (suc (suc d)) t.1).1) (omega arith)
+          (refines-keyed k (suc d) t.1 (omega arith) (parted-keyed by.width d 0 (after_sweep by xs) (omega arith) (omega arith) (reached-sweep by w later (KeyedTo by ruled d) xs r (keyed-sweep by ruled d r.net r.holds)) (λ b h. absurd (not-suc-le-zero h)) x) e))
+        where
+          Done : Refined × List (Node S V) → Type 0
+          Done z = z.0 ≡ Whole → R (d + suc k) z.1
 
-    -- k layers, from layer d + 1 on
-    refines-keyed : (k d : ℕ) (Ls : Net) → Proper by.round.n by.width Ls → KeyedTo by ruled d Ls → (refines by k (suc d) Ls).0 ≡ Whole → KeyedTo by ruled (d + k) (refines by k (suc d) Ls).1
-    unfolding refines
-    refines-keyed zero d Ls p q = λ e. subst (λ (m : ℕ). KeyedTo by ruled m Ls) (omega arith) q
-    refines-keyed (suc k) d Ls p q =
-        let s = sweep by Ls in
-        let ps = proper-sweep by w Ls p in
-        let t = parted by by.width (suc d) 0 s in
-        either Done t.0 (Full (suc d), t.1) (refines by k (suc (suc d)) t.1) (λ x e. cc) (λ x e.
-        subst (λ (m : ℕ). KeyedTo by ruled m (refines by k (suc (suc d)) t.1).1) (omega arith)
-        (refines-keyed k (suc d) t.1 (proper-parted by ruled.same_self w by.width (suc d) 0 s (omega arith) ps) (parted-keyed by.width d 0 s (omega arith) ps (keyed-sweep by ruled d Ls q) (λ b h. absurd (not-suc-le-zero h)) x) e))
-      where
-        Done : Refined × Net → Type 0
-        Done z = z.0 ≡ Whole → KeyedTo by ruled (d + suc k) z.1
-
-    -- sweeps until one answers 0, which then is of a settled diagram
-    swept-settles : (k : ℕ) (Ls : Net) → count_arcs Ls < k → Proper by.round.n by.width Ls → KeyedTo by ruled (by.round.n - 1) Ls → settled_of by (swept by k Ls) ≡ true
-    unfolding swept
-    swept-settles zero Ls h p q = absurd (not-suc-le-zero h)
-    swept-settles (suc k) Ls h p q =
-        let s = sweep by Ls in
-        either (λ (z : Net). settled_of by z ≡ true) (eqb (count_arcs s) (count_arcs Ls)) s (swept by k s)
-        (λ e. let t = settled-if by Ls (keyed-agrees by ruled (by.round.n - 1) Ls (omega (arith, p.deep)) q) (eqb-true (count_arcs s) (count_arcs Ls) e) in
-        rw (settled-yes by Ls p.one_first p.tied t).1 t)
-        (λ e. swept-settles k s (omega (arith, sweep-fewer by Ls, eqb-false (count_arcs s) (count_arcs Ls) e)) (proper-sweep by w Ls p) (keyed-sweep by ruled (by.round.n - 1) Ls q))
-
-    pub refine-settles : (Ls : Net) → Proper by.round.n by.width Ls → (refine by Ls).0 ≡ Whole → settled_of by (refine by Ls).1 ≡ true
-    unfolding refine
-    refine-settles Ls p e =
-        let q = refines by (by.round.n - 1) 1 Ls in
-        swept-settles (suc (count_arcs q.1)) q.1 (omega arith) (proper-refines by ruled.same_self w (by.round.n - 1) 1 Ls (omega arith) p)
-        (subst (λ (m : ℕ). KeyedTo by ruled m q.1) (omega arith) (refines-keyed (by.round.n - 1) 0 Ls p tt e))
+      refine-settles : (xs : List (Node S V)) → Reached by w later (λ Ls. Unit {0}) xs → (refinement by xs).0 ≡ Whole → is_settled by (refinement by xs).1 ≡ true
+      unfolding refinement
+      refine-settles xs r e =
+          let n = by.round.n - 1 in
+          let ys = (refinement_from by n 1 xs).1 in
+          let q : R n ys = subst (λ (m : ℕ). R m ys) (omega arith) (refines-keyed n 0 xs (omega (arith, by.round.one)) (record { net = r.net; well = r.well; is = r.is; holds = tt }) e) in
+          let z = swept-quiet by w later (KeyedTo by ruled n) (λ Ls p k. keyed-sweep by ruled n Ls k) (suc (count_arcs (arcs by.round.n by.width ys))) ys q (rw (arcs-of by w later (KeyedTo by ruled n) ys q) (omega arith)) in
+          ap (is_settled by) z.is ∙ settled-X by w later z.net z.well ∙ settled-if by z.net (keyed-agrees by ruled n z.net (omega (arith, z.well.deep)) z.holds.0) (ap count_arcs z.holds.1)
 
 -- ---- on records
 pub whole-settles : {S V : Type 0} {Keeps : List ℕ → Type 0} {Stands : S → List ℕ → Type 0} (A : ℕ → Type 0) (rule : RuleSense S) (tally : TallySense V) → ((n : ℕ) → A n → RuleLaws n rule Keeps Stands) → WholeSettlesAlways A rule tally
-unfolding act
-whole-settles {S} {V} A rule tally ruled r e W a b lent cs =
+whole-settles A rule tally ruled r e W a b lent cs =
     let by = setting r rule tally W in
-    let x = ruled r.n e in let l = drop (r.n * W + 1) lent in
-    let D = after by cs (opening_arcs r.n) in
-    let p = proper-after by x.same_self a cs (opening_arcs r.n) (proper-opened by a) in
-    let q = proper-after by x.same_self a (Refine ∷ []) D p in
-    let Goal : Refined × List (Node S V) → Type 0 = λ z. z.0 ≡ Whole → is_settled by z.1 ≡ true in
-    rw (ap (refinement by) (run-opened by x.same_self a lent cs) ∙ refined-X by x.same_self a l D p) (λ h. settled-X by x.same_self a l (refine by D).1 q ∙ refine-settles by x a D p h)
+    refine-settles by (ruled r.n e) a (after_end by a lent) (after_calls by cs (after_open by lent)) (run-reached by a lent (ruled r.n e).same_self cs)
+
+pub refine-sweeps-out : {S V : Type 0} {Keeps : List ℕ → Type 0} {Stands : S → List ℕ → Type 0} (A : ℕ → Type 0) (rule : RuleSense S) (tally : TallySense V) → ((n : ℕ) → A n → RuleLaws n rule Keeps Stands) → RefineSweepsOutAlways A rule tally
+unfolding refinement
+refine-sweeps-out A rule tally ruled r e W a b lent cs =
+    let by = setting r rule tally W in
+    let P : Net → Type 0 = λ Ls. Unit {0} in
+    let later = after_end by a lent in
+    let xs = after_calls by cs (after_open by lent) in
+    let ys = (refinement_from by (r.n - 1) 1 xs).1 in
+    let q = layers-refined by a later (ruled r.n e).same_self P (λ c. Unit {0}) (plain by a later) (r.n - 1) 1 xs (omega arith) (omega (arith, r.one)) (run-reached by a lent (ruled r.n e).same_self cs) in
+    let z = swept-quiet by a later P (λ Ls p k. tt) (suc (count_arcs (arcs r.n W ys))) ys q (rw (arcs-of by a later P ys q) (omega arith)) in
+    ap (sweep_answer by) z.is ∙ answer-X by a later z.net z.well ∙ omega (arith, ap count_arcs z.holds.1)

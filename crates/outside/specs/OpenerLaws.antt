@@ -1,7 +1,7 @@
 -- The rule of the first door is lawful.
 use Rattle.std.specs.Prelude.{◌≡◌, ℕ, Bool, true, false, not, ◌&&◌, ◌||◌, List, [], ◌∷◌, ◌++◌, fold, ◌==◌, refl}
-use Rattle.std.proofs.Common.{sym, ap, ◌∙◌, arith}
-use Rattle.std.proofs.lemmas.Bool.{and_parts, and_from, or_parts, or_right, not-true, not_from_false, both_ways, cases_Bool, eqb-true, eq-eqb}
+use Rattle.std.proofs.Common.{sym, ap, ◌∙◌, subst, arith}
+use Rattle.std.proofs.lemmas.Bool.{or_parts, or_right, both_ways}
 use Rattle.std.proofs.lemmas.Bool.Decides.{nat_tests}
 use Rattle.doors.specs.Orders.{is_door}
 use Rattle.doors.proofs.Orders.{door-is, not-door}
@@ -61,3 +61,7 @@ module _ (n d : ℕ) where
       no_both : (t : Bool) → (t && false) ≡ false
       no_both true = refl
       no_both false = refl
+
+  -- so it is in rounds of m doors, where n is m
+  pub opener_lawful_for : (m : ℕ) → n ≡ m → RuleLaws m (opener_sense n d) (Begins d) Stands
+  opener_lawful_for m e = subst (λ (m : ℕ). RuleLaws m (opener_sense n d) (Begins d) Stands) e opener_lawful

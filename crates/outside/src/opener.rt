@@ -1,9 +1,7 @@
 //! A side rule: the order begins with one door. A state is whether the van may have begun.
 ghost use Rattle.std.specs.Prelude.{◌≡◌, ℕ, false, []};
-ghost use Rattle.std.proofs.Common.{subst};
 ghost use Rattle.outside.specs.Opener.{Begins, opener_sense};
-ghost use Rattle.rules.specs.Rules.{RuleLaws};
-ghost use Rattle.outside.specs.OpenerLaws.{opener_lawful};
+ghost use Rattle.outside.specs.OpenerLaws.{opener_lawful, opener_lawful_for};
 
 use rules::rule::Rule;
 
@@ -25,9 +23,7 @@ impl Rule for Opener {
 
     ghost stands = { λ r s w. (s ≡ false → w ≡ []) };
 
-    ghost lawful = { λ r n e.
-        subst (λ (m : ℕ). RuleLaws m (opener_sense r.n r.door) (Begins r.door) (λ s w. s ≡ false → w ≡ [])) e
-        (opener_lawful r.n r.door) };
+    ghost lawful = { λ r n e. opener_lawful_for r.n r.door n e };
 
     ghost reflexive = { λ r s. (opener_lawful r.n r.door).same_self s };
 

@@ -1,5 +1,4 @@
 mod Bytes
-mod Inner
 mod Lists
 mod Long
 mod Musts

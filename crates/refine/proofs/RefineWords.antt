@@ -2,6 +2,7 @@
 use Rattle.std.proofs.Common.{◌≡◌, ℕ, zero, suc, ◌+◌, ◌-◌, ◌*◌, ◌<◌, ◌≤◌, Bool, true, cond, eqb, List, ◌++◌, length, drop, sym, refl, ap, ◌∙◌, subst, ap₂, arith}
 use Rattle.std.proofs.lemmas.List.{length-append, length-drop}
 use Rattle.std.proofs.lemmas.Bool.{cond_both}
+use Rattle.layers.specs.Lawful.{IsLawful}
 use Rattle.layers.specs.declared.node.Node.{Node}
 use Rattle.layers.specs.declared.refined.Refined.{Refined}
 use Rattle.layers.specs.declared.refined.Refined.TheVariants.{Full}
@@ -12,10 +13,8 @@ use Rattle.layers.specs.Records.{labelled_records}
 use Rattle.layers.specs.Calls.{arcs, labels, kept_arcs, records_with, after_sweep, sweep_answer, parts_of_layer, refinement_from, after_sweeps, refinement}
 use Rattle.layers.specs.Shape.{IsShaped, IsTimely}
 use Rattle.layers.proofs.Bridge.{laid-long, later-stays}
-use Rattle.layers.proofs.Model.{parted}
-use Rattle.layers.proofs.Proper.{Proper, lawful, proper-kept, proper-parted}
+use Rattle.layers.proofs.Proper.{proper-kept}
 use Rattle.layers.proofs.Shaped.{relaid-shaped}
-use Rattle.layers.proofs.Standing.{splits-X}
 use Rattle.labels.specs.Passes.{fits, relabelled}
 use Rattle.labels.proofs.Laying.{relabelled-lawful}
 use Rattle.labels.proofs.Rooms.{room-facts}
@@ -37,42 +36,36 @@ module _ {S V : Type 0} (by : Setting S V) (self : (s : S) → by.rule.same s s 
   abbrev left : Recs → Net
   left xs = tidied_arcs (kept_arcs (is_barred by.round by.rule) 0 (arcs n by.width xs) (labels n by.width xs))
 
-  left-proper : (xs : Recs) → fits n by.width (length xs) ≡ true → IsShaped n by.width xs → Proper n by.width (left xs)
+  left-proper : (xs : Recs) → fits n by.width (length xs) ≡ true → IsShaped n by.width xs → IsLawful n by.width (left xs)
   left-proper xs fit s = proper-kept by (room-facts n by.width (length xs) fit).low (is_barred by.round by.rule) (arcs n by.width xs) (labels n by.width xs) (proper by.round by.width xs fit s)
 
   abbrev later : Recs → Recs
   later xs = drop (n * by.width + 1) xs
 
-  -- the arcs that refining layer i leaves, after a sweep of xs
-  abbrev after : ℕ → Recs → Bool × Net
-  after i xs = parted by by.width i 0 (left xs)
+  -- refining layer i, after a sweep of xs
+  abbrev parts : ℕ → Recs → Bool × Recs
+  parts i xs = parts_of_layer by by.width i 1 (after_sweep by xs)
 
-  after-proper : (i : ℕ) (xs : Recs) → fits n by.width (length xs) ≡ true → IsShaped n by.width xs → 1 ≤ i → Proper n by.width (after i xs).1
-  after-proper i xs fit s lo = proper-parted by self (room-facts n by.width (length xs) fit).low by.width i 0 (left xs) lo (left-proper xs fit s)
-
-  -- the parts of a layer on arcs alone
-  parts : (i : ℕ) (xs : Recs) → fits n by.width (length xs) ≡ true → IsShaped n by.width xs → 1 ≤ i → i < n → Done n by.width (after_sweep by xs) (after i xs) (layer_steps by i (after_sweep by xs))
+  parts-done : (i : ℕ) (xs : Recs) (fit : fits n by.width (length xs) ≡ true) → IsShaped n by.width xs → 1 ≤ i → i < n
+      → Done by (room-facts n by.width (length xs) fit).low (later xs) (after_sweep by xs) (parts i xs) (layer_steps by i (after_sweep by xs))
   unfolding after_sweep records_with
-  parts i xs fit s lo hi =
+  parts-done i xs fit s lo hi =
       let f = room-facts n by.width (length xs) fit in
-      let ys = after_sweep by xs in
-      let p = layer_steps by i ys in
-      layer-net by self i (later xs) (left xs) ys p.1 p.0 f.low f.high lo hi (left-proper xs fit s) refl refl
+      layer-net by f.low (later xs) self i lo hi f.high (after_sweep by xs) (record { net = left xs; well = left-proper xs fit s; is = refl; holds = tt })
 
-  layer-is : (i : ℕ) (xs : Recs) → fits n by.width (length xs) ≡ true → IsShaped n by.width xs → 1 ≤ i → i < n → one_layer by i xs ≡ ((after i xs).0, records_with by xs (after i xs).1)
-  unfolding one_layer after_sweep records_with
-  layer-is i xs fit s lo hi =
-      let q = parts i xs fit s lo hi in
+  kept-later : (xs : Recs) → fits n by.width (length xs) ≡ true → IsShaped n by.width xs → later (after_sweep by xs) ≡ later xs
+  unfolding after_sweep records_with
+  kept-later xs fit s = later-stays by (room-facts n by.width (length xs) fit).low (later xs) (left xs) (left-proper xs fit s).deep
+
+  layer-words : (i : ℕ) (xs : Recs) → fits n by.width (length xs) ≡ true → IsShaped n by.width xs → 1 ≤ i → i < n → one_layer by i xs ≡ parts i xs
+  unfolding one_layer records_with
+  layer-words i xs fit s lo hi =
+      let f = room-facts n by.width (length xs) fit in
+      let q = parts-done i xs fit s lo hi in
       let zs = (layer_steps by i (after_sweep by xs)).1 in
       ap (λ (ys : Recs). ((layer_steps by i ys).0, relabelled by (layer_steps by i ys).1)) (sweep-words by xs fit s)
       ∙ ap₂ (λ (b : Bool) (ys : Recs). (b, ys)) q.answer
-      (relabelled-lawful by (after i xs).1 zs (lawful n by.width (after i xs).1 (after-proper i xs fit s lo)) q.arranged
-      ∙ ap (λ (ys : Recs). labelled_records by (after i xs).1 ++ ys) (q.tail ∙ later-stays by (room-facts n by.width (length xs) fit).low (later xs) (left xs) (left-proper xs fit s).deep))
-
-  layer-words : (i : ℕ) (xs : Recs) → fits n by.width (length xs) ≡ true → IsShaped n by.width xs → 1 ≤ i → i < n → one_layer by i xs ≡ parts_of_layer by by.width i 1 (after_sweep by xs)
-  unfolding after_sweep records_with
-  layer-words i xs fit s lo hi =
-      layer-is i xs fit s lo hi ∙ sym (splits-X by self (room-facts n by.width (length xs) fit).low (later xs) by.width i 0 (left xs) (left-proper xs fit s) lo hi)
+      (relabelled-lawful by q.left.net zs q.left.well q.left.holds ∙ ap (λ (ys : Recs). labelled_records by q.left.net ++ ys) (q.tail ∙ kept-later xs fit s) ∙ sym q.left.is)
 
   -- records laid out anew have as many places
   relaid-long : (xs : Recs) (Ls : Net) → fits n by.width (length xs) ≡ true → length Ls ≡ n → length (records_with by xs Ls) ≡ length xs
@@ -91,21 +84,19 @@ module _ {S V : Type 0} (by : Setting S V) (self : (s : S) → by.rule.same s s 
   unfolding some_layers refinement_from
   layers-words zero i xs fit s lo hi = (refl, s, fit)
   layers-words (suc k) i xs fit s lo hi =
-      let a = after i xs in
-      let Y = records_with by xs a.1 in
-      let is : one_layer by i xs ≡ (a.0, Y) = layer-is i xs fit s lo (omega arith) in
-      let def : parts_of_layer by by.width i 1 (after_sweep by xs) ≡ (a.0, Y) = sym (layer-words i xs fit s lo (omega arith)) ∙ is in
-      let p = after-proper i xs fit s lo in
-      let sY = relaid-shaped by (room-facts n by.width (length xs) fit).low xs a.1 p in
-      let fY = relaid-fits xs a.1 fit p.deep in
+      let q = parts-done i xs fit s lo (omega arith) in
+      let Y = (parts i xs).1 in
+      let is : Y ≡ records_with by xs q.left.net = unfold records_with in q.left.is in
+      let sY : IsShaped n by.width Y = rw is (relaid-shaped by (room-facts n by.width (length xs) fit).low xs q.left.net q.left.well) in
+      let fY : fits n by.width (length Y) ≡ true = rw is (relaid-fits xs q.left.net fit q.left.well.deep) in
       let ih = layers-words k (suc i) Y fY sY (omega arith) (omega arith) in
       let G : Bool × Recs → Refined × Recs = λ p. cond p.0 (Full i, p.1) (some_layers by k (suc i) p.1) in
-      let H : Bool × Recs → Refined × Recs = λ p. cond p.0 (Full i, p.1) (refinement_from by k (suc i) p.1) in
-      let same : G (a.0, Y) ≡ H (a.0, Y) = ap (λ (z : Refined × Recs). cond a.0 (Full i, Y) z) ih.0 in
       let Good : Refined × Recs → Type 0 = λ z. IsShaped n by.width z.1 × (fits n by.width (length z.1) ≡ true) in
-      let good : Good (H (a.0, Y)) = cond_both a.0 (Full i, Y) (refinement_from by k (suc i) Y) Good (λ _. (sY, fY)) (λ _. (ih.1, ih.2)) in
-      let there : Good (H (parts_of_layer by by.width i 1 (after_sweep by xs))) = subst (λ (z : Bool × Recs). Good (H z)) (sym def) good in
-      (ap G is ∙ same ∙ ap H (sym def), there.0, there.1)
+      let good = cond_both (parts i xs).0 (Full i, Y) (refinement_from by k (suc i) Y) Good (λ _. (sY, fY)) (λ _. (ih.1, ih.2)) in (
+        ap G (layer-words i xs fit s lo (omega arith)) ∙ ap (λ (z : Refined × Recs). cond (parts i xs).0 (Full i, Y) z) ih.0,
+        good.0,
+        good.1,
+      )
 
   -- ---- sweeps until nothing goes
   swept-fits : (xs : Recs) → fits n by.width (length xs) ≡ true → IsShaped n by.width xs → fits n by.width (length (after_sweep by xs)) ≡ true

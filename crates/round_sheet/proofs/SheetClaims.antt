@@ -8,7 +8,6 @@ use Rattle.layers.specs.declared.call.Call.TheVariants.{Refine}
 use Rattle.layers.specs.Calls.{bound, must, is_settled}
 use Rattle.layers.specs.Claim.{ClaimHolds, Wanted}
 use Rattle.allowed.specs.Orders.{IsAllowedOrder, KeepsRules, IsNotAbove, late_cost}
-use Rattle.allowed.specs.Senses.{side_of, late_of}
 use Rattle.round_sheet.specs.Claims.{NoneUndercuts, MustsHold, BoundIsReached, NoMustMissing}
 use Rattle.round_sheet.specs.Sheets.{Records, setting_for, musts_of}
 use Rattle.round_sheet.proofs.SheetSets.{must_parts, must_from, must-yes, yes-must}

@@ -1,6 +1,6 @@
 -- The rule of the load is lawful.
 use Rattle.std.specs.Prelude.{◌≡◌, ℕ, ◌+◌, ◌*◌, true, false, ◌||◌, ◌⊎◌, List, [], ◌∷◌, ◌++◌, length, ℤ, pos, negsuc, ◌+ℤ◌, ◌≤ℤ◌, ◌<ℤ◌, fold, int_lt, refl}
-use Rattle.std.proofs.Common.{ap₂, ⊎_elim, arith, length-append}
+use Rattle.std.proofs.Common.{ap₂, ⊎_elim, arith, length-append, subst}
 use Rattle.std.specs.Int.Signed.{≤ℤ_refl}
 use Rattle.std.proofs.lemmas.Int.{ints, clamps}
 use Rattle.std.proofs.lemmas.List.Sums.{fold_push}
@@ -118,3 +118,9 @@ module _ (r : Round) where
     outside_step = λ s j h. cond-false (is_door n j) _ _ (not-door n j h);
     outside_bars = λ s j h. cond-false (is_door n j) _ _ (not-door n j h);
   }
+
+  -- so it is in rounds of m doors, where the round is one
+  pub load_lawful_for : (m : ℕ) → n ≡ m
+      → RuleLaws m (load_sense n load cap doors) (IsWithinCap load cap doors) (LiesBetween load doors)
+  load_lawful_for m e =
+      subst (λ (m : ℕ). RuleLaws m (load_sense n load cap doors) (IsWithinCap load cap doors) (LiesBetween load doors)) e load_lawful

@@ -1,6 +1,6 @@
 -- The rule of pairs is lawful.
 use Rattle.std.specs.Prelude.{◌≡◌, ℕ, ◌^◌, not, ◌⊎◌, List, fold, ◌==◌, bit_and, bit_or, slice_index, refl}
-use Rattle.std.proofs.Common.{inl, inr, ⊎_elim, arith}
+use Rattle.std.proofs.Common.{inl, inr, ⊎_elim, arith, subst}
 use Rattle.std.specs.Int.Bits.{or_self}
 use Rattle.std.proofs.lemmas.List.Sums.{fold_push}
 use Rattle.std.proofs.lemmas.Bool.{cond-true, cond-false, eq-eqb, eqb-true}
@@ -56,3 +56,9 @@ module _ (n : ℕ) (ahead : List ℕ) where
     outside_step = λ s j h. cond-false (is_door n j) _ _ (not-door n j h);
     outside_bars = λ s j h. cond-false (is_door n j) _ _ (not-door n j h);
   }
+
+  -- so it is in rounds of m doors, where n is m
+  pub pairs_lawful_for : (m : ℕ) → n ≡ m
+      → RuleLaws m (pairs_sense n ahead) (IsOrdered ahead) (λ s w. (i : ℕ) → StandsIn i w → Has s i)
+  pairs_lawful_for m e =
+      subst (λ (m : ℕ). RuleLaws m (pairs_sense n ahead) (IsOrdered ahead) (λ s w. (i : ℕ) → StandsIn i w → Has s i)) e pairs_lawful

@@ -41,9 +41,11 @@ impl<A: Rule, B: Rule> Rule for Both<A, B> {
 
     ghost stands = { λ r s w. A.Rule.stands r.first s.0 w × B.Rule.stands r.second s.1 w };
 
-    ghost lawful = { λ r n h. both_lawful (A.Rule.lawful r.first n h.0) (B.Rule.lawful r.second n h.1) };
+    ghost lawful = { λ r n h.
+        both_lawful (A.Rule.lawful r.first n h.0) (B.Rule.lawful r.second n h.1) };
 
-    ghost reflexive = { λ r s. and_from _ _ (A.Rule.reflexive r.first s.0) (B.Rule.reflexive r.second s.1) };
+    ghost reflexive = { λ r s.
+        and_from _ _ (A.Rule.reflexive r.first s.0) (B.Rule.reflexive r.second s.1) };
 
     fn start(&self) -> (A::State, B::State) {
         (self.first.start(), self.second.start())

@@ -1,2 +1,4 @@
+pub mod DoorsBehind
 pub mod Paths
 pub mod Places
+pub mod Views

@@ -1,10 +1,10 @@
 -- A row worked out from the row below it says what paths there are, one layer further up.
-use Rattle.std.proofs.Common.{◌≡◌, ℕ, zero, suc, ◌+◌, ◌*◌, ◌<◌, Bool, false, ◌||◌, List, [], ◌∷◌, get_or, take, drop, map, set, replicate, refl, ◌∙◌, suc-mul, arith}
+use Rattle.std.proofs.Common.{◌≡◌, ℕ, zero, suc, ◌+◌, ◌*◌, ◌<◌, Bool, true, false, ◌||◌, List, [], ◌∷◌, get_or, take, drop, map, replicate, refl, ◌∙◌, suc-mul, arith}
 use mathlib.Core.Bool.{or-false, or_assoc}
 use Rattle.std.proofs.lemmas.Bool.Decides.{nat_tests}
 use Rattle.std.proofs.lemmas.List.{drop-drop}
 use Rattle.layers.specs.declared.node.Node.{Node}
-use Rattle.layers.specs.Net.{Outs, Net, still_sought, any_door, has_path_with}
+use Rattle.layers.specs.Net.{Outs, Net, node, still_sought, any_door, has_path_with}
 use Rattle.layers.specs.Records.{nodes_in, layers, arcs_in, arcs_of_layers}
 use Rattle.seek.specs.declared.seen.Seen.{Seen}
 use Rattle.seek.specs.Rows.{none, at_end, seen_from, through, either, by_first, row_of}
@@ -26,16 +26,38 @@ any-more f s (suc b ∷ ts) zero d e = grind (arith, or-false (f s b))
 any-more f s (zero ∷ ts) (suc k) d e = any-more f (suc s) ts k d (omega arith)
 any-more f s (suc b ∷ ts) (suc k) d e = rw (any-more f (suc s) ts k d (omega arith), or_assoc) refl
 
+-- ---- what is found is found where less is sought
+
+any-within : (f g : ℕ → ℕ → Bool) (s : ℕ) (ts : Outs) → ((d b : ℕ) → f d b ≡ true → g d b ≡ true) → any_door f s ts ≡ true → any_door g s ts ≡ true
+unfolding any_door
+any-within f g s [] h e = e
+any-within f g s (zero ∷ ts) h e = any-within f g (suc s) ts h e
+any-within f g s (suc b ∷ ts) h e = grind (arith, h s b, any-within f g (suc s) ts h)
+
+module _ (Ls : Net) (fewer : (b g : ℕ) (gs : List ℕ) → has_path_with Ls b (g ∷ gs) ≡ true → has_path_with Ls b gs ≡ true) where
+  still : (b d : ℕ) (gs : List ℕ) → has_path_with Ls b gs ≡ true → has_path_with Ls b (still_sought gs d) ≡ true
+  still b d [] e = e
+  still b d (g ∷ gs) e = grind (arith, nat_tests, fewer b g gs)
+
+  still-fewer : (b d g : ℕ) (gs : List ℕ) → has_path_with Ls b (still_sought (g ∷ gs) d) ≡ true → has_path_with Ls b (still_sought gs d) ≡ true
+  still-fewer b d g gs e = grind (arith, nat_tests, fewer b g gs, still b d gs)
+
+fewer : (Ls : Net) (b g : ℕ) (gs : List ℕ) → has_path_with Ls b (g ∷ gs) ≡ true → has_path_with Ls b gs ≡ true
+unfolding has_path_with
+fewer [] b g gs e = grind arith
+fewer (L ∷ Ls) b g gs e =
+    any-within (λ d c. has_path_with Ls c (still_sought (g ∷ gs) d)) (λ d c. has_path_with Ls c (still_sought gs d)) 1 (node L b) (λ d c. still-fewer Ls (fewer Ls) c d g gs) e
+
 module _ (i j : ℕ) where
   abbrev pub IsSeen : List Seen → Net → Type 0
   IsSeen row Ls = (t : ℕ) → get_or row t none ≡ seen_from i j Ls t
 
   -- ---- at the end
-  pub end_seen : IsSeen (set (replicate 256 none) 1 at_end) []
+  pub end_seen : (m : ℕ) → IsSeen (none ∷ at_end ∷ replicate m none) []
   unfolding has_path_with
-  end_seen zero = refl
-  end_seen (suc zero) = refl
-  end_seen (suc (suc b)) = grind (arith, nat_tests, is_none 254 b)
+  end_seen m zero = refl
+  end_seen m (suc zero) = refl
+  end_seen m (suc (suc b)) = grind (arith, nat_tests, is_none m b)
 
   -- ---- over the arcs of one node
   module _ (Ls : Net) where
@@ -44,7 +66,7 @@ module _ (i j : ℕ) where
 
     through-is : (d t : ℕ) → through i j d (seen_from i j Ls t) ≡ record { ends = at_target (λ d b. has_path_with Ls b []) d t; one = at_target (λ d b. has_path_with Ls b (still_sought (i ∷ []) d)) d t; both = at_target (λ d b. has_path_with Ls b (still_sought (j ∷ i ∷ []) d)) d t }
     through-is d zero = grind (arith, nat_tests)
-    through-is d (suc b) = grind (arith, nat_tests)
+    through-is d (suc b) = grind (arith, nat_tests, fewer Ls b i [], fewer Ls b j (i ∷ []))
 
     over-more : (ts : Outs) (k : ℕ) → either (seen_over (take k ts)) (through i j (k + 1) (seen_from i j Ls (get_or ts k 0))) ≡ seen_over (take (suc k) ts)
     unfolding seen_over
@@ -83,9 +105,9 @@ module _ (i j : ℕ) where
     abbrev pub Reached : List Seen → ℕ → Type 0
     Reached row k = (m : ℕ) → m + k ≡ n → IsSeen row (arcs_of_layers n (layers w m (drop (k * w) xs)))
 
-    pub reached-end : Reached (set (replicate 256 none) 1 at_end) n
-    reached-end zero e t = end_seen t
-    reached-end (suc m) e t = absurd (omega arith)
+    pub reached-end : (q : ℕ) → Reached (none ∷ at_end ∷ replicate q none) n
+    reached-end q zero e t = end_seen q t
+    reached-end q (suc m) e t = absurd (omega arith)
 
     pub reached-more : (k : ℕ) (row up : List Seen) → k < n → ((t : ℕ) → get_or up t none ≡ get_or (row_of (λ u. by_first i j row u n) (take w (drop (k * w) xs))) t none) → Reached row (suc k) → Reached up k
     reached-more k row up lt new h zero e t = absurd (omega arith)

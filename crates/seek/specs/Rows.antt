@@ -1,9 +1,12 @@
--- What is seen from the nodes of a layer, as the code works it out from the layer below. Nobody has to believe it: the contract of
--- `must` says what it comes to. A row has it by target number: 0 for no node, suc b for the node at place b.
-use Rattle.std.specs.Prelude.{ℕ, zero, suc, ◌+◌, ◌*◌, Bool, true, false, if◌then◌else◌, ◌&&◌, ◌||◌, List, [], ◌∷◌, map, ◌==◌, nat_le, slice_index, slice_index_or}
+-- What is seen from the nodes of a layer, as the code works it out from the layer below. Nobody has to believe it: the contracts of
+-- `must` and `musts` say what it comes to. A row has it by target number: 0 for no node, suc b for the node at place b.
+use Rattle.std.specs.Prelude.{ℕ, zero, suc, ◌+◌, ◌*◌, Bool, true, false, not, ◌&&◌, ◌||◌, List, [], ◌∷◌, map, replicate, ◌==◌, nat_le, slice_index, slice_index_or}
+use Rattle.doors.specs.Orders.{is_door}
+use Rattle.doors.specs.Sets.{has}
 use Rattle.layers.specs.declared.node.Node.{Node}
 use Rattle.layers.specs.Net.{Net, has_path_with}
 use Rattle.layers.specs.Records.{nodes_in}
+use Rattle.seek.specs.declared.onward.Onward.{Onward}
 use Rattle.seek.specs.declared.seen.Seen.{Seen}
 
 -- a list of that length has room for a diagram of n doors and width w: w places to each layer, and the end
@@ -23,12 +26,24 @@ abbrev pub seen_from : ℕ → ℕ → Net → ℕ → Seen
 seen_from i j Ls zero = none
 seen_from i j Ls (suc b) = record { ends = has_path_with Ls b []; one = has_path_with Ls b (i ∷ []); both = has_path_with Ls b (j ∷ i ∷ []) }
 
+-- nothing, of all doors at once
+abbrev pub nothing : Onward
+nothing = record { ends = false; some = 0; after = replicate 17 0 }
+
+-- what is seen of all doors at once, looked at for i and j
+abbrev pub view : ℕ → ℕ → Onward → Seen
+view i j s = record { ends = s.ends; one = has s.some i; both = has (slice_index s.after j) i }
+
+-- a row of all doors, by places, looked at for i and j
+abbrev pub views : ℕ → ℕ → List Onward → List Seen
+views i j row = none ∷ map (view i j) row
+
 -- over an arc by the door d, to a node from which s is seen
 abbrev pub through : ℕ → ℕ → ℕ → Seen → Seen
 through i j d s = record {
   ends = s.ends;
-  one = if i == d then s.ends else s.one;
-  both = if j == d then s.one else s.both;
+  one = s.one || (i == d && s.ends);
+  both = s.both || (j == d && s.one);
 }
 
 -- one way or the other
@@ -44,3 +59,7 @@ by_first i j below u (suc k) =
 -- the row of the layer us, where f says what is seen from one node; the nodes stand first, and nothing is seen from the places after them
 abbrev pub row_of : {S V : Type 0} → (Node S V → Seen) → List (Node S V) → List Seen
 row_of f us = none ∷ map f (nodes_in us)
+
+-- j comes behind i, of n doors, where on no path from the first node i comes after j; `after` has for each door those after it on some
+abbrev pub is_behind : ℕ → List ℕ → ℕ → ℕ → Bool
+is_behind n after i j = is_door n i && (is_door n j && (not (i == j) && not (has (slice_index after j) i)))

@@ -2,5 +2,7 @@
 #![tactic(auto)]
 
 pub mod must;
+mod onward;
 mod row;
 mod seen;
+mod walk;

@@ -23,8 +23,8 @@ pub(crate) fn through(i: usize, j: usize, door: usize, below: Seen) -> Seen
 {
     Seen {
         ends: below.ends,
-        one: if i == door { below.ends } else { below.one },
-        both: if j == door { below.one } else { below.both },
+        one: below.one || (i == door && below.ends),
+        both: below.both || (j == door && below.one),
     }
 }
 

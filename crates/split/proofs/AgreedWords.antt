@@ -7,7 +7,7 @@ use Rattle.layers.specs.Labels.{all_agree}
 use Rattle.layers.specs.Records.{nodes_in, layers, arcs_in, downs_in, arcs_of_layers}
 use Rattle.layers.specs.Calls.{nodes, arcs, labels, labels_in, places_agree, in_arcs_agree}
 use Rattle.layers.specs.Shape.{IsShaped}
-use Rattle.layers.proofs.Places.{layer-at}
+use Rattle.layers.proofs.Shaped.{layer-at}
 use Rattle.labels.specs.Passes.{part, fits}
 use Rattle.split.specs.Steps.{node_count, agreed_to, agreed_layers, agreed_steps}
 use Rattle.split.specs.Words.{AgreedDone}

@@ -2,6 +2,7 @@
 use Rattle.std.proofs.Common.{◌≡◌, ℕ, suc, ◌+◌, ◌-◌, ◌*◌, ◌<◌, ◌≤◌, min, max, false, List, [], length, get_or, drop, Ok, is_ok, sym, refl, ap, ◌∙◌, subst, ap₂, suc-mul, arith}
 use Rattle.std.proofs.lemmas.Bool.Decides.{nat_tests}
 use Rattle.std.proofs.lemmas.Bool.{cond_both}
+use Rattle.layers.specs.Lawful.{IsLawful}
 use Rattle.layers.specs.declared.node.Node.{Node}
 use Rattle.layers.specs.Net.{Net, node}
 use Rattle.layers.specs.Join.{clash, joined_arcs}
@@ -9,9 +10,8 @@ use Rattle.layers.specs.Records.{padded_targets}
 use Rattle.layers.specs.Calls.{Outcome, arcs, records_with, join_answer, after_join}
 use Rattle.layers.specs.Shape.{IsShaped, IsTimely}
 use Rattle.layers.specs.Targets.{targets}
-use Rattle.layers.proofs.Shaped.{relaid-shaped}
-use Rattle.layers.proofs.Timely.{relaid-timely}
-use Rattle.layers.proofs.Proper.{Proper, proper-join}
+use Rattle.layers.proofs.Shaped.{relaid-shaped, relaid-timely}
+use Rattle.layers.proofs.Proper.{proper-join}
 use Rattle.labels.specs.Passes.{part, blank_node, relabelled}
 use Rattle.labels.proofs.Overs.{get_d_part}
 use Rattle.labels.proofs.RedirectNet.{targets-arranged}
@@ -60,7 +60,7 @@ module _ {S V : Type 0} (by : Setting S V) (i a b : ℕ) (xs : List (Node S V)) 
     abbrev new : Net
     new = joined_arcs (i - 1) (min a b - 1) (max a b - 1) (arcs by.round.n by.width xs)
 
-    join-made : join_check by i a b xs ≡ Ok tt → Proper by.round.n by.width new × (relabelled by (joined_one by ((i - 1) * by.width) (min a b - 1) (max a b - 1) xs) ≡ records_with by xs new)
+    join-made : join_check by i a b xs ≡ Ok tt → IsLawful by.round.n by.width new × (relabelled by (joined_one by ((i - 1) * by.width) (min a b - 1) (max a b - 1) xs) ≡ records_with by xs new)
     unfolding joined_one
     join-made e =
         let q = join-clear by i a b xs e in
@@ -83,7 +83,7 @@ module _ {S V : Type 0} (by : Setting S V) (i a b : ℕ) (xs : List (Node S V)) 
         sym (clash-same low high q.low_a (omega (arith, q.high_a)) q.low_b (omega (arith, q.high_b)) ∙ ap (λ (j : ℕ). clash (node (get_or Ls j []) lo) (node (get_or Ls j []) hi)) back) ∙ q.calm in
         let same : by.round.n * by.width + 1 ≡ length Ls * by.width + 1 = ap (λ (j : ℕ). j * by.width + 1) (sym k.proper.deep) in
         let ys = joined_one by (d * by.width) lo hi xs in
-        let p : Proper by.round.n by.width new = proper-join by some d lo hi Ls order inside clear k.proper in
+        let p : IsLawful by.round.n by.width new = proper-join by some d lo hi Ls order inside clear k.proper in
         let made : relabelled by ys ≡ records_with by xs new =
         relaid-same by xs ys new p
         (join-arranged by.width d lo hi z Ls xs (proper-good by.round by.width Ls k.proper) deep order inside refl k.arranged long)

@@ -8,13 +8,12 @@ use Rattle.layers.specs.declared.node.Node.{Node}
 use Rattle.layers.specs.declared.node.Down.{Down}
 use Rattle.layers.specs.declared.node.Label.{Label}
 use Rattle.layers.specs.Net.{table, Outs, Layer, Net, node}
-use Rattle.layers.specs.Lawful.{IsEven}
+use Rattle.layers.specs.Lawful.{IsEven, IsLawful}
 use Rattle.layers.specs.Labels.{all_agree, first_arrival, differs_from_first}
 use Rattle.layers.specs.Records.{nodes_in, arcs_in, downs_in, padded_targets, arcs_at}
 use Rattle.layers.specs.Calls.{parted_arcs, arrivals as arrivalsIn}
 use Rattle.layers.proofs.Bridge.{table-long}
 use Rattle.layers.proofs.Flows.{table_at}
-use Rattle.layers.proofs.Proper.{Proper, even-of}
 use Rattle.layers.proofs.Shaped.{standing-at}
 use Rattle.labels.specs.Passes.{part, arrivals, blank_node}
 use Rattle.labels.proofs.Laying.{arcs_of, Arranged, Good}
@@ -39,7 +38,7 @@ even-at n zero (L ∷ Ls) lt e = e.0
 even-at n (suc d) (L ∷ Ls) lt e = even-at n d Ls (omega arith) e.1
 
 -- a node of a net has at most sixteen targets
-pub node-few : (r : Round) (W d : ℕ) (Ls : Net) → Proper r.n W Ls → (a : ℕ) → length (node (get_or Ls d []) a) ≤ 16
+pub node-few : (r : Round) (W d : ℕ) (Ls : Net) → IsLawful r.n W Ls → (a : ℕ) → length (node (get_or Ls d []) a) ≤ 16
 node-few r W d Ls p = go d Ls (proper-good r W Ls p)
   where
     go : (d : ℕ) (Ls : Net) → Good W Ls → (a : ℕ) → length (node (get_or Ls d []) a) ≤ 16
@@ -99,7 +98,7 @@ module _ {S V : Type 0} where
 -- ---- what is known of the records of the net Ls, with layer d in use as far as the net's has nodes
 module _ {S V : Type 0} (by : Setting S V) (d : ℕ) (Ls : Net) (xs : List (Node S V)) where
   pub record Known : Type 0 where
-    pub proper : Proper by.round.n by.width Ls
+    pub proper : IsLawful by.round.n by.width Ls
     pub arranged : Arranged by.width Ls xs
     pub fit : by.round.n * by.width + 1 ≤ length xs
     pub deep : suc d < by.round.n
@@ -122,7 +121,7 @@ module _ {S V : Type 0} (by : Setting S V) (d : ℕ) (Ls : Net) (xs : List (Node
     long = let e : length Ls * by.width + 1 ≡ by.round.n * by.width + 1 = ap (λ (i : ℕ). i * by.width + 1) k.proper.deep in omega (arith, k.fit)
 
     known-arcs : arcs_in by.round.n (nodes_in us) ≡ get_or Ls d []
-    known-arcs = arcs-standing by.round.n by.width (blank_node by.rule by.tally) (get_or Ls d []) us by.round.most (even-at by.round.n d Ls (omega (arith, within)) (even-of by.round.n Ls k.proper.even)) room (arranged-at by.width d Ls xs (omega (arith, within)) k.arranged) k.stand
+    known-arcs = arcs-standing by.round.n by.width (blank_node by.rule by.tally) (get_or Ls d []) us by.round.most (even-at by.round.n d Ls (omega (arith, within)) k.proper.even) room (arranged-at by.width d Ls xs (omega (arith, within)) k.arranged) k.stand
 
     -- what arrives
     pub known-standing : (a : ℕ) → arrivals by (suc a) us ≡ arrivalsIn by labs (arcs_in by.round.n (nodes_in us)) a

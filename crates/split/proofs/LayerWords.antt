@@ -1,30 +1,28 @@
 -- Parting a layer of records that are laid out is parting the layer of the net.
-use Rattle.std.proofs.Common.{◌≡◌, ℕ, zero, suc, ◌+◌, ◌-◌, ◌*◌, ◌<◌, ◌≤◌, Bool, true, false, leb, List, [], ◌∷◌, ◌++◌, length, get_or, take, drop, Option, Ok, sym, refl, ap, ◌∙◌, subst, ap₂, arith}
+use Rattle.std.proofs.Common.{◌≡◌, ℕ, zero, suc, ◌+◌, ◌-◌, ◌*◌, ◌<◌, ◌≤◌, Bool, true, false, cond, leb, ltb, List, [], ◌∷◌, ◌++◌, length, get_or, take, drop, Option, Ok, sym, refl, ap, ◌∙◌, subst, ap₂, arith}
 use Rattle.std.proofs.lemmas.List.{length-append}
 use Rattle.std.proofs.lemmas.Bool.Decides.{nat_tests}
 use Rattle.std.proofs.lemmas.Bool.{leb-false}
+use Rattle.layers.specs.Lawful.{IsLawful}
 use Rattle.layers.specs.declared.node.Node.{Node}
 use Rattle.layers.specs.Net.{Net, node, width}
 use Rattle.layers.specs.Flow.{arrivals_at}
 use Rattle.layers.specs.Labels.{first_labels, labels_next, all_agree, arrival_over}
 use Rattle.layers.specs.Records.{nodes_in, downs_in, arcs_read, laid_arcs, labelled_records}
-use Rattle.layers.specs.Calls.{parted_arcs, arcs, layer, records_with, parts_of_layer}
-use Rattle.layers.proofs.Bridge.{group_at, laid-long}
-use Rattle.layers.proofs.Laid.{written, arcs-laid}
-use Rattle.layers.proofs.Model.{part_at, one_group, count, parted, labels_at}
-use Rattle.layers.proofs.Places.{layer-at}
-use Rattle.layers.proofs.Proper.{Proper, proper-part, proper-parted}
-use Rattle.layers.proofs.Shaped.{shaped-proper}
-use Rattle.layers.proofs.Standing.{at-X, splits-X}
+use Rattle.layers.specs.Calls.{parted_arcs, arcs, records_with, count_of, one_group as oneGroupIn, parted_records, parts_of_layer}
+use Rattle.layers.proofs.Bridge.{laid-long}
+use Rattle.layers.proofs.Model.{part_at, labels_at}
+use Rattle.layers.proofs.Shaped.{layer-at, shaped-proper}
+use Rattle.layers.proofs.Standing.{arcs-X, written, at-X, Reached, count-of, group-of, reached-part}
 use Rattle.layers.proofs.Tied.{redirect-length}
 use Rattle.layers.proofs.Ways.{length-snoc}
 use Rattle.labels.specs.Passes.{part, relabelled}
 use Rattle.labels.proofs.Laying.{Arranged, arranged-of}
 use Rattle.split.specs.Steps.{place_check, node_count, alike, parted_one, parts_from, layer_steps}
 use Rattle.split.specs.Words.{LayerDone}
-use Rattle.split.proofs.LayerNet.{Known, labs, downs-same, stands_same, known_alike, known-parted, known-tail, known-length, known-labels}
+use Rattle.split.proofs.LayerNet.{Known, downs-same, stands_same, known_alike, known-parted, known-tail, known-length, known-labels}
 use Rattle.split.proofs.PartWords.{relaid-same}
-use Rattle.split.proofs.ShapedNet.{count-layer}
+use Rattle.split.proofs.ShapedNet.{count-at}
 use Rattle.layers.specs.Settings.{Setting}
 use Rattle.layers.specs.declared.node.Down.{Down}
 
@@ -65,155 +63,144 @@ module _ {S V : Type 0} (by : Setting S V) (w : 1 ≤ by.width) where
   after-grows zero a ls (L ∷ M ∷ Ls) lt = length-snoc M (node M a)
   after-grows (suc d) a ls (L ∷ Ls) lt = after-grows d a (labels_next by ls L (width Ls)) Ls (omega arith)
 
--- ---- the records: p is what is left of a net, and q of the records xs
-pub record Done {S V : Type 0} (n W : ℕ) (xs : List (Node S V)) (p : Bool × Net) (q : Bool × List (Node S V)) : Type 0 where
-  pub answer : q.0 ≡ p.0
-  pub arranged : Arranged W p.1 q.1
-  pub tail : drop (n * W + 1) q.1 ≡ drop (n * W + 1) xs
-  pub long : length q.1 ≡ length xs
+-- two choices by one test
+same_way : {A B : Type 0} (Q : A → B → Type 0) (s t : Bool) (x y : A) (u v : B) → s ≡ t → (t ≡ true → Q x u) → (t ≡ false → Q y v) → Q (cond s x y) (cond t u v)
+same_way Q s true x y u v e f g = rw e (f refl)
+same_way Q s false x y u v e f g = rw e (g refl)
 
-module _ {S V : Type 0} (by : Setting S V) (self : (s : S) → by.rule.same s s ≡ true) (w : 1 ≤ by.width) (i : ℕ) (low : 1 ≤ i) where
-  -- what is known at each turn: the labels of the layer before are those of the net
-  pub record State (Ls : Net) (xs : List (Node S V)) : Type 0 where
-    pub known : Known by (i - 1) Ls xs
-    pub labelled : downs_in (nodes_in (part ((i - 1) * by.width) by.width xs)) ≡ labels_at by (i - 1) (first_labels by.rule by.tally) Ls
+-- ---- the records: p is what is said of the records zs of a net, and q what is done with the records xs
+module _ {S V : Type 0} (by : Setting S V) (w : 1 ≤ by.width) (later : List (Node S V)) where
+  pub record Done (xs : List (Node S V)) (p q : Bool × List (Node S V)) : Type 0 where
+    pub answer : q.0 ≡ p.0
+    pub left : Reached by w later (λ Ls. Arranged by.width Ls q.1) p.1
+    pub tail : drop (by.round.n * by.width + 1) q.1 ≡ drop (by.round.n * by.width + 1) xs
+    pub long : length q.1 ≡ length xs
 
-  module _ (Ls : Net) (xs : List (Node S V)) (s : State Ls xs) (a m : ℕ) (em : m ≡ count by i Ls) where
+  module _ (self : (s : S) → by.rule.same s s ≡ true) (i : ℕ) (low : 1 ≤ i) (high : i < by.round.n) where
+    -- what is known at each turn: the labels of the layer before are those of the net
+    record State (xs : List (Node S V)) (Ls : Net) : Type 0 where
+      known : Known by (i - 1) Ls xs
+      labelled : downs_in (nodes_in (part ((i - 1) * by.width) by.width xs)) ≡ labels_at by (i - 1) (first_labels by.rule by.tally) Ls
+
+    abbrev At : List (Node S V) → List (Node S V) → Type 0
+    At xs zs = Reached by w later (State xs) zs
+
     back : i ≡ suc (i - 1)
     back = omega arith
 
-    em' : m ≡ length (get_or Ls (suc (i - 1)) [])
-    em' = em ∙ ap (λ (j : ℕ). length (get_or Ls j [])) back
+    group-same : (xs zs : List (Node S V)) (r : At xs zs) (a : ℕ) → alike by ((i - 1) * by.width) (suc a) xs ≡ oneGroupIn by i (suc a) zs
+    group-same xs zs r a =
+        known_alike by (i - 1) r.net xs r.holds.known a
+        ∙ ap (λ ls. all_agree by.rule (arrivals_at (arrival_over by) a ls (get_or r.net (i - 1) []))) r.holds.labelled
+        ∙ sym (group-of by w later (State xs) zs r i (suc a) (i - 1) a back refl high)
 
-    group-same : alike by ((i - 1) * by.width) (suc a) xs ≡ one_group by (i - 1) a (first_labels by.rule by.tally) Ls
-    group-same =
-        let k = s.known in
-        let d = i - 1 in
-        known_alike by d Ls xs k a
-        ∙ ap (λ ls. all_agree by.rule (arrivals_at (arrival_over by) a ls (get_or Ls d []))) s.labelled
-        ∙ sym (group_at by w d a (first_labels by.rule by.tally) Ls (omega (arith, k.deep, k.proper.deep)))
+    -- parting a node
+    module _ (xs zs : List (Node S V)) (r : At xs zs) (a m : ℕ) (em : m ≡ count_of by i zs) (al : a < m) (ml : m < by.width) (apart : oneGroupIn by i (suc a) zs ≡ false) where
+      abbrev Ms : Net
+      Ms = part_at by (i - 1) a (first_labels by.rule by.tally) r.net
 
-    next-state : a < m → m < by.width → one_group by (i - 1) a (first_labels by.rule by.tally) Ls ≡ false → State (part_at by (i - 1) a (first_labels by.rule by.tally) Ls) (parted_one by ((i - 1) * by.width) a m xs)
-    next-state al ml apart =
-        let k = s.known in
-        let d = i - 1 in
-        let fs = first_labels by.rule by.tally in
-        let Ms = part_at by d a fs Ls in
-        let ys = parted_one by (d * by.width) a m xs in
-        let same = known-labels by d Ls xs k a m in
-        let us = part (d * by.width) by.width xs in
-        let vs = part (d * by.width) by.width ys in
-        let net : parted_arcs by d a (labs by d Ls xs) Ls ≡ Ms = ap (λ ls. parted_arcs by d a ls Ls) s.labelled in
-        record {
-          known = record {
-            proper = proper-part by self w d a Ls (omega (arith, em')) (omega (arith, em')) apart k.proper;
-            arranged = subst (λ (N : Net). Arranged by.width N ys) net (known-parted by d Ls xs k a m em' al ml);
-            fit = omega (arith, k.fit, known-length by d Ls xs a m);
-            deep = k.deep;
-            stand = stands_same vs us same ∙ k.stand ∙ sym (before-stays by w d a fs Ls);
-          };
-          labelled = downs-same vs us same ∙ s.labelled ∙ sym (labs-stay by w d a fs Ls);
-        }
-
-    next-count : suc m ≡ count by i (part_at by (i - 1) a (first_labels by.rule by.tally) Ls)
-    next-count =
-        let k = s.known in
-        let d = i - 1 in
-        let Ms = part_at by d a (first_labels by.rule by.tally) Ls in
-        ap suc em' ∙ sym (after-grows by w d a (first_labels by.rule by.tally) Ls (omega (arith, k.deep, k.proper.deep))) ∙ ap (λ (j : ℕ). length (get_or Ms j [])) (sym back)
-
-  -- all turns
-  pub parts-net : (k a m : ℕ) (Ls : Net) (xs : List (Node S V)) → State Ls xs → m ≡ count by i Ls → Done by.round.n by.width xs (parted by k i a Ls) (parts_from by ((i - 1) * by.width) k a m xs)
-  unfolding parted parts_from
-  parts-net zero a m Ls xs s em = record { answer = refl; arranged = s.known.arranged; tail = refl; long = refl }
-  parts-net (suc k) a m Ls xs s em = go (leb m a) refl (alike by ((i - 1) * by.width) (suc a) xs) refl (leb by.width m) refl (parts-net k (suc a) m Ls xs s em) (λ t. parts-net k (suc a) (suc m) P ys t (next-count Ls xs s a m em))
-    where
-      P : Net
-      P = part_at by (i - 1) a (first_labels by.rule by.tally) Ls
-
-      ys : List (Node S V)
+      abbrev ys : List (Node S V)
       ys = parted_one by ((i - 1) * by.width) a m xs
 
-      go : (x : Bool) → leb m a ≡ x → (y : Bool) → alike by ((i - 1) * by.width) (suc a) xs ≡ y → (z : Bool) → leb by.width m ≡ z
-          → Done by.round.n by.width xs (parted by k i (suc a) Ls) (parts_from by ((i - 1) * by.width) k (suc a) m xs)
-          → (State P ys → Done by.round.n by.width ys (parted by k i (suc a) P) (parts_from by ((i - 1) * by.width) k (suc a) (suc m) ys))
-          → Done by.round.n by.width xs (parted by (suc k) i a Ls) (parts_from by ((i - 1) * by.width) (suc k) a m xs)
-      go true e y f z g on next = rw (parted, parts_from, ← em, e) (record { answer = refl; arranged = s.known.arranged; tail = refl; long = refl })
-      go false e true f z g on next = rw (parted, parts_from, ← em, e, ← group-same Ls xs s a m em, f) on
-      go false e false f true g on next = rw (parted, parts_from, ← em, e, ← group-same Ls xs s a m em, f, ← em, g) (record { answer = refl; arranged = s.known.arranged; tail = refl; long = refl })
-      go false e false f false g on next =
-          let ml = leb-false by.width m g in
-          let t = next (next-state Ls xs s a m em (leb-false m a e) ml (sym (group-same Ls xs s a m em) ∙ f)) in
-          rw (parted, parts_from, ← em, e, ← group-same Ls xs s a m em, f, ← em, g) (record {
-            answer = t.answer;
-            arranged = t.arranged;
-            tail = t.tail ∙ known-tail by (i - 1) Ls xs s.known a m ml;
-            long = t.long ∙ known-length by (i - 1) Ls xs a m;
-          })
+      abbrev parted : List (Node S V)
+      parted = parted_records by i (suc a) zs
 
--- ---- records that are laid out
-module _ {S V : Type 0} (by : Setting S V) (self : (s : S) → by.rule.same s s ≡ true) (w : 1 ≤ by.width) (later : List (Node S V)) (Ls : Net) (p : Proper by.round.n by.width Ls) where
-  abbrev xs : List (Node S V)
-  xs = labelled_records by Ls ++ later
+      in-net : m ≡ length (get_or r.net (suc (i - 1)) [])
+      in-net = em ∙ count-of by w later (State xs) zs r i (i - 1) back high
 
-  pub laid-fit : by.round.n * by.width + 1 ≤ length xs
-  unfolding labelled_records
-  laid-fit =
-      let e : length Ls * by.width + 1 ≡ by.round.n * by.width + 1 = ap (λ (k : ℕ). k * by.width + 1) p.deep in
-      omega (arith, laid-long by w (first_labels by.rule by.tally) Ls, length-append (labelled_records by Ls) later)
+      next-known : IsLawful by.round.n by.width Ms → State ys Ms
+      next-known p =
+          let k = r.holds.known in
+          let d = i - 1 in
+          let same = known-labels by d r.net xs k a m in
+          let us = part (d * by.width) by.width xs in
+          let vs = part (d * by.width) by.width ys in
+          record {
+            known = record {
+              proper = p;
+              arranged = rw (← r.holds.labelled) (known-parted by d r.net xs k a m in-net al ml);
+              fit = omega (arith, k.fit, known-length by d r.net xs a m);
+              deep = k.deep;
+              stand = stands_same vs us same ∙ k.stand ∙ sym (before-stays by w d a (first_labels by.rule by.tally) r.net);
+            };
+            labelled = downs-same vs us same ∙ r.holds.labelled ∙ sym (labs-stay by w d a (first_labels by.rule by.tally) r.net);
+          }
 
-  laid-arranged : Arranged by.width Ls xs
-  laid-arranged =
-      let e : length Ls * by.width + 1 ≡ by.round.n * by.width + 1 = ap (λ (k : ℕ). k * by.width + 1) p.deep in
-      arranged-of by.width Ls xs (omega (arith, laid-fit)) (ap (λ (k : ℕ). arcs_read (take k xs)) e ∙ written by w later Ls p ∙ ap (laid_arcs by.width) (arcs-laid by w later Ls p))
+      next-at : At ys parted
+      next-at =
+          let q = reached-part by w later self (λ Ls. Unit {0}) i (suc a) (i - 1) a zs back refl high (omega arith) apart (omega arith) (record { net = r.net; well = r.well; is = r.is; holds = tt }) tt in
+          record { net = q.net; well = q.well; is = q.is; holds = next-known q.well }
 
-  module _ (i : ℕ) (low : 1 ≤ i) (high : i < by.round.n) where
-    laid-state : State by self w i low Ls xs
-    laid-state =
-        let q = at-X by self w later (i - 1) Ls p (omega arith) in
-        let N = layer-at by.width by.round.n (i - 1) xs (omega arith) in
-        record {
-          known = record {
-            proper = p;
-            arranged = laid-arranged;
-            fit = laid-fit;
-            deep = omega arith;
-            stand = ap (λ (M : List (Node S V)). length M) (sym N) ∙ q.2;
-          };
-          labelled = ap downs_in (sym N) ∙ q.0;
-        }
+      next-count : suc m ≡ count_of by i parted
+      unfolding next-at
+      next-count = ap suc in-net ∙ sym (after-grows by w (i - 1) a (first_labels by.rule by.tally) r.net (omega (arith, r.holds.known.deep, r.well.deep))) ∙ sym (count-of by w later (State ys) parted next-at i (i - 1) back high)
 
-    laid-count : node_count ((i - 1) * by.width + by.width) by.width xs ≡ count by i Ls
-    laid-count =
-        let back : suc (i - 1) ≡ i = omega arith in
-        count-layer by.round.n by.width xs (i - 1) (omega arith) ∙ ap (λ (j : ℕ). length (layer by.round.n by.width j xs)) back ∙ (at-X by self w later i Ls p high).2
+      next-done : (p q : Bool × List (Node S V)) → Done ys p q → Done xs p q
+      next-done p q t = record {
+        answer = t.answer;
+        left = t.left;
+        tail = t.tail ∙ known-tail by (i - 1) r.net xs r.holds.known a m ml;
+        long = t.long ∙ known-length by (i - 1) r.net xs a m;
+      }
+
+    -- all turns
+    parts-done : (k a m : ℕ) (xs zs : List (Node S V)) → At xs zs → m ≡ count_of by i zs → Done xs (parts_of_layer by k i (suc a) zs) (parts_from by ((i - 1) * by.width) k a m xs)
+    unfolding parts_of_layer parts_from
+    parts-done zero a m xs zs r em = record { answer = refl; left = record { net = r.net; well = r.well; is = r.is; holds = r.holds.known.arranged }; tail = refl; long = refl }
+    parts-done (suc k) a m xs zs r em =
+        let here : (b : Bool) → Done xs (b, zs) (b, xs) = λ b. record { answer = refl; left = record { net = r.net; well = r.well; is = r.is; holds = r.holds.known.arranged }; tail = refl; long = refl } in
+        let next : a < m → m < by.width → oneGroupIn by i (suc a) zs ≡ false
+        → Done xs (parts_of_layer by k i (suc (suc a)) (parted_records by i (suc a) zs)) (parts_from by ((i - 1) * by.width) k (suc a) (suc m) (parted_one by ((i - 1) * by.width) a m xs)) =
+        λ al ml e. next-done xs zs r a m em al ml e _ _ (parts-done k (suc a) (suc m) _ _ (next-at xs zs r a m em al ml e) (next-count xs zs r a m em al ml e)) in
+        let out : ltb (count_of by i zs) (suc a) ≡ leb m a = grind (arith, nat_tests, em) in
+        same_way (Done xs) (ltb (count_of by i zs) (suc a)) (leb m a) _ _ _ _ out (λ e. here false) (λ e.
+        same_way (Done xs) (oneGroupIn by i (suc a) zs) (alike by ((i - 1) * by.width) (suc a) xs) _ _ _ _ (sym (group-same xs zs r a)) (λ f. parts-done k (suc a) m xs zs r em) (λ f.
+        same_way (Done xs) (leb by.width (count_of by i zs)) (leb by.width m) _ _ _ _ (ap (leb by.width) (sym em)) (λ g. here true) (λ g.
+        next (leb-false m a e) (leb-false by.width m g) (sym (group-same xs zs r a) ∙ f))))
+
+    -- ---- records that are laid out
+    module _ (Ls : Net) (p : IsLawful by.round.n by.width Ls) where
+      abbrev laid : List (Node S V)
+      laid = labelled_records by Ls ++ later
+
+      all-long : length Ls * by.width + 1 ≡ by.round.n * by.width + 1
+      all-long = ap (λ (k : ℕ). k * by.width + 1) p.deep
+
+      laid-fit : by.round.n * by.width + 1 ≤ length laid
+      unfolding labelled_records
+      laid-fit = omega (arith, all-long, laid-long by w (first_labels by.rule by.tally) Ls, length-append (labelled_records by Ls) later)
+
+      laid-state : State laid Ls
+      laid-state =
+          let q = at-X by w later (i - 1) Ls p (omega arith) in
+          let N = layer-at by.width by.round.n (i - 1) laid (omega arith) in
+          record {
+            known = record {
+              proper = p;
+              arranged = arranged-of by.width Ls laid (omega (arith, all-long, laid-fit)) (ap (λ (k : ℕ). arcs_read (take k laid)) all-long ∙ written by w later Ls p ∙ ap (laid_arcs by.width) (arcs-X by w later Ls p));
+              fit = laid-fit;
+              deep = omega arith;
+              stand = ap (λ (M : List (Node S V)). length M) (sym N) ∙ q.2;
+            };
+            labelled = ap downs_in (sym N) ∙ q.0;
+          }
+
+      laid-done : by.width ≤ 128 → Done laid (parts_of_layer by by.width i 1 laid) (layer_steps by i laid)
+      unfolding layer_steps
+      laid-done few =
+          let clear : place_check by.round.n by.width (length laid) i ≡ Ok tt = grind (arith, nat_tests, w, few, laid-fit, low, high) in
+          let r : At laid laid = record { net = Ls; well = p; is = refl; holds = laid-state } in
+          rw clear (parts-done by.width 0 (node_count ((i - 1) * by.width + by.width) by.width laid) laid laid r (count-at by.round.n by.width laid i low high))
 
     -- the layer parted
-    pub layer-words : by.width ≤ 128 → Done by.round.n by.width xs (parted by by.width i 0 Ls) (layer_steps by i xs)
-    unfolding layer_steps
-    layer-words few =
-        let clear : place_check by.round.n by.width (length xs) i ≡ Ok tt = grind (arith, nat_tests, w, few, laid-fit, low, high) in
-        rw clear (parts-net by self w i low by.width 0 (node_count ((i - 1) * by.width + by.width) by.width xs) Ls xs laid-state laid-count)
-
--- the same of an answer and records that are what `layer_steps` says
-pub layer-net : {S V : Type 0} (by : Setting S V) (self : (s : S) → by.rule.same s s ≡ true) (i : ℕ) (later : List (Node S V)) (Ls : Net) (xs ys : List (Node S V)) (b : Bool)
-    → 1 ≤ by.width → by.width ≤ 128 → 1 ≤ i → i < by.round.n → Proper by.round.n by.width Ls → xs ≡ labelled_records by Ls ++ later → (b, ys) ≡ layer_steps by i xs → Done by.round.n by.width xs (parted by by.width i 0 Ls) (b, ys)
-layer-net by self i later Ls xs ys b w few low high p is made =
-    subst (Done by.round.n by.width xs (parted by by.width i 0 Ls)) (sym made)
-    (subst (λ (zs : List (Node _ _)). Done by.round.n by.width zs (parted by by.width i 0 Ls) (layer_steps by i zs)) (sym is) (layer-words by self w later Ls p i low high few))
+    pub layer-net : by.width ≤ 128 → (xs : List (Node S V)) → Reached by w later (λ Ls. Unit {0}) xs → Done xs (parts_of_layer by by.width i 1 xs) (layer_steps by i xs)
+    layer-net few xs r = subst (λ (ys : List (Node S V)). Done ys (parts_of_layer by by.width i 1 ys) (layer_steps by i ys)) (sym r.is) (laid-done r.net r.well few)
 
 -- the clause
 pub layer-said : {S V : Type 0} (by : Setting S V) (self : (s : S) → by.rule.same s s ≡ true) (i : ℕ) (xs ys : List (Node S V)) (b : Bool) → (b, ys) ≡ layer_steps by i xs → LayerDone by xs i b ys
 unfolding records_with
-layer-said by self i xs ys b made s stays low high =
-    let Ls = arcs by.round.n by.width xs in
+layer-said {S} {V} by self i xs ys b made s stays low high =
     let later = drop (by.round.n * by.width + 1) xs in
-    let p : Proper by.round.n by.width Ls = shaped-proper by.round by.width xs s.shaped in
-    let w = s.some in
-    let N = parted by by.width i 0 Ls in
-    let d : Done by.round.n by.width xs N (b, ys) = layer-net by self i later Ls xs ys b w s.few low high p (sym stays) made in
-    let done : relabelled by ys ≡ labelled_records by N.1 ++ later =
-    relaid-same by xs ys N.1 (proper-parted by self w by.width i 0 Ls low p) d.arranged d.tail in
-    ap₂ (λ (q : Bool) (zs : List (Node _ _)). (q, zs)) d.answer done
-    ∙ sym (splits-X by self w later by.width i 0 Ls p low high)
-    ∙ ap (parts_of_layer by by.width i 1) stays
+    let r : Reached by s.some later (λ Ls. Unit {0}) xs = record { net = arcs by.round.n by.width xs; well = shaped-proper by.round by.width xs s.shaped; is = sym stays; holds = tt } in
+    let d : Done by s.some later xs (parts_of_layer by by.width i 1 xs) (b, ys) = subst (Done by s.some later xs (parts_of_layer by by.width i 1 xs)) (sym made) (layer-net by s.some later self i low high s.few xs r) in
+    ap₂ (λ (q : Bool) (zs : List (Node S V)). (q, zs)) d.answer (relaid-same by xs ys d.left.net d.left.well d.left.holds d.tail ∙ sym d.left.is)

@@ -2,16 +2,15 @@
 use Rattle.std.proofs.Common.{◌≡◌, ℕ, suc, ◌+◌, ◌-◌, ◌*◌, ◌<◌, ◌≤◌, true, false, List, [], ◌++◌, length, get_or, drop, Ok, is_ok, sym, ap, ◌∙◌, subst, arith}
 use Rattle.std.proofs.lemmas.Bool.Decides.{nat_tests}
 use Rattle.std.proofs.lemmas.Bool.{cond_both}
+use Rattle.layers.specs.Lawful.{IsLawful}
 use Rattle.layers.specs.declared.node.Node.{Node}
 use Rattle.layers.specs.Net.{Net}
 use Rattle.layers.specs.Labels.{all_agree}
 use Rattle.layers.specs.Records.{nodes_in, arcs_in, downs_in, labelled_records}
 use Rattle.layers.specs.Calls.{Outcome, arcs, layer, parted_arcs, records_with, one_group, part_answer, parted_records, after_part, arrivals as arrivalsIn}
 use Rattle.layers.specs.Shape.{IsShaped, IsTimely}
-use Rattle.layers.proofs.Places.{layer-at}
-use Rattle.layers.proofs.Shaped.{relaid-shaped}
-use Rattle.layers.proofs.Timely.{relaid-timely}
-use Rattle.layers.proofs.Proper.{Proper, lawful, proper-parted-at}
+use Rattle.layers.proofs.Shaped.{layer-at, relaid-shaped, relaid-timely}
+use Rattle.layers.proofs.Proper.{proper-parted-at}
 use Rattle.labels.specs.Passes.{part, relabelled}
 use Rattle.labels.proofs.Laying.{Arranged, relabelled-lawful}
 use Rattle.split.specs.Steps.{node_count, alike, parted_one, part_check, part_steps}
@@ -23,10 +22,10 @@ use Rattle.split.proofs.ShapedNet.{known-shaped, count_long, count-at}
 use Rattle.layers.specs.Settings.{Setting}
 
 -- labels worked out anew from the arcs of a net, in a list of which the places after the end stay
-pub relaid-same : {S V : Type 0} (by : Setting S V) (xs ys : List (Node S V)) (Ms : Net) → Proper by.round.n by.width Ms → Arranged by.width Ms ys → drop (by.round.n * by.width + 1) ys ≡ drop (by.round.n * by.width + 1) xs
+pub relaid-same : {S V : Type 0} (by : Setting S V) (xs ys : List (Node S V)) (Ms : Net) → IsLawful by.round.n by.width Ms → Arranged by.width Ms ys → drop (by.round.n * by.width + 1) ys ≡ drop (by.round.n * by.width + 1) xs
     → relabelled by ys ≡ records_with by xs Ms
 unfolding records_with
-relaid-same by xs ys Ms p arr tail = relabelled-lawful by Ms ys (lawful by.round.n by.width Ms p) arr ∙ ap (λ zs. labelled_records by Ms ++ zs) tail
+relaid-same by xs ys Ms p arr tail = relabelled-lawful by Ms ys p arr ∙ ap (λ zs. labelled_records by Ms ++ zs) tail
 
 module _ {S V : Type 0} (by : Setting S V) (i a : ℕ) (xs : List (Node S V)) where
   -- what no refusal tells
@@ -55,7 +54,7 @@ module _ {S V : Type 0} (by : Setting S V) (i a : ℕ) (xs : List (Node S V)) wh
     new N = parted_arcs by (i - 1) (a - 1) (downs_in N) (arcs by.round.n by.width xs)
 
     part-made : ((x : S) → by.rule.same x x ≡ true) → part_check by i a xs ≡ Ok tt
-        → Proper by.round.n by.width (new (layer by.round.n by.width (i - 1) xs)) × (relabelled by (parted_one by ((i - 1) * by.width) (a - 1) (node_count ((i - 1) * by.width + by.width) by.width xs) xs) ≡ records_with by xs (new (layer by.round.n by.width (i - 1) xs)))
+        → IsLawful by.round.n by.width (new (layer by.round.n by.width (i - 1) xs)) × (relabelled by (parted_one by ((i - 1) * by.width) (a - 1) (node_count ((i - 1) * by.width + by.width) by.width xs) xs) ≡ records_with by xs (new (layer by.round.n by.width (i - 1) xs)))
     part-made self e =
         let q = part-clear e in
         let low = q.0.low in
@@ -68,10 +67,10 @@ module _ {S V : Type 0} (by : Setting S V) (i a : ℕ) (xs : List (Node S V)) wh
         let em : m ≡ length (get_or Ls (suc (i - 1)) []) = count_long by.round.n by.width xs (i - 1) (omega arith) in
         let apart : all_agree by.rule _ ≡ false = sym (known_alike by (i - 1) Ls xs k (a - 1)) ∙ ap (λ (t : ℕ). alike by ((i - 1) * by.width) t xs) (sym back) ∙ q.3 in
         let ys = parted_one by ((i - 1) * by.width) (a - 1) m xs in
-        let p : Proper by.round.n by.width (new us) = proper-parted-at by some self (i - 1) (a - 1) (downs_in us) Ls (omega (arith, em, q.1, q.2)) (omega (arith, em, q.4)) apart k.proper in
+        let p : IsLawful by.round.n by.width (new us) = proper-parted-at by some self (i - 1) (a - 1) (downs_in us) Ls (omega (arith, em, q.1, q.2)) (omega (arith, em, q.4)) apart k.proper in
         let made : relabelled by ys ≡ records_with by xs (new us) =
         relaid-same by xs ys (new us) p (known-parted by (i - 1) Ls xs k (a - 1) m em (omega (arith, q.1, q.2)) q.4) (known-tail by (i - 1) Ls xs k (a - 1) m q.4) in
-        subst (λ (N : List (Node S V)). Proper by.round.n by.width (new N) × (relabelled by ys ≡ records_with by xs (new N))) (sym (layer-at by.width by.round.n (i - 1) xs (omega arith))) (p, made)
+        subst (λ (N : List (Node S V)). IsLawful by.round.n by.width (new N) × (relabelled by ys ≡ records_with by xs (new N))) (sym (layer-at by.width by.round.n (i - 1) xs (omega arith))) (p, made)
 
     pub part-words : ((x : S) → by.rule.same x x ≡ true) → part_steps by i a xs ≡ after_part by i a xs
     unfolding part_steps after_part parted_records

@@ -5,8 +5,7 @@ use Rattle.layers.specs.declared.node.Node.{Node}
 use Rattle.layers.specs.Records.{nodes_in, layers, arcs_in, arcs_of_layers}
 use Rattle.layers.specs.Calls.{arcs, layer}
 use Rattle.layers.specs.Shape.{IsShaped}
-use Rattle.layers.proofs.Places.{layer-at}
-use Rattle.layers.proofs.Shaped.{shaped-proper}
+use Rattle.layers.proofs.Shaped.{layer-at, shaped-proper}
 use Rattle.labels.specs.Passes.{part}
 use Rattle.labels.proofs.Shaped_arranged.{shaped-arranged}
 use Rattle.split.specs.Steps.{node_count}

@@ -6,6 +6,7 @@ ghost use Rattle.layers.specs.Calls.{after_open, after_sweep, sweep_answer, afte
 ghost use Rattle.layers.specs.Claim.{ClaimHolds};
 ghost use Rattle.layers.specs.Shape.{IsShaped, IsTimely};
 ghost use Rattle.refine.specs.Answers.{IsInnerIfFull};
+ghost use Rattle.diagram.specs.Answers.{IfRefined};
 ghost use Rattle.diagram.specs.Words.{room_of, round_of, records_of, setting_of};
 
 use super::Diagram;
@@ -154,6 +155,7 @@ impl<'a, 'n, S: Copy, V: Copy> Diagram<'a, 'n, S, V> {
         ensures room { room_of self.new ≡ room_of self.old }
         ensures records { let by = setting_of self.old (R.sense rule.now) (T.sense tally.now) in
             records_of self.new ≡ after_call by call (records_of self.old) }
+        ensures within { IfRefined result (IsInnerIfFull (round_of self.old).n) }
         ensures answer { let by = setting_of self.old (R.sense rule.now) (T.sense tally.now) in
             result ≡ answer_of by call (records_of self.old) }
         ensures lender { self.new.nodes.ghost_name ≡ self.old.nodes.ghost_name }

@@ -17,7 +17,8 @@ impl<'a> Order<'a> {
     /// The minutes at which the doors finish, in their order.
     #[tactic(auto, using(crate::proofs::Times::soon))]
     pub fn finishes(&self, alloc: Global) -> Result<Vec<u32>, AllocError>
-        ensures value { IfOk result (λ v. v.items ≡ finish_minutes self.now.round.now self.now.doors.now) }
+        ensures value { IfOk result
+            (λ v. v.items ≡ finish_minutes self.now.round.now self.now.doors.now) }
         ensures bound { IfOk result (λ v. (k : ℕ) → slice_index v.items k ≤ latest_finish 16) }
     {
         let mut minutes = Vec::new(alloc);

@@ -1,10 +1,8 @@
 //! `Load` is a side rule: a state is an interval, and stands for the part orders whose load lies in it.
 ghost use Rattle.std.specs.Prelude.{◌≡◌, ℕ, pos, ◌+ℤ◌, ◌≤ℤ◌, int_lt};
-ghost use Rattle.std.proofs.Common.{subst};
 ghost use Rattle.round.specs.Tables.{at};
 ghost use Rattle.rules.specs.Loads.{clamped_load, IsWithinCap, LiesBetween, load_sense};
-ghost use Rattle.rules.specs.Rules.{RuleLaws};
-ghost use Rattle.rules.specs.LoadLaws.{load_lawful};
+ghost use Rattle.rules.specs.LoadLaws.{load_lawful, load_lawful_for};
 
 use super::{Interval, Load};
 use crate::rule::Rule;
@@ -46,15 +44,14 @@ impl<'a> Rule for Load<'a> {
 
     ghost serves = { λ r n. r.round.now.n ≡ n };
 
-    ghost sense = { λ r. load_sense r.round.now.n r.round.now.load r.round.now.cap r.round.now.doors };
+    ghost sense = { λ r.
+        load_sense r.round.now.n r.round.now.load r.round.now.cap r.round.now.doors };
 
     ghost keeps = { λ r w. IsWithinCap r.round.now.load r.round.now.cap r.round.now.doors w };
 
     ghost stands = { λ r s w. LiesBetween r.round.now.load r.round.now.doors s w };
 
-    ghost lawful = { λ r n e.
-        subst (λ (m : ℕ). RuleLaws m (load_sense r.round.now.n r.round.now.load r.round.now.cap r.round.now.doors) (IsWithinCap r.round.now.load r.round.now.cap r.round.now.doors) (LiesBetween r.round.now.load r.round.now.doors)) e
-        (load_lawful r.round.now) };
+    ghost lawful = { λ r n e. load_lawful_for r.round.now n e };
 
     ghost reflexive = { λ r s. (load_lawful r.round.now).same_self s };
 

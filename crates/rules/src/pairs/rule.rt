@@ -1,11 +1,9 @@
 //! `Pairs` is a side rule: a state is a set of doors, and stands for the part orders within it.
 ghost use Rattle.std.specs.Prelude.{◌≡◌, ℕ};
-ghost use Rattle.std.proofs.Common.{subst};
 ghost use Rattle.doors.specs.Orders.{StandsIn};
 ghost use Rattle.doors.specs.Sets.{Has};
 ghost use Rattle.rules.specs.Pairs.{IsOrdered, pairs_sense};
-ghost use Rattle.rules.specs.Rules.{RuleLaws};
-ghost use Rattle.rules.specs.PairsLaws.{pairs_lawful};
+ghost use Rattle.rules.specs.PairsLaws.{pairs_lawful, pairs_lawful_for};
 
 use super::Pairs;
 use crate::rule::Rule;
@@ -32,9 +30,7 @@ impl<'a> Rule for Pairs<'a> {
 
     ghost stands = { λ r s w. ((j : ℕ) → StandsIn j w → Has s j) };
 
-    ghost lawful = { λ r n e.
-        subst (λ (m : ℕ). RuleLaws m (pairs_sense r.round.now.n r.round.now.ahead) (IsOrdered r.round.now.ahead) (λ s w. (i : ℕ) → StandsIn i w → Has s i)) e
-        (pairs_lawful r.round.now.n r.round.now.ahead) };
+    ghost lawful = { λ r n e. pairs_lawful_for r.round.now.n r.round.now.ahead n e };
 
     ghost reflexive = { λ r s. (pairs_lawful r.round.now.n r.round.now.ahead).same_self s };
 

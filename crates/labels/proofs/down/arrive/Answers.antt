@@ -7,8 +7,8 @@ use Rattle.labels.proofs.down.arrive.Goals as goal
 pub overflow_cast-finish : goal.overflow_cast-finish
 overflow_cast-finish g c =
     let r = c.args.by.now.round.now in
-    let short : c.leg_from-leg.result ≤ 999 = omega (arith, c.leg_from-leg.ensures, leg-most r c.args.u.now.lasts c.args.j) in
-    let late = c.finish-minute.ensures.laws.bound 15 c.args.u.now.finish c.leg_from-leg.result c.args.j c.requires.finish_bound short in
+    let short : c.args.drive ≤ 999 = omega (arith, leg-most r c.args.u.now.lasts c.args.j) in
+    let late = c.finish-minute.ensures.laws.bound 15 c.args.u.now.finish c.args.drive c.args.j c.requires.finish_bound short in
     let same = c.finish-minute.ensures.value in
     record { fits = omega arith }
 

@@ -1,7 +1,9 @@
-use Rattle.std.proofs.Common.{◌≡◌, take, fold}
+use Rattle.std.proofs.Common.{◌≡◌, drop, fold}
+use Rattle.layers.specs.Records.{nodes_in}
 use Rattle.layers.specs.Settings.{lent_setting}
-use Rattle.labels.specs.Passes.{part, spread}
+use Rattle.labels.specs.Passes.{spread}
 use Rattle.labels.proofs.down.relabel_layer.Given as goal
 
-abbrev pub invariant-loop-a : goal.invariant-loop-a
-invariant-loop-a g l = l.targets ≡ fold (spread (lent_setting l.by (g.R.Rule.sense l.by.rule.now) (g.T.Tally.sense l.by.tally.now))) l.initial.targets (take l.a (part l.from l.by.width l.before))
+-- what is still to come gives what all nodes give
+abbrev pub invariant-loop-u : goal.invariant-loop-u
+invariant-loop-u g l = let f = spread (lent_setting l.by (g.R.Rule.sense l.by.rule.now) (g.T.Tally.sense l.by.tally.now)) in fold f l.vs (nodes_in (drop l.u-index l.us)) ≡ fold f l.initial.vs (nodes_in l.us)

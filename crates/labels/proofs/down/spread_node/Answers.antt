@@ -1,14 +1,10 @@
 use Rattle.std.proofs.Common.{◌≡◌, fold, sym, ap, ◌∙◌, arith}
 use Rattle.layers.specs.Settings.{lent_setting}
 use Rattle.std.specs.List.{range_with_len}
-use Rattle.std.proofs.lemmas.Bool.{eq-eqb, ne_eqb}
+use Rattle.std.proofs.lemmas.Bool.{ne_eqb}
 use Rattle.labels.specs.Passes.{crossed, spread}
 use Rattle.labels.proofs.Folds.{folded-counting}
 use Rattle.labels.proofs.down.spread_node.Goals as goal
-
-pub returns-then-u-eq0 : goal.returns-then-u-eq0
-unfolding spread
-returns-then-u-eq0 g c = let e = eq-eqb _ 0 c.if-u-eq0.true in rw e
 
 pub loop-k-preserved : goal.loop-k-preserved
 loop-k-preserved g c =
@@ -20,5 +16,5 @@ unfolding spread
 returns g c =
     let f = crossed (lent_setting c.args.by.now (g.R.Rule.sense c.args.by.now.rule.now) (g.T.Tally.sense c.args.by.now.tally.now)) c.args.u.now in
     let all : c.loop-k.k ≡ 16 = omega arith in
-    let e = ne_eqb _ 0 c.if-u-eq0.false in
+    let e = ne_eqb _ 0 c.requires.in_use in
     rw e (c.loop-k.invariant ∙ ap (λ k. fold f c.args.vs.now (range_with_len 0 k)) all)

@@ -9,12 +9,12 @@ use Rattle.labels.proofs.relabel.relabel.Goals as goal
 pub label_down-requires : goal.label_down-requires
 label_down-requires g c =
     let f = room-facts _ _ _ (sym c.if-has_room.ensures) in
-    record { one_le_width = f.low; width_bound = f.high; width_in_bounds = omega (arith, f.enough) }
+    record { one_le_width = f.low; width_in_bounds = omega (arith, f.enough) }
 
 pub label_up-requires : goal.label_up-requires
 label_up-requires g c =
-    let f = room-facts _ _ _ (sym c.if-has_room.ensures) in
-    record { one_le_n = omega arith; n_bound = omega arith; width_bound = f.high; width_in_bounds = omega (arith, f.enough) }
+    let f = room-facts c.args.by.now.round.now.n c.args.by.now.width (length c.args.nodes.now) (sym c.if-has_room.ensures) in
+    record { one_le_n = omega arith; width_in_bounds = omega (arith, f.enough) }
 
 pub returns-then-has_room : goal.returns-then-has_room
 unfolding relabelled

@@ -1,4 +1,4 @@
-use Rattle.layers.proofs.Sweeping.{refine-sweeps-out}
+use Rattle.layers.proofs.Wholes.{refine-sweeps-out}
 use Rattle.layers.proofs.claim.refine_sweeps_out.Goals as goal
 
 pub returns : goal.returns

@@ -6,7 +6,7 @@ use Rattle.seek.proofs.Paths.{reached-end, reached-more}
 use Rattle.seek.proofs.row.first_row.Goals as goal
 
 pub loop-k-init : goal.loop-k-init
-loop-k-init g c = record { in_range = omega arith; reached = reached-end c.args.i c.args.j c.args.n c.args.width c.args.nodes.now }
+loop-k-init g c = record { in_range = omega arith; reached = reached-end c.args.i c.args.j c.args.n c.args.width c.args.nodes.now 254 }
 
 pub loop-k-preserved : goal.loop-k-preserved
 loop-k-preserved g c =

@@ -6,8 +6,7 @@ use Rattle.layers.specs.Calls.{after_open, after_calls}
 use Rattle.layers.specs.Claim.{ClaimHolds, WholeSettles}
 use Rattle.layers.specs.SweepLaws.{RefineSweepsOutFrom}
 use Rattle.layers.proofs.Main.{kept}
-use Rattle.layers.proofs.Sweeping.{refine-sweeps-out}
-use Rattle.layers.proofs.Wholes.{whole-settles}
+use Rattle.layers.proofs.Wholes.{whole-settles, refine-sweeps-out}
 use Rattle.labels.specs.Passes.{fits, relabelled}
 use Rattle.diagram.specs.Opening.{every_door, arcs_opened, arced}
 use Rattle.layers.specs.Shape.{IsShaped, IsTimely}

@@ -1,4 +1,4 @@
-use Rattle.layers.proofs.Places.{bound-none, bound_some}
+use Rattle.layers.proofs.Shaped.{bound-none, bound_some}
 use Rattle.diagram.proofs.diagram.asks.end_value.Goals as goal
 
 pub returns-then-end-eq0 : goal.returns-then-end-eq0

@@ -1,0 +1,19 @@
+use Rattle.std.proofs.Common.{◌≡◌, ℕ, ◌+◌, ◌*◌, ◌≤◌, true, length, refl, ◌∙◌, arith}
+use Rattle.std.proofs.lemmas.Bool.{cond-true}
+use Rattle.std.proofs.lemmas.Bool.Decides.{nat_tests}
+use Rattle.seek.specs.Rows.{fits}
+use Rattle.diagram.specs.Musts.{musts}
+use Rattle.diagram.proofs.Musts_each.{musts-each, musts-paths}
+use Rattle.diagram.proofs.diagram.Diagram.musts.Goals as goal
+
+room-for : (n W long : ℕ) → 1 ≤ W → W ≤ 128 → n ≤ 16 → n * W + 1 ≤ long → fits n W long ≡ true
+room-for n W long a b m h = grind (arith, nat_tests)
+
+pub returns : goal.returns
+returns g c =
+    let r = c.args.self.now.room in
+    let n = r.round.now.n in
+    let xs = c.args.self.now.nodes.now in
+    let most : n ≤ 16 = r.round.now.most in
+    let e : c.musts.result ≡ musts n r.width xs = c.musts.ensures ∙ cond-true _ _ _ (room-for n r.width (length xs) r.wide r.narrow most c.args.self.now.fits) in
+    rw e (record { sets = refl; each = musts-each n r.width xs most; paths = musts-paths n r.width xs most })
