@@ -21,7 +21,7 @@ use Rattle.labels.proofs.Rooms.{room-facts}
 use Rattle.labels.proofs.Shaped_arranged.{shaped-arranged, good-net}
 use Rattle.tidying.specs.Tidied.{first_mark}
 use Rattle.tidying.specs.Tidied.{tidied as tidiedFlat}
-use Rattle.tidying.proofs.TidyNet.{tidied-arranged, tidied-tail}
+use Rattle.tidying.proofs.TidyNet.{Standing, tidied-arranged, tidied-tail}
 use Rattle.filter.specs.Steps.{arc_count, redone, filter_steps, sweep_steps}
 use Rattle.filter.specs.Kept.{kept_from}
 use Rattle.filter.proofs.CountNet.{arc-count}
@@ -72,7 +72,7 @@ module _ {S V : Type 0} (r : Round) (W : ℕ) (xs : List (Node S V)) (fit : fits
     pub deep-left : length Ms ≡ r.n
     deep-left = less.deep ∙ proper.deep
 
-    pub left-arranged : Arranged W Ms (kept_from goes W 0 r.n xs)
+    pub left-arranged : Arranged W Ms (kept_from goes W 0 r.n xs) × Standing W Ms (kept_from goes W 0 r.n xs)
     left-arranged = kept-arranged r.n goes W 0 r.n xs (shaped-arranged r W xs enough s) ranged (ended-from r.n W goes r.n xs (ended-one r.n W xs s.ended))
 
 module _ {S V : Type 0} (by : Setting S V) (xs : List (Node S V)) (fit : fits by.round.n by.width (length xs) ≡ true) (s : IsShaped by.round.n by.width xs) (goes : Goes S V) where
@@ -98,7 +98,7 @@ module _ {S V : Type 0} (by : Setting S V) (xs : List (Node S V)) (fit : fits by
       let zs = tidiedFlat W z n first_mark ys in
       let arr : Arranged W (tidied_arcs M) zs =
       subst (λ (k : ℕ). Arranged W (tidied_arcs M) (tidiedFlat W z k first_mark ys)) deep
-      (tidied-arranged W z M ys (room-facts n W (length xs) fit).high (l.wide ∙ (proper by.round W xs fit s).one_first) (good-left by.round W xs fit s goes) refl (left-arranged by.round W xs fit s goes)) in
+      (tidied-arranged W z M ys (room-facts n W (length xs) fit).high (l.wide ∙ (proper by.round W xs fit s).one_first) (good-left by.round W xs fit s goes) refl (left-arranged by.round W xs fit s goes).0 (left-arranged by.round W xs fit s goes).1) in
       let enough' : length M * W + 1 ≡ n * W + 1 = ap (λ (k : ℕ). k * W + 1) deep in
       let rest : drop (n * W) zs ≡ drop (n * W) ys = subst (λ (k : ℕ). drop (k * W) (tidiedFlat W z k first_mark ys) ≡ drop (k * W) ys) deep (tidied-tail W z M ys (omega (arith, enough', t.0, enough))) in
       let later : drop (n * W + 1) zs ≡ drop (n * W + 1) xs = sym (drop-drop 1 (n * W) zs) ∙ ap (drop 1) (rest ∙ t.1) ∙ drop-drop 1 (n * W) xs in

@@ -1,44 +1,120 @@
--- Arcs that stay, layer by layer.
-use Rattle.std.proofs.Common.{◌≡◌, ℕ, suc, ◌+◌, ◌-◌, ◌*◌, ◌≤◌, ◌≢◌, Bool, List, [], ◌∷◌, ◌++◌, map, length, take, drop, Option, sum_by, refl, ap, ◌∙◌, ap₂, zero-mul, arith}
-use lib.Seq.{take-append-add}
-use Rattle.std.proofs.lemmas.List.{length-map, length-take-le}
-use Rattle.std.proofs.lemmas.List.Sums.{sum_by-cons, sum_by-append}
+-- A filter takes out arcs and adds none: none goes exactly if as many are left.
+use Rattle.std.proofs.Common.{◌≡◌, ℕ, zero, suc, ◌+◌, ◌-◌, ◌*◌, ◌<◌, ◌≤◌, ◌≢◌, Bool, true, false, eqb, List, [], ◌∷◌, ◌++◌, map, length, get_or, take, drop, Option, refl, ap, ◌∙◌, arith, take-append-drop, sym}
+use Rattle.std.specs.Cmp.{both_ways}
+use Rattle.std.proofs.lemmas.Bool.{eqb-true, eqb-false, eq-eqb, ne_eqb}
+use Rattle.std.proofs.lemmas.List.{map-append, take_more}
 use Rattle.layers.specs.declared.node.Node.{Node}
-use Rattle.labels.specs.Passes.{part}
-use Rattle.labels.proofs.Rests.{one_more}
-use Rattle.tidying.specs.Counted.{arcs_of, arcs_within}
-use Rattle.tidying.proofs.Targets.{arcs-summed}
 use Rattle.layers.specs.declared.node.Down.{Down}
 use Rattle.layers.specs.declared.node.Up.{Up}
-use Rattle.filter.specs.Kept.{after, kept_node, kept_from}
+use Rattle.layers.specs.Net.{each_door, each_node, count_doors, count_layer}
+use Rattle.layers.specs.Records.{nodes_in}
+use Rattle.layers.specs.Targets.{targets, with_targets, redirected}
+use Rattle.layers.proofs.Counts.{nodes-fewer}
+use Rattle.layers.proofs.Shapes.{each_door-length}
+use Rattle.labels.specs.Passes.{part}
+use Rattle.tidying.specs.Counted.{arcs_of, arcs_within}
+use Rattle.tidying.proofs.InUse.{nodes-first}
+use Rattle.tidying.proofs.Targets.{arcs-append, length-targets, targets_read}
+use Rattle.filter.specs.Kept.{after, kept_to, kept_node, kept_from}
+use Rattle.filter.specs.Steps.{arc_count}
 use Rattle.filter.proofs.Layering.{kept-more}
 
+-- ---- sums that are the same
+pub sums-same : (a b x y : ℕ) → a + y ≡ b + x → eqb a b ≡ eqb x y
+sums-same a b x y e = both_ways (eqb a b) (eqb x y) (λ h. eq-eqb x y (let z = eqb-true a b h in omega arith)) (λ h. eq-eqb a b (let z = eqb-true x y h in omega arith))
+
+pub sums-less : (x y : ℕ) → x < y → false ≡ eqb x y
+sums-less x y lt = sym (ne_eqb x y (λ e. absurd (omega arith)))
+
+-- ---- nodes
 module _ {S V : Type 0} where
-  sum-mapped : (f : Node S V → Node S V) (xs : List (Node S V)) → sum_by arcs_of (map f xs) ≡ sum_by (λ x. arcs_of (f x)) xs
-  sum-mapped f [] = refl
-  sum-mapped f (x ∷ xs) = omega (arith, sum_by-cons arcs_of (f x) (map f xs), sum_by-cons (λ x. arcs_of (f x)) x xs, sum-mapped f xs)
+  one-arcs : (x : Node S V) (xs : List (Node S V)) → arcs_within (x ∷ xs) ≡ arcs_of x + arcs_within xs
+  unfolding arcs_within arcs_of count_layer
+  one-arcs x xs = omega arith
 
-  pub arcs-mapped : (f : Node S V → Node S V) (xs : List (Node S V)) → arcs_within (map f xs) ≡ sum_by (λ x. arcs_of (f x)) xs
-  arcs-mapped f xs = arcs-summed (map f xs) ∙ sum-mapped f xs
+  module _ (f : Node S V → Node S V) (fewer : (x : Node S V) → arcs_of (f x) ≤ arcs_of x) where
+    mapped-fewer : (us : List (Node S V)) → arcs_within (map f us) ≤ arcs_within us
+    mapped-fewer [] = omega arith
+    mapped-fewer (u ∷ us) = omega (arith, one-arcs (f u) (map f us), one-arcs u us, fewer u, mapped-fewer us)
 
-  arcs-append : (xs ys : List (Node S V)) → arcs_within (xs ++ ys) ≡ arcs_within xs + arcs_within ys
-  arcs-append xs ys = omega (arith, arcs-summed (xs ++ ys), arcs-summed xs, arcs-summed ys, sum_by-append arcs_of xs ys)
+    pub less-at : (us : List (Node S V)) (a : ℕ) (d : Node S V) → a < length us → arcs_of (f (get_or us a d)) < arcs_of (get_or us a d) → arcs_within (map f us) < arcs_within us
+    less-at [] a d lt h = absurd (omega arith)
+    less-at (u ∷ us) zero d lt h = omega (arith, one-arcs (f u) (map f us), one-arcs u us, mapped-fewer us, h)
+    less-at (u ∷ us) (suc a) d lt h = omega (arith, one-arcs (f u) (map f us), one-arcs u us, fewer u, less-at us a d (omega arith) h)
 
-  pub arcs-none : (w : ℕ) (xs : List (Node S V)) → arcs_within (take (0 * w) xs) ≡ 0
-  arcs-none w xs = ap (λ (k : ℕ). arcs_within (take k xs)) (zero-mul w) ∙ arcs-summed []
+    pub same-more : (us : List (Node S V)) (a : ℕ) (d : Node S V) → a < length us → arcs_within (map f (take a us)) ≡ arcs_within (take a us) → arcs_of (f (get_or us a d)) ≡ arcs_of (get_or us a d)
+        → arcs_within (map f (take (a + 1) us)) ≡ arcs_within (take (a + 1) us)
+    same-more us a d lt e h =
+        let x = get_or us a d in
+        rw (take_more us a d lt, map-append f (take a us) (x ∷ []))
+        (omega (arith, arcs-append (map f (take a us)) (f x ∷ []), arcs-append (take a us) (x ∷ []), one-arcs (f x) [], one-arcs x [], e, h))
 
-  -- those of the first k + w records, of which p are the first w
-  arcs-both : (p q : List (Node S V)) (w k : ℕ) → length p ≡ w → arcs_within (take (k + w) (p ++ q)) ≡ arcs_within p + arcs_within (take k q)
-  arcs-both p q w k e =
-      let all : k + w ≡ length p + k = omega arith in
-      ap (λ (m : ℕ). arcs_within (take m (p ++ q))) all ∙ ap arcs_within (take-append-add p q k) ∙ arcs-append p (take k q)
+  door-count : (y : Node S V) → arcs_of y ≡ count_doors (targets y)
+  unfolding arcs_of
+  door-count y = refl
 
--- one layer more
-pub kept_more : {S V : Type 0} (goes : ℕ → ℕ → ℕ → Option (Down S V) → Option Up → Bool) (w i left : ℕ) (xs : List (Node S V)) → left ≢ 0 → w ≤ length xs
-    → arcs_within (take (left * w) (kept_from goes w i left xs))
-    ≡ arcs_within (map (kept_node goes i left (part w (after w (left - 1)) xs)) (take w xs)) + arcs_within (take ((left - 1) * w) (kept_from goes w (suc i) (left - 1) (drop w xs)))
-kept_more goes w i left xs ne h =
-    let f = kept_node goes i left (part w (after w (left - 1)) xs) in
-    let rest = kept_from goes w (suc i) (left - 1) (drop w xs) in
-    ap₂ (λ (k : ℕ) (ys : List (Node _ _)). arcs_within (take k ys)) (one_more left w ne) (kept-more goes w i left xs ne)
-    ∙ arcs-both (map f (take w xs)) rest w ((left - 1) * w) (length-map (take w xs) f ∙ length-take-le w xs h)
+doors-fewer : (f : ℕ → ℕ → ℕ) (ts : List ℕ) → count_doors (each_door f 1 ts) ≤ count_doors ts
+unfolding each_node count_layer
+doors-fewer f ts = omega (arith, nodes-fewer (λ a. f) 0 (ts ∷ []))
+
+-- ---- a filter
+module _ {S V : Type 0} (goes : ℕ → ℕ → ℕ → Option (Down S V) → Option Up → Bool) where
+  pub node-fewer : (i h : ℕ) (vs : List (Node S V)) (u : Node S V) → arcs_of (kept_node goes i h vs u) ≤ arcs_of u
+  unfolding kept_node redirected
+  node-fewer i h vs u =
+      let f = kept_to goes i h vs u in
+      let y = with_targets u (each_door f 1 (targets u)) in
+      omega (arith, door-count y, ap count_doors (targets_read y (each_door-length f 1 (targets u) ∙ length-targets u)), door-count u, doors-fewer f (targets u))
+
+  module _ (w i left : ℕ) (xs : List (Node S V)) where
+    abbrev F : Node S V → Node S V
+    F = kept_node goes i left (part w (after w (left - 1)) xs)
+
+    abbrev N : List (Node S V)
+    N = nodes_in (take w xs)
+
+    -- the arcs of the first layer's nodes, of the places after them, and of the layers below
+    whole-parts : arcs_within xs ≡ arcs_within N + arcs_within (drop (length N) (take w xs)) + arcs_within (drop w xs)
+    whole-parts = omega (
+      arith,
+      arcs-append N (drop (length N) (take w xs)),
+      arcs-append (take w xs) (drop w xs),
+      ap arcs_within (take-append-drop w xs),
+      ap arcs_within (ap (λ ys. ys ++ drop (length N) (take w xs)) (sym (nodes-first (take w xs))) ∙ take-append-drop (length N) (take w xs)),
+    )
+
+    kept-parts : left ≢ 0 → arcs_within (kept_from goes w i left xs) ≡ arcs_within (map F N) + arcs_within (drop (length N) (take w xs)) + arcs_within (kept_from goes w (suc i) (left - 1) (drop w xs))
+    kept-parts ne = ap arcs_within (kept-more goes w i left xs ne)
+        ∙ omega (arith, arcs-append (map F N ++ drop (length N) (take w xs)) (kept_from goes w (suc i) (left - 1) (drop w xs)), arcs-append (map F N) (drop (length N) (take w xs)))
+
+  kept-fewer : (w i k : ℕ) (xs : List (Node S V)) → arcs_within (kept_from goes w i k xs) ≤ arcs_within xs
+  kept-fewer w i zero xs = unfold kept_from in omega arith
+  kept-fewer w i (suc k) xs =
+      let n : suc k - 1 ≡ k = omega arith in
+      let later : arcs_within (kept_from goes w (suc i) (suc k - 1) (drop w xs)) ≤ arcs_within (drop w xs) = rw n (kept-fewer w (suc i) k (drop w xs)) in
+      omega (arith, whole-parts w i (suc k) xs, kept-parts w i (suc k) xs (omega arith), mapped-fewer (F w i (suc k) xs) (node-fewer i (suc k) (part w (after w (suc k - 1)) xs)) (N w i (suc k) xs), later)
+
+  module _ (w i left : ℕ) (xs : List (Node S V)) (ne : left ≢ 0) where
+    abbrev later : List (Node S V)
+    later = kept_from goes w (suc i) (left - 1) (drop w xs)
+
+    -- the first layer keeps its arcs: the others decide
+    pub stay-more : (b : Bool) → true ≡ eqb (arcs_within (map (F w i left xs) (N w i left xs))) (arcs_within (N w i left xs)) → b ≡ eqb (arcs_within later) (arcs_within (drop w xs)) → b ≡ eqb (arcs_within (kept_from goes w i left xs)) (arcs_within xs)
+    stay-more b here e = e ∙ sums-same (arcs_within later) (arcs_within (drop w xs)) (arcs_within (kept_from goes w i left xs)) (arcs_within xs)
+        (omega (arith, whole-parts w i left xs, kept-parts w i left xs ne, eqb-true (arcs_within (map (F w i left xs) (N w i left xs))) (arcs_within (N w i left xs)) (sym here)))
+
+    pub stay-less : false ≡ eqb (arcs_within (map (F w i left xs) (N w i left xs))) (arcs_within (N w i left xs)) → false ≡ eqb (arcs_within (kept_from goes w i left xs)) (arcs_within xs)
+    stay-less here = sums-less (arcs_within (kept_from goes w i left xs)) (arcs_within xs)
+        (omega (
+          arith,
+          whole-parts w i left xs,
+          kept-parts w i left xs ne,
+          kept-fewer w (suc i) (left - 1) (drop w xs),
+          mapped-fewer (F w i left xs) (node-fewer i left (part w (after w (left - 1)) xs)) (N w i left xs),
+          eqb-false (arcs_within (map (F w i left xs) (N w i left xs))) (arcs_within (N w i left xs)) (sym here),
+        ))
+
+-- the arcs of a diagram, and of what stands after its layers
+pub count-whole : {S V : Type 0} (n W : ℕ) (xs : List (Node S V)) → arcs_within xs ≡ arc_count n W xs + arcs_within (drop (n * W) xs)
+unfolding arc_count
+count-whole n W xs = ap arcs_within (sym (take-append-drop (n * W) xs)) ∙ arcs-append (take (n * W) xs) (drop (n * W) xs)

@@ -1,18 +1,24 @@
 -- Taking out arcs on the flat list comes to taking them out of the net.
-use Rattle.std.proofs.Common.{◌≡◌, ℕ, zero, suc, ◌+◌, ◌*◌, ◌<◌, ◌≤◌, Bool, cond, List, [], ◌++◌, map, length, get_or, take, drop, Some, None, Option, sym, refl, ap, ◌∙◌, subst, ap₂, suc-mul, arith}
+use Rattle.std.proofs.Common.{◌≡◌, ℕ, zero, suc, ◌+◌, ◌*◌, ◌<◌, ◌≤◌, Bool, cond, List, [], ◌∷◌, ◌++◌, map, length, get_or, take, drop, Some, None, Option, sym, refl, ap, ◌∙◌, subst, ap₂, suc-mul, arith, take-append-drop}
 use Rattle.std.proofs.lemmas.Bool.{lt-ltb}
-use Rattle.std.proofs.lemmas.List.{get_or-map, length-map, take_at, drop_at, drop-drop, length-append, length-drop, length-take-le}
+use Rattle.std.proofs.lemmas.List.{get_or-drop, get_or-map, get_or_past, length-map, map-append, take_at, drop_at, drop-drop, length-append, length-drop, length-take-le}
+use Rattle.layers.specs.declared.node.Arcs.{Arcs}
 use Rattle.layers.specs.declared.node.Down.{Down}
 use Rattle.layers.specs.declared.node.Node.{Node}
 use Rattle.layers.specs.declared.node.Up.{Up}
-use Rattle.layers.specs.Net.{table, Layer, Net, node, target, width, redirect}
-use Rattle.layers.specs.Records.{nodes_in, layers, arcs_in, downs_in, ups_in, arcs_of_layers, arcs_at}
+use Rattle.layers.specs.Net.{table, Layer, Net, node, target, width, redirect, each_door}
+use Rattle.layers.specs.Records.{nodes_in, layers, arcs_in, downs_in, ups_in, arcs_of_layers, arcs_at, padded_targets}
+use Rattle.layers.specs.Targets.{redirected}
 use Rattle.layers.specs.Calls.{kept_arcs, labels_in}
 use Rattle.layers.proofs.Shaped.{standing-at, standing-short, drawn-deep}
 use Rattle.layers.proofs.Proper.{RangedAll}
+use Rattle.layers.proofs.Tied.{redirect-length}
 use Rattle.labels.specs.Passes.{part}
 use Rattle.labels.proofs.Laying.{Arranged, arcs_of}
-use Rattle.labels.proofs.RedirectNet.{redirect-arranged, arranged-long}
+use Rattle.labels.proofs.RedirectNet.{redirect-arranged, arranged-long, arcs-arranged, redirected-arcs, targets-is}
+use Rattle.tidying.specs.InUse.{on_nodes}
+use Rattle.tidying.proofs.InUse.{nodes-first, mapped-long, mapped-nodes}
+use Rattle.tidying.proofs.TidyNet.{Standing}
 use Rattle.filter.specs.Kept.{after, kept_to, kept_node, kept_from}
 
 module _ {S V : Type 0} (n : ℕ) where
@@ -35,12 +41,39 @@ module _ {S V : Type 0} (n : ℕ) (goes : ℕ → ℕ → ℕ → Option (Down S
   abbrev Left : ℕ → ℕ → List (Node S V) → List (Node S V) → ℕ → ℕ → ℕ → ℕ
   Left i h us vs a j b = cond (goes i h j (get_or (downs_in (nodes_in us)) a None) (get_or (ups_in (nodes_in vs)) b None)) 0 (suc b)
 
+  -- a record without arcs has none to lose
+  bare-kept : (i h : ℕ) (vs q : List (Node S V)) → ((k : ℕ) (d : Node S V) → k < length q → (get_or q k d).arcs ≡ arcs_at [] 0) → map arcs_of q ≡ map arcs_of (map (kept_node goes i h vs) q)
+  unfolding kept_node kept_to each_door
+  bare-kept i h vs [] none = refl
+  bare-kept i h vs (x ∷ q) none =
+      let f = kept_to goes i h vs x in
+      let e = none 0 x (omega arith) in
+      let kept : (redirected f x).arcs ≡ arcs_at [] 0 = redirected-arcs f x ∙ ap (λ (ts : List ℕ). record { to = each_door f 1 ts }) (targets-is x [] (ap (λ (y : Arcs). y.to) e)) in
+      ap₂ (λ (y : Arcs) (ys : List Arcs). y ∷ ys) (e ∙ sym kept) (bare-kept i h vs q (λ k d lt. none (suc k) d (omega arith)))
+
+  -- so it is as if a pass went over the places that are not in use too
+  unused-kept : (i h : ℕ) (us vs : List (Node S V)) → map arcs_of us ≡ table W (arcs_at (arcs_in n (nodes_in us))) → map arcs_of (on_nodes (map (kept_node goes i h vs)) us) ≡ map arcs_of (map (kept_node goes i h vs) us)
+  unused-kept i h us vs e =
+      let f = kept_node goes i h vs in
+      let N = nodes_in us in
+      let q = drop (length N) us in
+      let none : (k : ℕ) (d : Node S V) → k < length q → (get_or q k d).arcs ≡ arcs_at [] 0 = λ k d lt.
+      let at = length N + k in
+      ap arcs_of (get_or-drop (length N) us k d)
+      ∙ arcs-arranged W (arcs_in n N) us at d e (omega (arith, length-drop (length N) us, arranged-long W (arcs_in n N) us e))
+      ∙ ap (λ (nd : List ℕ). record { to = padded_targets nd }) (get_or_past (arcs_in n N) at [] (omega (arith, arcs-many n N))) in
+      map-append arcs_of (map f N) q
+      ∙ ap (λ ys. map arcs_of (map f N) ++ ys) (bare-kept i h vs q none)
+      ∙ sym (map-append arcs_of (map f N) (map f q))
+      ∙ ap (map arcs_of) (sym (map-append f N q) ∙ ap (map f) (ap (λ ys. ys ++ q) (sym (nodes-first us)) ∙ take-append-drop (length N) us))
+
   kept_row : (i h : ℕ) (us vs : List (Node S V)) → length (arcs_in n (nodes_in us)) ≤ W → map arcs_of us ≡ table W (arcs_at (arcs_in n (nodes_in us)))
       → ((a j b : ℕ) → target (node (arcs_in n (nodes_in us)) a) j ≡ suc b → b < length (nodes_in vs))
-      → map arcs_of (map (kept_node goes i h vs) us) ≡ table W (arcs_at (redirect (Left i h us vs) (arcs_in n (nodes_in us))))
+      → map arcs_of (on_nodes (map (kept_node goes i h vs)) us) ≡ table W (arcs_at (redirect (Left i h us vs) (arcs_in n (nodes_in us))))
   unfolding kept_node kept_to
   kept_row i h us vs fits e g =
-      redirect-arranged W (arcs_in n (nodes_in us)) us (kept_to goes i h vs) (Left i h us vs) fits e
+      unused-kept i h us vs e
+      ∙ redirect-arranged W (arcs_in n (nodes_in us)) us (kept_to goes i h vs) (Left i h us vs) fits e
       (λ d a j b k t. let lt = g a j b t in
       rw (lt-ltb b (length vs) (omega (arith, standing-short vs)))
       (ap₂ (λ (x : Option (Down S V)) (y : Option Up). cond (goes i h j x y) 0 (suc b))
@@ -67,27 +100,36 @@ module _ {S V : Type 0} (n : ℕ) (goes : ℕ → ℕ → ℕ → Option (Down S
   abbrev pub Filtered : ℕ → ℕ → List (Node S V) → Net
   Filtered i k xs = kept_arcs goes i (arcs_of_layers n (layers W k xs)) (labels_in (layers W k xs))
 
+  -- and as many places are in use
+  row-stands : (i h : ℕ) (us vs ys : List (Node S V)) (f : ℕ → ℕ → ℕ → ℕ) → ys ≡ on_nodes (map (kept_node goes i h vs)) us → length (redirect f (arcs_in n (nodes_in us))) ≤ length (nodes_in ys)
+  unfolding kept_node
+  row-stands i h us vs ys f e =
+      let kept = ap (λ (zs : List (Node S V)). length (nodes_in zs)) e ∙ mapped-nodes (kept_node goes i h vs) (λ x. unfold redirected in refl) us in
+      omega (arith, kept, redirect-length f (arcs_in n (nodes_in us)), arcs-many n (nodes_in us))
+
   pub kept-arranged : (i k : ℕ) (xs : List (Node S V)) → Arranged W (arcs_of_layers n (layers W k xs)) xs → RangedAll (arcs_of_layers n (layers W k xs)) → EndedFrom k xs
-      → Arranged W (Filtered i k xs) (kept_from goes W i k xs)
+      → Arranged W (Filtered i k xs) (kept_from goes W i k xs) × Standing W (Filtered i k xs) (kept_from goes W i k xs)
   unfolding kept_arcs kept_from
-  kept-arranged i zero xs e g s = e
+  kept-arranged i zero xs e g s = (e, tt)
   kept-arranged i (suc zero) xs e g s =
       let us = take W xs in
       let vs = take 1 (drop W xs) in
       let L = arcs_in n (nodes_in us) in
       let row = kept_row i 1 us vs (row-short us L e.0) e.0 (λ a j b t. let z = s a j b t in let y = g.0 a j b t in omega arith) in
-      let f = front-row (map (kept_node goes i 1 vs) us) (drop W xs) _ row in
-      (ap (map arcs_of) f.0 ∙ row, subst (Arranged W []) (sym f.1) e.1)
+      let f = front-row (on_nodes (map (kept_node goes i 1 vs)) us) (drop W xs) _ row in
+      ((ap (map arcs_of) f.0 ∙ row, subst (Arranged W []) (sym f.1) e.1), (row-stands i 1 us vs _ (Left i 1 us vs) f.0, tt))
   kept-arranged i (suc (suc k)) xs e g s =
       let us = take W xs in
       let vs = take W (drop W xs) in
       let L = arcs_in n (nodes_in us) in
       let row = kept_row i (suc (suc k)) us vs (row-short us L e.0) e.0 (λ a j b t. let y = g.0 a j b t in omega (arith, row-wide k (drop W xs))) in
       let rest = kept_from goes W (suc i) (suc k) (drop W xs) in
-      let f = front-row (map (kept_node goes i (suc (suc k)) vs) us) rest _ row in
-      let h : suc (suc k) ≡ suc (length (arcs_of_layers n (layers W (suc k) (drop W xs)))) = ap suc (sym (drawn-deep n W (suc k) (drop W xs))) in (
-        ap (map arcs_of) f.0 ∙ row ∙ ap (λ (h : ℕ). table W (arcs_at (redirect (Left i h us vs) L))) h,
-        subst (Arranged W (Filtered (suc i) (suc k) (drop W xs))) (sym f.1) (kept-arranged (suc i) (suc k) (drop W xs) e.1 g.1 s),
+      let f = front-row (on_nodes (map (kept_node goes i (suc (suc k)) vs)) us) rest _ row in
+      let later = kept-arranged (suc i) (suc k) (drop W xs) e.1 g.1 s in
+      let deep = length (arcs_of_layers n (layers W (suc k) (drop W xs))) in
+      let h : suc (suc k) ≡ suc deep = ap suc (sym (drawn-deep n W (suc k) (drop W xs))) in (
+        (ap (map arcs_of) f.0 ∙ row ∙ ap (λ (h : ℕ). table W (arcs_at (redirect (Left i h us vs) L))) h, subst (Arranged W (Filtered (suc i) (suc k) (drop W xs))) (sym f.1) later.0),
+        (row-stands i (suc (suc k)) us vs _ (Left i (suc deep) us vs) f.0, subst (Standing W (Filtered (suc i) (suc k) (drop W xs))) (sym f.1) later.1),
       )
 
   -- what follows the layers stays
@@ -97,10 +139,11 @@ module _ {S V : Type 0} (n : ℕ) (goes : ℕ → ℕ → ℕ → Option (Down S
   kept-tail i (suc k) xs h =
       let us = take W xs in
       let f = kept_node goes i (suc k) (part W (after W k) xs) in
+      let row = on_nodes (map f) us in
       let rest = kept_from goes W (suc i) k (drop W xs) in
       let e : suc k * W ≡ W + k * W = omega (arith, suc-mul k W) in
-      let long : length (map f us) ≡ W = length-map us f ∙ length-take-le W xs (omega (arith, e)) in
+      let long : length row ≡ W = mapped-long f us ∙ length-take-le W xs (omega (arith, e)) in
       let ih = kept-tail (suc i) k (drop W xs) (omega (arith, e, length-drop W xs)) in (
-        omega (arith, e, length-append (map f us) rest, long, ih.0, length-drop W xs),
-        ap (λ (m : ℕ). drop m (map f us ++ rest)) e ∙ sym (drop-drop (k * W) W (map f us ++ rest)) ∙ ap (drop (k * W)) (drop_at (map f us) rest W long) ∙ ih.1 ∙ drop-drop (k * W) W xs ∙ ap (λ (m : ℕ). drop m xs) (sym e),
+        omega (arith, e, length-append row rest, long, ih.0, length-drop W xs),
+        ap (λ (m : ℕ). drop m (row ++ rest)) e ∙ sym (drop-drop (k * W) W (row ++ rest)) ∙ ap (drop (k * W)) (drop_at row rest W long) ∙ ih.1 ∙ drop-drop (k * W) W xs ∙ ap (λ (m : ℕ). drop m xs) (sym e),
       )

@@ -6,15 +6,16 @@ use Rattle.layers.specs.declared.node.Down.{Down}
 use Rattle.layers.specs.declared.node.Up.{Up}
 use Rattle.labels.specs.Passes.{part}
 use Rattle.labels.proofs.Rests.{one_more}
+use Rattle.tidying.specs.InUse.{on_nodes}
 use Rattle.filter.specs.Kept.{after, kept_node, kept_from}
 
 pub kept-more : {S V : Type 0} (goes : ℕ → ℕ → ℕ → Option (Down S V) → Option Up → Bool) (w i left : ℕ) (xs : List (Node S V)) → left ≢ 0
-    → kept_from goes w i left xs ≡ map (kept_node goes i left (part w (after w (left - 1)) xs)) (take w xs) ++ kept_from goes w (suc i) (left - 1) (drop w xs)
+    → kept_from goes w i left xs ≡ on_nodes (map (kept_node goes i left (part w (after w (left - 1)) xs))) (take w xs) ++ kept_from goes w (suc i) (left - 1) (drop w xs)
 unfolding kept_from
 kept-more goes w i zero xs ne = absurd (ne (omega arith))
 kept-more goes w i (suc k) xs ne =
     let e : k ≡ suc k - 1 = omega arith in
-    ap (λ (m : ℕ). map (kept_node goes i (suc k) (part w (after w m) xs)) (take w xs) ++ kept_from goes w (suc i) m (drop w xs)) e
+    ap (λ (m : ℕ). on_nodes (map (kept_node goes i (suc k) (part w (after w m) xs))) (take w xs) ++ kept_from goes w (suc i) m (drop w xs)) e
 
 after_one : (w k : ℕ) → k ≡ 0 → after w k ≡ 1
 after_one w k e = ap (after w) e
@@ -49,3 +50,8 @@ all-both P (suc w) m (x ∷ xs) h =
 
 pub all-layers : {X : Type 0} (P : X → Type 0) (w left : ℕ) (xs : List X) → left ≢ 0 → All P (take (left * w) xs) → All P (take w xs) × All P (take ((left - 1) * w) (drop w xs))
 all-layers P w left xs ne h = all-both P w ((left - 1) * w) xs (subst (λ (k : ℕ). All P (take k xs)) (omega (arith, one_more left w ne)) h)
+
+pub all-first : {X : Type 0} (P : X → Type 0) (k : ℕ) (xs : List X) → All P xs → All P (take k xs)
+all-first P zero xs h = tt
+all-first P (suc k) [] h = tt
+all-first P (suc k) (x ∷ xs) h = (h.0, all-first P k xs h.1)

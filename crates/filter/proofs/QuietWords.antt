@@ -17,5 +17,5 @@ pub quiet-words : {S V : Type 0} (r : Round) (R : RuleSense S) (W : ℕ) (xs : L
 unfolding quiet_steps
 quiet-words {S} {V} r R W xs fit s =
     let goes = is_barred {S = S} {V = V} r R in
-    ap₂ eqb (arc-count W r.n (Ms r W xs fit s goes) (kept_from goes W 0 r.n xs) (deep-left r W xs fit s goes) (good-left r W xs fit s goes) (left-arranged r W xs fit s goes)) (shaped-count r W xs fit s)
+    ap₂ eqb (arc-count W r.n (Ms r W xs fit s goes) (kept_from goes W 0 r.n xs) (deep-left r W xs fit s goes) (good-left r W xs fit s goes) (left-arranged r W xs fit s goes).0) (shaped-count r W xs fit s)
     ∙ kept-same goes 0 (arcs r.n W xs) (labels r.n W xs)

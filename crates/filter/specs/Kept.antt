@@ -1,4 +1,4 @@
--- The arcs that a filter leaves, before tidying, by the labels that stand: w records to a layer of any list, the end after the last.
+-- The arcs that a filter leaves, before tidying, by the labels that stand: w records to a layer of any list, its nodes the places in use, the end after the last.
 -- Nobody has to believe these steps: `words` of sweep, cut and quiet say what they come to on the records of a diagram.
 use Rattle.std.specs.Prelude.{ℕ, zero, suc, Bool, if◌then◌else◌, List, ◌++◌, map, length, take, drop, Some, None, Option, bit_or, count_ones, nat_lt, slice_index_or}
 use Rattle.layers.specs.declared.node.Node.{Node}
@@ -8,6 +8,7 @@ use Rattle.layers.specs.Labels.{bit_of}
 use Rattle.layers.specs.Records.{ups_in}
 use Rattle.layers.specs.Targets.{redirected}
 use Rattle.labels.specs.Passes.{part}
+use Rattle.tidying.specs.InUse.{on_nodes}
 
 -- how many records follow a layer, with k layers of arcs after it: after the last there is the end alone
 abbrev pub after : ℕ → ℕ → ℕ
@@ -37,4 +38,4 @@ module _ {S V : Type 0} (goes : ℕ → ℕ → ℕ → Option (Down S V) → Op
   unfoldable pub kept_from : ℕ → ℕ → ℕ → List (Node S V) → List (Node S V)
   unfolding kept_node
   kept_from w i zero xs = xs
-  kept_from w i (suc k) xs = map (kept_node i (suc k) (part w (after w k) xs)) (take w xs) ++ kept_from w (suc i) k (drop w xs)
+  kept_from w i (suc k) xs = on_nodes (map (kept_node i (suc k) (part w (after w k) xs))) (take w xs) ++ kept_from w (suc i) k (drop w xs)

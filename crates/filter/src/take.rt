@@ -2,10 +2,12 @@
 ghost use Rattle.std.specs.Prelude.{◌≡◌, ◌+◌, ◌-◌, ◌*◌, ◌<◌, ◌≤◌, map, length, take, slice_index};
 ghost use Rattle.std.specs.List.{AllByRecursion};
 ghost use Rattle.layers.specs.Targets.{at_door};
+ghost use Rattle.tidying.specs.Counted.{arcs_of, arcs_within};
 ghost use Rattle.filter.specs.Kept.{HasLabel, after, kept_to, kept_node, kept_from};
 
 use crate::test::Test;
-use layers::node::{Arcs, Node};
+use layers::node::Node;
+use tidying::count::count_nodes;
 
 /// A layer that is filtered: the test, the layer's number, how many layers of arcs there are from it to the end, and the layer
 /// after it.
@@ -36,10 +38,10 @@ fn door_left<F: Test>(
     if t == 0 || t > at.next.len() {
         return 0;
     }
-    let v = at.next[t - 1];
+    let up = &at.next[t - 1].label.up;
     if at
         .test
-        .takes_out(at.layer, at.left, k + 1, &u.label.down, &v.label.up)
+        .takes_out(at.layer, at.left, k + 1, &u.label.down, up)
     {
         0
     } else {
@@ -47,37 +49,51 @@ fn door_left<F: Test>(
     }
 }
 
-pub(crate) fn node_left<F: Test>(
+/// Takes out the arcs of u that go, and answers how many.
+pub(crate) fn thin_node<F: Test>(
     at: &Step<'_, F, F::State, F::Value>,
-    u: &Node<F::State, F::Value>,
-) -> Node<F::State, F::Value>
+    u: &mut Node<F::State, F::Value>,
+) -> usize
     requires layer_bound { at.now.layer ≤ 16 }
     requires left_bound { at.now.left ≤ 16 }
-    requires fits { F.fits at.now.test.now u.now.label.down }
-    ensures { let goes = F.goes at.now.test.now in
-        result ≡ kept_node goes at.now.layer at.now.left at.now.next.now u.now }
+    requires fits { F.fits at.now.test.now u.old.label.down }
+    ensures left { let goes = F.goes at.now.test.now in
+        u.new ≡ kept_node goes at.now.layer at.now.left at.now.next.now u.old }
+    ensures gone { result + arcs_of u.new ≡ arcs_of u.old }
+    ensures few { result ≤ 16 }
 {
     let mut to = [0u8; 16];
+    let mut gone = 0;
     for k in 0..16 {
-        to[k] = door_left(at, u, k);
+        let left = door_left(at, u, k);
+        to[k] = left;
+        if left != u.arcs.to[k] {
+            gone += 1;
+        }
     }
-    Node {
-        arcs: Arcs { to },
-        label: u.label,
-    }
+    u.arcs.to = to;
+    gone
 }
 
-/// The layer us.
-fn take_out<F: Test>(at: &Step<'_, F, F::State, F::Value>, us: &mut [Node<F::State, F::Value>])
+/// Takes out the arcs of the nodes us of a layer that go, and answers how many.
+fn thin_nodes<F: Test>(
+    at: &Step<'_, F, F::State, F::Value>,
+    us: &mut [Node<F::State, F::Value>],
+) -> usize
     requires layer_bound { at.now.layer ≤ 16 }
     requires left_bound { at.now.left ≤ 16 }
+    requires us_bound { length us.old ≤ 128 }
     requires fits { AllByRecursion (HasLabel (F.fits at.now.test.now)) us.old }
-    ensures { let goes = F.goes at.now.test.now in
+    ensures left { let goes = F.goes at.now.test.now in
         us.new ≡ map (kept_node goes at.now.layer at.now.left at.now.next.now) us.old }
+    ensures gone { result + arcs_within us.new ≡ arcs_within us.old }
+    ensures few { result ≤ 16 * length us.old }
 {
+    let mut gone = 0;
     for u in us.iter_mut() {
-        *u = node_left(at, u);
+        gone += thin_node(at, u);
     }
+    gone
 }
 
 /// How many records follow a layer of w, with `later` layers of arcs after it: after the last there is the end alone.
@@ -87,21 +103,24 @@ pub(crate) fn next_count(w: usize, later: usize) -> usize
     if later == 0 { 1 } else { w }
 }
 
-/// Takes out each arc that goes, from a layer on, with `left` layers of arcs from it to the end.
+/// Takes out each arc that goes, from a layer on, with `left` layers of arcs from it to the end, and answers how many.
 pub(crate) fn take_from<F: Test>(
     test: &F,
     layer: usize,
     left: usize,
     nodes: &mut [Node<F::State, F::Value>],
     w: usize,
-)
+) -> usize
     requires layer_bound { layer + left ≤ 16 }
     requires w_in_bounds { left * w < length nodes.old }
+    requires w_bound { w ≤ 128 }
     requires fits { AllByRecursion (HasLabel (F.fits test.now)) (take (left * w) nodes.old) }
-    ensures { nodes.new ≡ kept_from (F.goes test.now) w layer left nodes.old }
+    ensures left { nodes.new ≡ kept_from (F.goes test.now) w layer left nodes.old }
+    ensures gone { result + arcs_within nodes.new ≡ arcs_within nodes.old }
+    ensures few { result ≤ 16 * (left * w) }
 {
     if left == 0 {
-        return;
+        return 0;
     }
     let m = next_count(w, left - 1);
     let (us, rest) = nodes.split_at_mut(w);
@@ -112,6 +131,8 @@ pub(crate) fn take_from<F: Test>(
         left,
         next,
     };
-    take_out(&at, us);
-    take_from(test, layer + 1, left - 1, rest, w);
+    let many = count_nodes(us);
+    let here = thin_nodes(&at, &mut us[..many]);
+    let later = take_from(test, layer + 1, left - 1, rest, w);
+    here + later
 }

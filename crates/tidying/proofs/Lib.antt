@@ -1,3 +1,4 @@
+pub mod InUse
 mod Lists
 mod Marks
 mod Numbers

@@ -1,21 +1,23 @@
 -- Tidying records with the arcs of a net leaves records with the arcs of the tidied net
-use Rattle.std.proofs.Common.{◌≡◌, ℕ, zero, suc, ◌-◌, ◌*◌, ◌<◌, ◌≤◌, Bool, true, false, if◌then◌else◌, ◌⊎◌, List, [], ◌∷◌, length, get_or, take, drop, replicate, filter, Some, None, Option, sym, refl, ap, ◌∙◌, subst, ap₂, inl, inr, suc-mul, arith}
+use Rattle.std.proofs.Common.{◌≡◌, ℕ, zero, suc, ◌*◌, ◌<◌, ◌≤◌, Bool, true, false, if◌then◌else◌, ◌⊎◌, List, [], ◌∷◌, length, get_or, take, drop, replicate, Some, None, Option, sym, refl, ap, ◌∙◌, subst, ap₂, inl, inr, suc-mul, arith}
 use Rattle.std.proofs.lemmas.Bool.{false_from_ne_true, true_from_ne_false, true≢false}
 use Rattle.std.proofs.lemmas.Bool.Decides.{same_from_decides}
-use Rattle.std.proofs.lemmas.List.{length-drop, length-take}
+use Rattle.std.proofs.lemmas.List.{length-drop}
 use Rattle.layers.specs.declared.node.Node.{Node}
 use Rattle.layers.specs.Net.{Outs, Layer, Net, node, target, width, redirect}
 use Rattle.layers.specs.Flow.{up}
 use Rattle.layers.specs.Tidy.{Mark, marks_next, marks_up, flags, rank, compress, renumber, tidy, tidied_arcs as tidiedNet}
+use Rattle.layers.specs.Records.{nodes_in}
 use Rattle.layers.specs.Targets.{targets}
 use Rattle.layers.proofs.Flows.{rank-zero, has-arc, redirect-arc, mark-next, flags-at, renumber-at}
 use Rattle.layers.proofs.Tied.{flags-back, redirect-back, redirect-length, marked_from, climbs, climbs-from}
-use Rattle.tidying.specs.Tidied.{lively, reached_next, together, numbers, tidied, first_mark}
+use Rattle.tidying.specs.Tidied.{lively, reached_next, numbers, tidied, first_mark}
 use Rattle.tidying.specs.Paths.{Bare}
-use Rattle.tidying.proofs.Lists.{get_or-blank, get_or-filled, zero-or-suc}
+use Rattle.tidying.proofs.InUse.{nodes-few}
+use Rattle.tidying.proofs.Lists.{get_or-blank, zero-or-suc}
 use Rattle.tidying.proofs.Kept.{compress-one, kept-rank, kept-targets}
 use Rattle.tidying.proofs.Marks.{On, reached-on, on-reached, set-on}
-use Rattle.tidying.proofs.Renewed.{dead, arc-in, renewed-layer, renewed-sent, renewed-live, numbers-zero, number-is}
+use Rattle.tidying.proofs.Renewed.{dead, arc-in, renewed-layer, renewed-sent, renewed-live, numbers-zero, number-is, block-nodes}
 use Rattle.tidying.proofs.Steps.{block, front, back}
 use Rattle.tidying.proofs.Targets.{lively-from}
 
@@ -43,9 +45,9 @@ module _ {S V : Type 0} (w : ℕ) (z : Node S V) (bare : Bare z) (small : w < 25
     back : (a : ℕ) → get_or fr a None ≡ Some tt → a < w → On from (suc a)
 
   -- ---- one layer
-  module _ (L : Layer) (Ls : Net) (from : List Bool) (fr : List (Option Mark)) (xs : List (Node S V)) (like : (a : ℕ) → On from (suc a) ⊎ (a < length L) → Like (get_or (take w xs) a z) (node L a)) (same : Agree (length L) from fr) where
+  module _ (L : Layer) (Ls : Net) (from : List Bool) (fr : List (Option Mark)) (xs : List (Node S V)) (like : (a : ℕ) → On from (suc a) ⊎ (a < length L) → Like (get_or (nodes_in (take w xs)) a z) (node L a)) (same : Agree (length L) from fr) where
     abbrev us : List (Node S V)
-    us = take w xs
+    us = nodes_in (take w xs)
 
     abbrev fr' : List (Option Mark)
     fr' = marks_next fr L (width Ls)
@@ -55,7 +57,7 @@ module _ {S V : Type 0} (w : ℕ) (z : Node S V) (bare : Bare z) (small : w < 25
 
     source : (a j b : ℕ) → target (node L a) j ≡ suc b → get_or fr a None ≡ Some tt → On from (suc a)
     source a zero b e m = absurd (omega arith)
-    source a (suc k) b e m = same.back a m (omega (arith, (arc-in w z bare small us a k b (arc-from a k b e)).0, length-take w xs))
+    source a (suc k) b e m = same.back a m (omega (arith, (arc-in w z bare small us a k b (arc-from a k b e)).0, nodes-few w xs))
 
     mark-over : (a k b : ℕ) → On from (suc a) → target (node L a) (suc k) ≡ suc b → b < width Ls → get_or fr' b None ≡ Some tt
     mark-over a k b on e lt = mark-next fr L (width Ls) a (suc k) b e (same.to a on (has-arc L a (suc k) b e)) lt
@@ -136,14 +138,13 @@ module _ {S V : Type 0} (w : ℕ) (z : Node S V) (bare : Bare z) (small : w < 25
       unfolding renumber
       number-flag a = number-is w z bare small (length Ls) from xs a ∙ ap₂ (λ (q : Bool) (n : ℕ). if q then suc n else 0) (live a) (kept-rank lively z (dead w z bare small) vs gs a live)
 
-      block-like : (c : ℕ) → Like (get_or (block w z (length Ls) from xs) c z) (node (compress gs RL) c)
-      unfolding together
+      block-like : (c : ℕ) → Like (get_or (nodes_in (block w z (length Ls) from xs)) c z) (node (compress gs RL) c)
       block-like c k =
           kept-targets lively z (dead w z bare small) targets bare vs gs RL live flag-in (λ i k e. moved i (flag-on i e) k) c k
-          ∙ ap (λ x. get_or (targets x) k 0) (sym (get_or-filled (filter lively vs) (length vs - length (filter lively vs)) c z))
+          ∙ ap (λ x. get_or (targets x) k 0) (sym (block-nodes w z bare small (length Ls) from xs c))
 
       -- the first node, marked: without its flag it has no arcs
-      block-first : On from 1 → length L ≡ 1 → (c : ℕ) → Like (get_or (block w z (length Ls) from xs) c z) (node RL c)
+      block-first : On from 1 → length L ≡ 1 → (c : ℕ) → Like (get_or (nodes_in (block w z (length Ls) from xs)) c z) (node RL c)
       block-first on one c k = compress-one gs RL (redirect-length f L ∙ one) no-arc c k ∙ block-like c k
         where
           no-arc : get_or gs 0 false ≡ false → (i : ℕ) → get_or (node RL 0) i 0 ≡ 0
@@ -155,7 +156,7 @@ module _ {S V : Type 0} (w : ℕ) (z : Node S V) (bare : Bare z) (small : w < 25
   -- ---- all layers
   abbrev pub Likes : Net → List (Node S V) → Type 0
   Likes [] xs = Unit {0}
-  Likes (L ∷ Ls) xs = ((a : ℕ) → Like (get_or (take w xs) a z) (node L a)) × Likes Ls (drop w xs)
+  Likes (L ∷ Ls) xs = ((a : ℕ) → Like (get_or (nodes_in (take w xs)) a z) (node L a)) × Likes Ls (drop w xs)
 
   -- the new number of a marked node
   numbers-are : (Ls : Net) (from : List Bool) (fr : List (Option Mark)) (xs : List (Node S V)) → Likes Ls xs → Agree (width Ls) from fr
@@ -168,16 +169,16 @@ module _ {S V : Type 0} (w : ℕ) (z : Node S V) (bare : Bare z) (small : w < 25
       unfold numbers in
       get_or-blank {X = ℕ} 254 b 0 ∙ sym (renumber-off gs (suc b) (false_from_ne_true (get_or gs (suc b) false) (λ e. absurd (omega (arith, up-in [] (suc b) (flags-back fr (marks_up []) (suc b) e).1)))))
   numbers-are (L ∷ Ls) from fr xs like same b mark =
-      let here : (a : ℕ) → On from (suc a) ⊎ (a < length L) → Like (get_or (take w xs) a z) (node L a) = λ a o. like.0 a in
-      number-flag L Ls from fr xs here same (numbers-are Ls (reached_next from (take w xs)) (marks_next fr L (width Ls)) (drop w xs) like.1 (marks-agree L Ls from fr xs here same)) b
+      let here : (a : ℕ) → On from (suc a) ⊎ (a < length L) → Like (get_or (nodes_in (take w xs)) a z) (node L a) = λ a o. like.0 a in
+      number-flag L Ls from fr xs here same (numbers-are Ls (reached_next from (nodes_in (take w xs))) (marks_next fr L (width Ls)) (drop w xs) like.1 (marks-agree L Ls from fr xs here same)) b
 
   tidy-likes : (Ls : Net) (from : List Bool) (fr : List (Option Mark)) (xs : List (Node S V)) → length Ls * w ≤ length xs → Likes Ls xs → Agree (width Ls) from fr → Likes (tidy fr Ls) (tidied w z (length Ls) from xs)
   unfolding tidy
   tidy-likes [] from fr xs fits like same = tt
   tidy-likes (L ∷ Ls) from fr xs fits like same =
       let more = suc-mul (length Ls) w in
-      let here : (a : ℕ) → On from (suc a) ⊎ (a < length L) → Like (get_or (take w xs) a z) (node L a) = λ a o. like.0 a in
-      let next = reached_next from (take w xs) in
+      let here : (a : ℕ) → On from (suc a) ⊎ (a < length L) → Like (get_or (nodes_in (take w xs)) a z) (node L a) = λ a o. like.0 a in
+      let next = reached_next from (nodes_in (take w xs)) in
       let agree = marks-agree L Ls from fr xs here same in (
         (λ a. rw (front w z (length Ls) from xs (omega (arith, more)))
             (block-like L Ls from fr xs here same (numbers-are Ls next (marks_next fr L (width Ls)) (drop w xs) like.1 agree) a)),
@@ -190,16 +191,16 @@ module _ {S V : Type 0} (w : ℕ) (z : Node S V) (bare : Bare z) (small : w < 25
   first-back (suc a) e = absurd cc
 
   -- the whole list, in which the first node alone is reached
-  pub first-likes : (L : Layer) (Ls : Net) (xs : List (Node S V)) → length L ≡ 1 → suc (length Ls) * w ≤ length xs → Like (get_or (take w xs) 0 z) (node L 0) → Likes Ls (drop w xs)
+  pub first-likes : (L : Layer) (Ls : Net) (xs : List (Node S V)) → length L ≡ 1 → suc (length Ls) * w ≤ length xs → Like (get_or (nodes_in (take w xs)) 0 z) (node L 0) → Likes Ls (drop w xs)
       → Likes (tidiedNet (L ∷ Ls)) (tidied w z (suc (length Ls)) first_mark xs)
   unfolding tidiedNet
   first-likes L Ls xs one fits like rest =
       let more = suc-mul (length Ls) w in
       let fr : List (Option Mark) = Some tt ∷ [] in
-      let here : (a : ℕ) → On first_mark (suc a) ⊎ (a < length L) → Like (get_or (take w xs) a z) (node L a) =
-      λ a o. (let e : a ≡ 0 = elim o [ inl on ↦ first-on a on | inr lt ↦ omega arith ] in subst (λ a. Like (get_or (take w xs) a z) (node L a)) (sym e) like) in
+      let here : (a : ℕ) → On first_mark (suc a) ⊎ (a < length L) → Like (get_or (nodes_in (take w xs)) a z) (node L a) =
+      λ a o. (let e : a ≡ 0 = elim o [ inl on ↦ first-on a on | inr lt ↦ omega arith ] in subst (λ a. Like (get_or (nodes_in (take w xs)) a z) (node L a)) (sym e) like) in
       let same : Agree (length L) first_mark fr = record { to = λ a on lt. rw (first-on a on); back = λ a e lt. first-back a e } in
-      let next = reached_next first_mark (take w xs) in
+      let next = reached_next first_mark (nodes_in (take w xs)) in
       let agree = marks-agree L Ls first_mark fr xs here same in (
         (λ a. rw (front w z (length Ls) first_mark xs (omega (arith, more)))
             (block-first L Ls first_mark fr xs here same (numbers-are Ls next (marks_next fr L (width Ls)) (drop w xs) rest agree) refl one a)),

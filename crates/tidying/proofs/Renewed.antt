@@ -1,15 +1,18 @@
 -- The records of a layer, renewed by the numbers of the next, and the numbers that they get
-use Rattle.std.proofs.Common.{◌≡◌, ℕ, zero, suc, ◌<◌, Bool, true, false, if◌then◌else◌, ◌≢◌, List, map, length, get_or, take, drop, filter, sym, refl, ap, ◌∙◌, inl, inr, add-one, arith}
+use Rattle.std.proofs.Common.{◌≡◌, ℕ, zero, suc, ◌-◌, ◌<◌, Bool, true, false, if◌then◌else◌, ◌≢◌, List, map, length, get_or, take, drop, filter, sym, refl, ap, ◌∙◌, inl, inr, append_assoc, add-one, arith}
 use Rattle.std.proofs.lemmas.Bool.{cases_Bool, cases_lt, false_from_ne_true, false≢true, true_from_ne_false, true≢false}
-use Rattle.std.proofs.lemmas.List.{get_or_past, length-take}
+use Rattle.std.proofs.lemmas.List.{get_or_past}
 use Rattle.std.proofs.lemmas.List.FromFn.{get_or-map-range_with_len, length-map-range_with_len}
 use Rattle.layers.specs.declared.node.Node.{Node}
+use Rattle.layers.specs.Records.{is_used, nodes_in}
 use Rattle.layers.specs.Targets.{targets, with_targets}
-use Rattle.tidying.specs.Tidied.{lively, reached_next, renewed, renew_at, renewals, numbers}
+use Rattle.tidying.specs.Tidied.{lively, reached_next, renewed, renew_at, renewals, together, numbers}
 use Rattle.tidying.specs.Paths.{Bare}
+use Rattle.tidying.proofs.InUse.{nodes-few, nodes-used, nodes-past, nodes-moved}
 use Rattle.tidying.proofs.Lists.{get_or-mapped, zero-or-suc}
 use Rattle.tidying.proofs.Marks.{On}
 use Rattle.tidying.proofs.Numbers.{number-at, number-none}
+use Rattle.tidying.proofs.Steps.{block}
 use Rattle.tidying.proofs.Targets.{lively-has, lively-from}
 
 module _ {S V : Type 0} (z : Node S V) (new : List ℕ) (x : Node S V) where
@@ -37,12 +40,12 @@ module _ {S V : Type 0} (w : ℕ) (z : Node S V) (bare : Bare z) (small : w < 25
   pub numbers-zero : (r : ℕ) (from : List Bool) (xs : List (Node S V)) → get_or (numbers w z r from xs) 0 0 ≡ 0
   unfolding numbers
   numbers-zero zero from xs = refl
-  numbers-zero (suc r) from xs = number-none (renewals z from (numbers w z r (reached_next from (take w xs)) (drop w xs)) (take w xs))
+  numbers-zero (suc r) from xs = number-none (renewals z from (numbers w z r (reached_next from (nodes_in (take w xs))) (drop w xs)) (nodes_in (take w xs)))
 
   -- ---- the first of r + 1 layers
   module _ (r : ℕ) (from : List Bool) (xs : List (Node S V)) where
     abbrev us : List (Node S V)
-    us = take w xs
+    us = nodes_in (take w xs)
 
     abbrev new : List ℕ
     new = numbers w z r (reached_next from us) (drop w xs)
@@ -85,7 +88,7 @@ module _ {S V : Type 0} (w : ℕ) (z : Node S V) (bare : Bare z) (small : w < 25
 
     pub number-is : (a : ℕ) → get_or (numbers w z (suc r) from xs) (suc a) 0 ≡ (if lively (get_or renewed-layer a z) then suc (length (filter lively (take a renewed-layer))) else 0)
     unfolding numbers
-    number-is a = number-at renewed-layer a z (omega (arith, long, length-take w xs)) dead
+    number-is a = number-at renewed-layer a z (omega (arith, long, nodes-few w xs)) dead
 
     pub number-live : (a : ℕ) → get_or (numbers w z (suc r) from xs) (suc a) 0 ≢ 0 → On from (suc a) × (k : ℕ) × (b : ℕ) × (get_or (targets (get_or us a z)) k 0 ≡ suc b) × (get_or new (suc b) 0 ≢ 0)
     number-live a ne = renewed-live a (true_from_ne_false (lively (get_or renewed-layer a z)) (λ out. ne (number-is a ∙ rw out)))
@@ -97,3 +100,16 @@ module _ {S V : Type 0} (w : ℕ) (z : Node S V) (bare : Bare z) (small : w < 25
           (let l = lively-from (get_or renewed-layer a z) k h.0 (renewed-sent a k on ∙ ap (λ t. get_or new t 0) e ∙ h.1) in
           omega (arith, none, number-is a, ap (λ (q : Bool). if q then suc (length (filter lively (take a renewed-layer))) else 0) l))
     ]
+
+    -- read as nodes, what the layer becomes are those with arcs
+    pub block-nodes : (c : ℕ) → get_or (nodes_in (block w z r from xs)) c z ≡ get_or (filter lively renewed-layer) c z
+    unfolding together
+    block-nodes c =
+        let n = length renewed-layer - length (filter lively renewed-layer) in
+        rw append_assoc (nodes-moved z lively renewed-layer n (drop (length us) (take w xs)) (nodes-past (take w xs)) used c)
+      where
+        used : (a : ℕ) → lively (get_or renewed-layer a z) ≡ true → is_used (get_or renewed-layer a z) ≡ true
+        used a live =
+            let l = renewed-live a live in
+            let lt = (arc-in us a l.1 l.2 l.3).0 in
+            ap is_used (at a lt ∙ renewed-on z new (get_or us a z) (get_or from (suc a) false) l.0) ∙ nodes-used (take w xs) a z lt

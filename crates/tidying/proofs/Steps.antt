@@ -4,45 +4,64 @@ use Rattle.std.proofs.lemmas.List.{drop-drop, drop_at, length-append, length-dro
 use Rattle.std.proofs.lemmas.List.FromFn.{length-map-range_with_len}
 use Rattle.std.proofs.lemmas.List.Sums.{count_by-le-length, length-filter}
 use Rattle.layers.specs.declared.node.Node.{Node}
+use Rattle.layers.specs.Records.{nodes_in}
+use Rattle.layers.proofs.Shaped.{standing-short}
+use Rattle.tidying.specs.InUse.{on_nodes}
 use Rattle.tidying.specs.Tidied.{lively, reached_next, renew_at, numbers, tidied, together, renewals, numbering}
 
--- us is the first layer, with `new` the numbers of the next, and ys what is left of the others
-pub record Step {S V : Type 0} (w : ℕ) (z : Node S V) (left : ℕ) (from : List Bool) (xs us : List (Node S V)) (new : List ℕ) (ys : List (Node S V)) : Type 0 where
+-- us are the k nodes of the first layer, row, with `new` the numbers of the next, and ys what is left of the others
+pub record Step {S V : Type 0} (w : ℕ) (z : Node S V) (left : ℕ) (from : List Bool) (xs row us : List (Node S V)) (k : ℕ) (new : List ℕ) (ys : List (Node S V)) : Type 0 where
   pub some : left ≢ 0
-  pub front : us ≡ take w xs
+  pub front : row ≡ take w xs
+  pub nodes : us ≡ nodes_in row
+  pub many : k ≡ length (nodes_in row)
   pub numbers_are : new ≡ numbers w z (left - 1) (reached_next from us) (drop w xs)
   pub rest : ys ≡ tidied w z (left - 1) (reached_next from us) (drop w xs)
 
 module _ {S V : Type 0} (w : ℕ) (z : Node S V) where
-  pub numbers-step : (left : ℕ) (from : List Bool) (xs us : List (Node S V)) (new : List ℕ) (ys : List (Node S V)) → Step w z left from xs us new ys → numbering (renewals z from new us) ≡ numbers w z left from xs
+  pub numbers-step : (left : ℕ) (from : List Bool) (xs row us : List (Node S V)) (k : ℕ) (new : List ℕ) (ys : List (Node S V)) → Step w z left from xs row us k new ys → numbering (renewals z from new us) ≡ numbers w z left from xs
   unfolding numbers
-  numbers-step zero from xs us new ys s = absurd (s.some refl)
-  numbers-step (suc n) from xs us new ys s = let e : suc n - 1 ≡ n = omega arith in rw (s.numbers_are, s.front, e)
+  numbers-step zero from xs row us k new ys s = absurd (s.some refl)
+  numbers-step (suc n) from xs row us k new ys s = let e : suc n - 1 ≡ n = omega arith in rw (s.numbers_are, s.nodes, s.front, e)
 
-  pub tidied-step : (left : ℕ) (from : List Bool) (xs us : List (Node S V)) (new : List ℕ) (ys : List (Node S V)) → Step w z left from xs us new ys → together z (renewals z from new us) ++ ys ≡ tidied w z left from xs
+  pub tidied-step : (left : ℕ) (from : List Bool) (xs row us : List (Node S V)) (k : ℕ) (new : List ℕ) (ys : List (Node S V)) → Step w z left from xs row us k new ys
+      → together z (renewals z from new us) ++ drop k row ++ ys ≡ tidied w z left from xs
   unfolding tidied
-  tidied-step zero from xs us new ys s = absurd (s.some refl)
-  tidied-step (suc n) from xs us new ys s = let e : suc n - 1 ≡ n = omega arith in rw (s.numbers_are, s.rest, s.front, e)
+  tidied-step zero from xs row us k new ys s = absurd (s.some refl)
+  tidied-step (suc n) from xs row us k new ys s = let e : suc n - 1 ≡ n = omega arith in rw (s.numbers_are, s.rest, s.nodes, s.many, s.front, e)
 
   -- the first of r + 1 layers, tidied
   abbrev pub block : ℕ → List Bool → List (Node S V) → List (Node S V)
-  block r from xs = together z (renewals z from (numbers w z r (reached_next from (take w xs)) (drop w xs)) (take w xs))
+  block r from xs = on_nodes (λ us. together z (renewals z from (numbers w z r (reached_next from (nodes_in (take w xs))) (drop w xs)) us)) (take w xs)
 
   pub block-long : (r : ℕ) (from : List Bool) (xs : List (Node S V)) → w ≤ length xs → length (block r from xs) ≡ w
   unfolding together renewals
   block-long r from xs fits =
-      let us = renewals z from (numbers w z r (reached_next from (take w xs)) (drop w xs)) (take w xs) in
-      let n = length us - length (filter lively us) in
-      let many = length-map-range_with_len (renew_at z from (numbers w z r (reached_next from (take w xs)) (drop w xs)) (take w xs)) 0 (length (take w xs)) in
-      omega (arith, length-append (filter lively us) (replicate n z), length-replicate n z, length-filter lively us, count_by-le-length lively us, many, length-take-le w xs fits)
+      let us = nodes_in (take w xs) in
+      let new = numbers w z r (reached_next from us) (drop w xs) in
+      let vs = renewals z from new us in
+      let n = length vs - length (filter lively vs) in
+      let many = length-map-range_with_len (renew_at z from new us) 0 (length us) in
+      omega (
+        arith,
+        length-append (together z vs) (drop (length us) (take w xs)),
+        length-append (filter lively vs) (replicate n z),
+        length-replicate n z,
+        length-filter lively vs,
+        count_by-le-length lively vs,
+        many,
+        length-drop (length us) (take w xs),
+        standing-short (take w xs),
+        length-take-le w xs fits,
+      )
 
   pub front : (r : ℕ) (from : List Bool) (xs : List (Node S V)) → w ≤ length xs → take w (tidied w z (suc r) from xs) ≡ block r from xs
   unfolding tidied
-  front r from xs fits = take_at (block r from xs) (tidied w z r (reached_next from (take w xs)) (drop w xs)) w (block-long r from xs fits)
+  front r from xs fits = take_at (block r from xs) (tidied w z r (reached_next from (nodes_in (take w xs))) (drop w xs)) w (block-long r from xs fits)
 
-  pub back : (r : ℕ) (from : List Bool) (xs : List (Node S V)) → w ≤ length xs → drop w (tidied w z (suc r) from xs) ≡ tidied w z r (reached_next from (take w xs)) (drop w xs)
+  pub back : (r : ℕ) (from : List Bool) (xs : List (Node S V)) → w ≤ length xs → drop w (tidied w z (suc r) from xs) ≡ tidied w z r (reached_next from (nodes_in (take w xs))) (drop w xs)
   unfolding tidied
-  back r from xs fits = drop_at (block r from xs) (tidied w z r (reached_next from (take w xs)) (drop w xs)) w (block-long r from xs fits)
+  back r from xs fits = drop_at (block r from xs) (tidied w z r (reached_next from (nodes_in (take w xs))) (drop w xs)) w (block-long r from xs fits)
 
   -- what stands after the layers
   pub tail-is : (r : ℕ) (from : List Bool) (xs : List (Node S V)) → r * w ≤ length xs → drop (r * w) (tidied w z r from xs) ≡ drop (r * w) xs
@@ -50,4 +69,4 @@ module _ {S V : Type 0} (w : ℕ) (z : Node S V) where
   tail-is (suc r) from xs fits =
       let e : suc r * w ≡ w + r * w = omega (arith, suc-mul r w) in
       rw (e, ← drop-drop (r * w) w (tidied w z (suc r) from xs), back r from xs (omega arith), ← drop-drop (r * w) w xs)
-      (tail-is r (reached_next from (take w xs)) (drop w xs) (omega (arith, length-drop w xs)))
+      (tail-is r (reached_next from (nodes_in (take w xs))) (drop w xs) (omega (arith, length-drop w xs)))

@@ -1,8 +1,9 @@
 -- The targets of a record, and counts of arcs
-use Rattle.std.proofs.Common.{◌≡◌, ℕ, zero, suc, ◌+◌, ◌<◌, true, if◌then◌else◌, not, ◌==◌, ◌≢◌, List, [], ◌∷◌, length, get_or, sum_by, count_by, sym, refl, ap, ◌∙◌, arith}
+use Rattle.std.proofs.Common.{◌≡◌, ℕ, zero, suc, ◌+◌, ◌<◌, true, if◌then◌else◌, not, ◌==◌, ◌≢◌, List, [], ◌∷◌, ◌++◌, map, length, get_or, take, drop, set, sum_by, count_by, sym, refl, ap, ◌∙◌, arith, take-append-drop}
+use Rattle.std.specs.List.{range_with_len}
 use Rattle.std.proofs.lemmas.Bool.Decides.{nat_tests}
 use Rattle.std.proofs.lemmas.List.FromFn.{fill_by_all, get_or-map-range_with_len}
-use Rattle.std.proofs.lemmas.List.Sums.{sum_by-cons}
+use Rattle.std.proofs.lemmas.List.Sums.{sum_by-append, sum_by-cons, sum_by-set}
 use Rattle.layers.specs.declared.node.Node.{Node}
 use Rattle.layers.specs.Net.{count_doors, count_layer}
 use Rattle.layers.specs.Targets.{targets}
@@ -22,7 +23,7 @@ pub targets_read : {S V : Type 0} (x : Node S V) → length x.arcs.to ≡ 16 →
 unfolding targets
 targets_read x long = sym (fill_by_all (λ k. get_or x.arcs.to k 0) x.arcs.to 16 0 long (λ k lt. refl))
 
-abbrev one_if : ℕ → ℕ
+abbrev pub one_if : ℕ → ℕ
 one_if t = if not (t == 0) then 1 else 0
 
 doors-counted : (ts : List ℕ) → count_doors ts ≡ sum_by one_if ts
@@ -35,10 +36,42 @@ pub arcs_counted : {S V : Type 0} (x : Node S V) → length x.arcs.to ≡ 16 →
 unfolding arcs_of
 arcs_counted x long = doors-counted (targets x) ∙ ap (sum_by one_if) (targets_read x long)
 
+-- read door by door, and written so
+pub arcs_read : {S V : Type 0} (x : Node S V) → arcs_of x ≡ sum_by one_if (map (λ k. get_or x.arcs.to k 0) (range_with_len 0 16))
+unfolding arcs_of targets
+arcs_read x = doors-counted (targets x)
+
+pub arcs_written : {S V : Type 0} (f : ℕ → ℕ) (x : Node S V) → x.arcs.to ≡ map f (range_with_len 0 16) → arcs_of x ≡ sum_by one_if (map f (range_with_len 0 16))
+arcs_written f x e = arcs_counted x (ap length e) ∙ ap (sum_by one_if) e
+
 pub arcs-summed : {S V : Type 0} (xs : List (Node S V)) → arcs_within xs ≡ sum_by arcs_of xs
 unfolding arcs_within arcs_of count_layer
 arcs-summed [] = refl
 arcs-summed (x ∷ xs) = ap (λ n. arcs_of x + n) (arcs-summed xs) ∙ sym (sum_by-cons arcs_of x xs)
+
+pub arcs-append : {S V : Type 0} (xs ys : List (Node S V)) → arcs_within (xs ++ ys) ≡ arcs_within xs + arcs_within ys
+arcs-append xs ys = omega (arith, arcs-summed (xs ++ ys), arcs-summed xs, arcs-summed ys, sum_by-append arcs_of xs ys)
+
+-- arcs lost by the first k places of a layer and by what follows it
+pub layer-less : {S V : Type 0} (w k here later : ℕ) (xs row rest us ys : List (Node S V)) → row ≡ take w xs → rest ≡ drop w xs → here + arcs_within us ≡ arcs_within (take k row) → later + arcs_within ys ≡ arcs_within rest
+    → here + later + arcs_within (us ++ drop k row ++ ys) ≡ arcs_within xs
+layer-less w k here later xs row rest us ys front back p q = omega (
+  arith,
+  p,
+  q,
+  arcs-append (us ++ drop k row) ys,
+  arcs-append us (drop k row),
+  arcs-append (take k row) (drop k row),
+  arcs-append (take w xs) (drop w xs),
+  ap arcs_within (take-append-drop k row),
+  ap arcs_within (take-append-drop w xs),
+  ap arcs_within front,
+  ap arcs_within back,
+)
+
+-- another record in place of one
+pub arcs-set : {S V : Type 0} (xs : List (Node S V)) (i : ℕ) (y d : Node S V) → i < length xs → arcs_within (set xs i y) + arcs_of (get_or xs i d) ≡ arcs_within xs + arcs_of y
+arcs-set xs i y d lt = omega (arith, arcs-summed (set xs i y), arcs-summed xs, sum_by-set arcs_of xs i y d lt)
 
 -- ---- a node with arcs
 doors-have : (ts : List ℕ) → count_doors ts ≢ 0 → (k : ℕ) × (b : ℕ) × (get_or ts k 0 ≡ suc b)

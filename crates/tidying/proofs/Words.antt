@@ -1,13 +1,14 @@
 -- The paths of the tidied layers are those of the layers, and a node gets a number exactly if it lies on a path
 use Rattle.std.proofs.Common.{◌≡◌, ℕ, zero, suc, ◌-◌, ◌*◌, ◌<◌, ◌≤◌, Bool, ◌≢◌, List, [], ◌∷◌, map, length, get_or, take, drop, sym, refl, ap, ◌∙◌, subst, arith}
-use Rattle.std.proofs.lemmas.List.{length-take}
 use Rattle.layers.specs.declared.node.Node.{Node}
 use Rattle.layers.specs.Net.{Layer, Net, node, target, PathFrom}
 use Rattle.layers.specs.Tidy.{tidied_arcs as tidiedNet}
+use Rattle.layers.specs.Records.{nodes_in}
 use Rattle.layers.specs.Targets.{targets}
 use Rattle.layers.proofs.Tidying.{tidy-means}
 use Rattle.tidying.specs.Tidied.{reached_next, numbers, end_numbers, tidied, first_mark}
 use Rattle.tidying.specs.Paths.{arc, Leads, from_layer, reached, Bare, KeptExactly, SamePaths}
+use Rattle.tidying.proofs.InUse.{nodes-few}
 use Rattle.tidying.proofs.Lists.{get_or-blank}
 use Rattle.tidying.proofs.Marks.{On, reached-on, on-reached}
 use Rattle.tidying.proofs.Nets.{Like, Likes, first-on, first-likes}
@@ -24,19 +25,19 @@ module _ {S V : Type 0} (w : ℕ) (z : Node S V) (bare : Bare z) (small : w < 25
   leads-path [] xs a [] like len e = omega arith
   leads-path [] xs a (j ∷ ds) like len h = absurd (omega arith)
   leads-path (L ∷ Ls) xs a [] like len h = absurd (omega arith)
-  leads-path (L ∷ Ls) xs a (j ∷ ds) like len h = (h.0, sym (arc-is (take w xs) L a j (like.0 a)) ∙ h.1, leads-path Ls (drop w xs) h.0 ds like.1 (omega arith) h.2)
+  leads-path (L ∷ Ls) xs a (j ∷ ds) like len h = (h.0, sym (arc-is (nodes_in (take w xs)) L a j (like.0 a)) ∙ h.1, leads-path Ls (drop w xs) h.0 ds like.1 (omega arith) h.2)
 
   path-leads : (Ls : Net) (xs : List (Node S V)) (a : ℕ) (ds : List ℕ) → Likes w z bare small Ls xs → PathFrom Ls a ds → Leads w z xs (suc a) ds 1
   path-leads [] xs a [] like p = ap suc p
   path-leads [] xs a (j ∷ ds) like p = absurd p
   path-leads (L ∷ Ls) xs a [] like p = absurd p
-  path-leads (L ∷ Ls) xs a (j ∷ ds) like p = (p.0, arc-is (take w xs) L a j (like.0 a) ∙ p.1, path-leads Ls (drop w xs) p.0 ds like.1 p.2)
+  path-leads (L ∷ Ls) xs a (j ∷ ds) like p = (p.0, arc-is (nodes_in (take w xs)) L a j (like.0 a) ∙ p.1, path-leads Ls (drop w xs) p.0 ds like.1 p.2)
 
   -- the net of r layers
   net_of : ℕ → List (Node S V) → Net
   unfolding targets
   net_of zero xs = []
-  net_of (suc r) xs = map targets (take w xs) ∷ net_of r (drop w xs)
+  net_of (suc r) xs = map targets (nodes_in (take w xs)) ∷ net_of r (drop w xs)
 
   length-net_of : (r : ℕ) (xs : List (Node S V)) → length (net_of r xs) ≡ r
   unfolding net_of
@@ -46,7 +47,7 @@ module _ {S V : Type 0} (w : ℕ) (z : Node S V) (bare : Bare z) (small : w < 25
   likes-net_of : (r : ℕ) (xs : List (Node S V)) → Likes w z bare small (net_of r xs) xs
   unfolding net_of
   likes-net_of zero xs = tt
-  likes-net_of (suc r) xs = ((λ a k. like (take w xs) a k), likes-net_of r (drop w xs))
+  likes-net_of (suc r) xs = ((λ a k. like (nodes_in (take w xs)) a k), likes-net_of r (drop w xs))
     where
       like : (us : List (Node S V)) (a k : ℕ) → get_or (node (map targets us) a) k 0 ≡ get_or (targets (get_or us a z)) k 0
       like [] a k = sym (bare k)
@@ -58,7 +59,7 @@ module _ {S V : Type 0} (w : ℕ) (z : Node S V) (bare : Bare z) (small : w < 25
   same-paths (suc r) xs fits b = go
     where
       L : Layer
-      L = targets (get_or (take w xs) 0 z) ∷ []
+      L = targets (get_or (nodes_in (take w xs)) 0 z) ∷ []
 
       D : Net
       D = L ∷ net_of r (drop w xs)
@@ -76,7 +77,7 @@ module _ {S V : Type 0} (w : ℕ) (z : Node S V) (bare : Bare z) (small : w < 25
       go [] len = absurd (omega arith)
       go (j ∷ ds) len =
           let t = (tidy-means D (tidiedNet D)).1 refl in
-          let e = arc-is (take w xs) L 0 j (λ k. refl) in
+          let e = arc-is (nodes_in (take w xs)) L 0 j (λ k. refl) in
           let n = length-net_of r (drop w xs) in
           let l = likes-net_of r (drop w xs) in (
             (λ h. path-leads (tidiedNet D) ys 0 (j ∷ ds) likes ((t.paths (j ∷ ds)).1 (h.0, sym e ∙ h.1, leads-path (net_of r (drop w xs)) (drop w xs) h.0 ds l (omega arith) h.2))),
@@ -90,14 +91,14 @@ module _ {S V : Type 0} (w : ℕ) (z : Node S V) (bare : Bare z) (small : w < 25
   numbers-from zero from xs (suc a) ne = absurd (ne (get_or-blank {X = ℕ} 254 a 0))
   numbers-from (suc r) from xs a ne =
       let l = number-live w z bare small r from xs a ne in
-      let p = numbers-from r (reached_next from (take w xs)) (drop w xs) l.2 l.4 in
+      let p = numbers-from r (reached_next from (nodes_in (take w xs))) (drop w xs) l.2 l.4 in
       (suc l.1 ∷ p.0, ap suc p.1, (l.2, l.3, p.2))
 
   leads-in : (xs : List (Node S V)) (a : ℕ) (ds : List ℕ) (b : ℕ) → suc b < 256 → Leads w z xs (suc a) ds (suc b) → suc a < 256
   unfolding arc
   leads-in xs a [] b lt e = omega arith
   leads-in xs a (zero ∷ ds) b lt h = absurd (omega (arith, h.1))
-  leads-in xs a (suc k ∷ ds) b lt h = omega (arith, (arc-in w z bare small (take w xs) a k h.0 h.1).0, length-take w xs)
+  leads-in xs a (suc k ∷ ds) b lt h = omega (arith, (arc-in w z bare small (nodes_in (take w xs)) a k h.0 h.1).0, nodes-few w xs)
 
   numbers-has : (r : ℕ) (from : List Bool) (xs : List (Node S V)) (a : ℕ) (ds : List ℕ) → On from (suc a) → length ds ≡ r → Leads w z xs (suc a) ds 1 → get_or (numbers w z r from xs) (suc a) 0 ≢ 0
   unfolding numbers arc
@@ -106,17 +107,17 @@ module _ {S V : Type 0} (w : ℕ) (z : Node S V) (bare : Bare z) (small : w < 25
   numbers-has (suc r) from xs a [] on len h = absurd (omega arith)
   numbers-has (suc r) from xs a (zero ∷ ds) on len h = absurd (omega (arith, h.1))
   numbers-has (suc r) from xs a (suc k ∷ ds) on len h =
-      let s = arc-in w z bare small (take w xs) a k h.0 h.1 in
+      let s = arc-in w z bare small (nodes_in (take w xs)) a k h.0 h.1 in
       live-number w z bare small r from xs a k h.0 on h.1
-      (numbers-has r (reached_next from (take w xs)) (drop w xs) h.0 ds (on-reached z from (take w xs) a k (suc h.0) (leads-in (drop w xs) h.0 ds 0 (omega arith) h.2) on s.0 s.1 h.1) (omega arith) h.2)
+      (numbers-has r (reached_next from (nodes_in (take w xs))) (drop w xs) h.0 ds (on-reached z from (nodes_in (take w xs)) a k (suc h.0) (leads-in (drop w xs) h.0 ds 0 (omega arith) h.2) on s.0 s.1 h.1) (omega arith) h.2)
 
   -- ---- a mark shows a path to the node
   reached-from : (i : ℕ) (from : List Bool) (xs : List (Node S V)) (b : ℕ) → On (reached w z i from xs) (suc b) → (a : ℕ) × On from (suc a) × (ds : List ℕ) × (length ds ≡ i) × Leads w z xs (suc a) ds (suc b)
   unfolding reached arc
   reached-from zero from xs b on = (b, on, [], refl, refl)
   reached-from (suc i) from xs b on =
-      let r = reached-from i (reached_next from (take w xs)) (drop w xs) b on in
-      let s = reached-on z from (take w xs) (suc r.0) r.1 in
+      let r = reached-from i (reached_next from (nodes_in (take w xs))) (drop w xs) b on in
+      let s = reached-on z from (nodes_in (take w xs)) (suc r.0) r.1 in
       (s.0, s.1, suc s.2 ∷ r.2, ap suc r.3, (r.0, s.3, r.4))
 
   reached-has : (i : ℕ) (from : List Bool) (xs : List (Node S V)) (a : ℕ) (ds : List ℕ) (b : ℕ) → suc b < 256 → On from (suc a) → length ds ≡ i → Leads w z xs (suc a) ds (suc b) → On (reached w z i from xs) (suc b)
@@ -126,8 +127,8 @@ module _ {S V : Type 0} (w : ℕ) (z : Node S V) (bare : Bare z) (small : w < 25
   reached-has (suc i) from xs a [] b lt on len h = absurd (omega arith)
   reached-has (suc i) from xs a (zero ∷ ds) b lt on len h = absurd (omega (arith, h.1))
   reached-has (suc i) from xs a (suc k ∷ ds) b lt on len h =
-      let s = arc-in w z bare small (take w xs) a k h.0 h.1 in
-      reached-has i (reached_next from (take w xs)) (drop w xs) h.0 ds b lt (on-reached z from (take w xs) a k (suc h.0) (leads-in (drop w xs) h.0 ds b lt h.2) on s.0 s.1 h.1) (omega arith) h.2
+      let s = arc-in w z bare small (nodes_in (take w xs)) a k h.0 h.1 in
+      reached-has i (reached_next from (nodes_in (take w xs))) (drop w xs) h.0 ds b lt (on-reached z from (nodes_in (take w xs)) a k (suc h.0) (leads-in (drop w xs) h.0 ds b lt h.2) on s.0 s.1 h.1) (omega arith) h.2
 
   pub kept-exactly : (n : ℕ) (xs : List (Node S V)) → KeptExactly w z n xs
   kept-exactly n xs b i a lt =

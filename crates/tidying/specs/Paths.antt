@@ -1,8 +1,9 @@
 -- Tidying in the subject's words: a list of doors leads from a node to a node. What `KeptExactly` and `SamePaths` say is what tidying comes to.
 -- Only `new_number` looks into Tidied: it is the number that a node has after tidying. A layer is w records, and the end follows the last one.
--- Nodes and doors count from 1.
+-- The nodes of a layer are its places in use, which stand first. Nodes and doors count from 1.
 use Rattle.std.specs.Prelude.{◌≡◌, ℕ, zero, suc, ◌-◌, ◌<◌, Bool, ◌≢◌, List, [], ◌∷◌, length, take, drop, slice_index, slice_index_or}
 use Rattle.layers.specs.declared.node.Node.{Node}
+use Rattle.layers.specs.Records.{nodes_in}
 use Rattle.layers.specs.Targets.{targets}
 use Rattle.tidying.specs.Tidied.{reached_next, numbers, first_mark}
 
@@ -16,7 +17,7 @@ arc z us (suc a) (suc k) = slice_index (targets (slice_index_or us a z)) k
 -- the doors ds lead from node a of the first layer to node b of the layer that they reach
 abbrev pub Leads : {S V : Type 0} → ℕ → Node S V → List (Node S V) → ℕ → List ℕ → ℕ → Type 0
 Leads w z xs a [] b = a ≡ b
-Leads w z xs a (j ∷ ds) b = (t : ℕ) × (arc z (take w xs) a j ≡ suc t) × Leads w z (drop w xs) (suc t) ds b
+Leads w z xs a (j ∷ ds) b = (t : ℕ) × (arc z (nodes_in (take w xs)) a j ≡ suc t) × Leads w z (drop w xs) (suc t) ds b
 
 -- the layers from the i-th on
 abbrev pub from_layer : {X : Type 0} → ℕ → ℕ → List X → List X
@@ -27,7 +28,7 @@ from_layer w (suc i) xs = from_layer w i (drop w xs)
 unfoldable pub reached : {S V : Type 0} → ℕ → Node S V → ℕ → List Bool → List (Node S V) → List Bool
 unfolding reached_next
 reached w z zero from xs = from
-reached w z (suc i) from xs = reached w z i (reached_next from (take w xs)) (drop w xs)
+reached w z (suc i) from xs = reached w z i (reached_next from (nodes_in (take w xs))) (drop w xs)
 
 -- node a of layer i lies on a path of n doors from the first node to the end
 abbrev pub OnPath : {S V : Type 0} → ℕ → Node S V → ℕ → List (Node S V) → ℕ → ℕ → Type 0

@@ -1,11 +1,13 @@
 -- Tidying as the code does it. Nobody has to believe this page: the clauses `paths` and `words` of `tidy` say in Paths what it comes to.
--- A layer is w records; a node's number in it is its place and one; the target 0 is no arc.
+-- A layer is w records, its nodes the places in use; a node's number is its place and one; the target 0 is no arc.
 -- Marks and numbers stand in tables of 256 places, by a node's number.
 use Rattle.std.specs.Prelude.{ℕ, zero, suc, ◌+◌, ◌-◌, Bool, true, false, if◌then◌else◌, not, List, [], ◌∷◌, ◌++◌, map, length, take, drop, replicate, fold, filter, ◌==◌, slice_index, slice_index_or, slice_set}
 use Rattle.std.specs.List.{flat_map, range_with_len, zip}
 use Rattle.layers.specs.declared.node.Node.{Node}
+use Rattle.layers.specs.Records.{nodes_in}
 use Rattle.layers.specs.Targets.{targets, with_targets}
 use Rattle.tidying.specs.Counted.{arcs_of}
+use Rattle.tidying.specs.InUse.{on_nodes}
 
 -- whether a node has arcs
 unfoldable pub lively : {S V : Type 0} → Node S V → Bool
@@ -65,15 +67,17 @@ end_numbers = slice_set (replicate 256 0) 1 1
 unfoldable pub numbers : {S V : Type 0} → ℕ → Node S V → ℕ → List Bool → List (Node S V) → List ℕ
 unfolding reached_next renewals numbering
 numbers w z zero from xs = end_numbers
-numbers w z (suc r) from xs = numbering (renewals z from (numbers w z r (reached_next from (take w xs)) (drop w xs)) (take w xs))
+numbers w z (suc r) from xs =
+    let us = nodes_in (take w xs) in
+    numbering (renewals z from (numbers w z r (reached_next from us) (drop w xs)) us)
 
 -- r layers of w records, tidied
 unfoldable pub tidied : {S V : Type 0} → ℕ → Node S V → ℕ → List Bool → List (Node S V) → List (Node S V)
 unfolding reached_next renewals together numbers
 tidied w z zero from xs = xs
 tidied w z (suc r) from xs =
-    together z (renewals z from (numbers w z r (reached_next from (take w xs)) (drop w xs)) (take w xs))
-    ++ tidied w z r (reached_next from (take w xs)) (drop w xs)
+    let next = reached_next from (nodes_in (take w xs)) in
+    on_nodes (λ us. together z (renewals z from (numbers w z r next (drop w xs)) us)) (take w xs) ++ tidied w z r next (drop w xs)
 
 -- the mark of the first node
 abbrev pub first_mark : List Bool

@@ -1,6 +1,7 @@
 //! Counting arcs.
 ghost use Rattle.std.specs.Prelude.{◌≡◌, ◌*◌, ◌≤◌, length, take, if◌then◌else◌};
 ghost use Rattle.labels.specs.Passes.{fits};
+ghost use Rattle.layers.specs.Records.{nodes_in};
 ghost use Rattle.tidying.specs.Counted.{arcs_of, arcs_within};
 
 use labels::room::has_room;
@@ -14,6 +15,15 @@ pub fn count_of<S: Copy, V: Copy>(x: &Node<S, V>) -> usize
     ensures few { result ≤ 16 }
 {
     x.arcs.to.iter().filter(|t| **t != 0).count()
+}
+
+/// How many nodes a layer has: its places in use, which stand first.
+pub fn count_nodes<S: Copy, V: Copy>(us: &[Node<S, V>]) -> usize
+    ensures many { result ≡ length (nodes_in us.now) }
+    ensures first { take result us.now ≡ nodes_in us.now }
+    ensures within { result ≤ length us.now }
+{
+    us.iter().take_while(|u| u.label.down.lasts != 0).count()
 }
 
 /// How many arcs leave all these nodes: no diagram has more than 2,049.

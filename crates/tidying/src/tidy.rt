@@ -7,7 +7,7 @@ ghost use Rattle.labels.specs.Passes.{fits};
 ghost use Rattle.layers.specs.Targets.{targets, with_targets};
 ghost use Rattle.tidying.specs.Tidied.{lively, marked, reached_next, renewed, renewals, together, numbering, numbers, tidied, first_mark};
 
-use crate::count::count_of;
+use crate::count::{count_nodes, count_of};
 use labels::room::has_room;
 use layers::node::{Arcs, Node};
 use round::table::Round;
@@ -163,9 +163,10 @@ fn tidy_from<S: Copy, V: Copy>(
         return end;
     }
     let (us, rest) = nodes.split_at_mut(w);
-    let next = mark_next(from, us);
+    let many = count_nodes(us);
+    let next = mark_next(from, &us[..many]);
     let new = tidy_from(rest, w, left - 1, &next, blank);
-    tidy_layer(us, from, &new, blank)
+    tidy_layer(&mut us[..many], from, &new, blank)
 }
 
 /// Tidies a diagram of n layers of w records and the end, in which the first node alone is reached at the start.

@@ -1,0 +1,59 @@
+-- The nodes of a layer, its places in use, stand first
+use Rattle.std.proofs.Common.{◌≡◌, ℕ, zero, suc, ◌<◌, ◌≤◌, Bool, true, not, eqb, List, [], ◌∷◌, ◌++◌, length, map, get_or, take, drop, replicate, filter, refl, ap, inl, inr, arith}
+use Rattle.std.specs.List.{prefix_len}
+use Rattle.std.proofs.lemmas.Bool.{cases_Bool, cond_both}
+use Rattle.std.proofs.lemmas.List.{length-append, length-drop, length-map, length-take}
+use Rattle.layers.specs.declared.node.Node.{Node}
+use Rattle.layers.specs.Records.{is_used, nodes_in}
+use Rattle.layers.proofs.Shaped.{standing-short}
+use Rattle.tidying.specs.InUse.{on_nodes}
+
+module _ {S V : Type 0} where
+  pub nodes-counted : (us : List (Node S V)) → prefix_len (λ (u : Node S V). not (eqb u.label.down.lasts 0)) us ≡ length (nodes_in us)
+  nodes-counted [] = refl
+  nodes-counted (x ∷ xs) = grind (arith, nodes-counted xs)
+
+  pub nodes-few : (w : ℕ) (xs : List (Node S V)) → length (nodes_in (take w xs)) ≤ w
+  nodes-few w xs = omega (arith, standing-short (take w xs), length-take w xs)
+
+  pub nodes-first : (us : List (Node S V)) → take (length (nodes_in us)) us ≡ nodes_in us
+  nodes-first [] = refl
+  nodes-first (u ∷ us) = cond_both (is_used u) (u ∷ nodes_in us) [] (λ ns. take (length ns) (u ∷ us) ≡ ns) (λ e. ap (λ ys. u ∷ ys) (nodes-first us)) (λ e. refl)
+
+  pub nodes-used : (us : List (Node S V)) (a : ℕ) (d : Node S V) → a < length (nodes_in us) → is_used (get_or (nodes_in us) a d) ≡ true
+  nodes-used [] a d = λ lt. absurd (omega arith)
+  nodes-used (u ∷ us) zero d = cond_both (is_used u) (u ∷ nodes_in us) [] (λ ns. 0 < length ns → is_used (get_or ns 0 d) ≡ true) (λ e lt. e) (λ e lt. absurd (omega arith))
+  nodes-used (u ∷ us) (suc a) d = cond_both (is_used u) (u ∷ nodes_in us) [] (λ ns. suc a < length ns → is_used (get_or ns (suc a) d) ≡ true) (λ e lt. nodes-used us a d (omega arith)) (λ e lt. absurd (omega arith))
+
+  -- none stands after them
+  pub nodes-past : (us : List (Node S V)) → nodes_in (drop (length (nodes_in us)) us) ≡ []
+  nodes-past [] = refl
+  nodes-past (u ∷ us) = elim (cases_Bool (is_used u)) [ inl e ↦ rw e (nodes-past us) | inr e ↦ rw (e, e) refl ]
+
+  -- a pass over the first k places, which are the nodes
+  pub pass-done : (f : List (Node S V) → List (Node S V)) (us row ys : List (Node S V)) (k : ℕ) → row ≡ us → k ≡ length (nodes_in row) → take k row ≡ nodes_in row → ys ≡ f (take k row) → ys ++ drop k row ≡ on_nodes f us
+  pass-done f us row ys k whole many first done = rw (done, first, many, whole) refl
+
+  module _ (f : Node S V → Node S V) where
+    pub mapped-long : (us : List (Node S V)) → length (on_nodes (map f) us) ≡ length us
+    mapped-long us = omega (arith, length-append (map f (nodes_in us)) (drop (length (nodes_in us)) us), length-map (nodes_in us) f, length-drop (length (nodes_in us)) us, standing-short us)
+
+    pub mapped-nodes : ((x : Node S V) → is_used (f x) ≡ is_used x) → (us : List (Node S V)) → length (nodes_in (on_nodes (map f) us)) ≡ length (nodes_in us)
+    mapped-nodes keeps [] = refl
+    mapped-nodes keeps (u ∷ us) = elim (cases_Bool (is_used u)) [ inl e ↦ rw (e, keeps u, e) (ap suc (mapped-nodes keeps us)) | inr e ↦ rw (e, e) refl ]
+
+module _ {S V : Type 0} (z : Node S V) where
+  nodes-blank : (m : ℕ) (q : List (Node S V)) → nodes_in q ≡ [] → (c : ℕ) → get_or (nodes_in (replicate m z ++ q)) c z ≡ z
+  nodes-blank zero q none c = rw none refl
+  nodes-blank (suc m) q none zero = cond_both (is_used z) (z ∷ nodes_in (replicate m z ++ q)) [] (λ ns. get_or ns 0 z ≡ z) (λ e. refl) (λ e. refl)
+  nodes-blank (suc m) q none (suc c) = cond_both (is_used z) (z ∷ nodes_in (replicate m z ++ q)) [] (λ ns. get_or ns (suc c) z ≡ z) (λ e. nodes-blank m q none c) (λ e. refl)
+
+  -- read with z past its end, a layer whose nodes that have a test's yes are moved together is those nodes
+  pub nodes-moved : (p : Node S V → Bool) (vs : List (Node S V)) (m : ℕ) (q : List (Node S V)) → nodes_in q ≡ [] → ((a : ℕ) → p (get_or vs a z) ≡ true → is_used (get_or vs a z) ≡ true)
+      → (c : ℕ) → get_or (nodes_in (filter p vs ++ (replicate m z ++ q))) c z ≡ get_or (filter p vs) c z
+  nodes-moved p [] m q none used c = nodes-blank m q none c
+  nodes-moved p (v ∷ vs) m q none used zero = elim (cases_Bool (p v)) [ inl e ↦ rw (e, used 0 e) refl | inr e ↦ rw e (nodes-moved p vs m q none (λ a. used (suc a)) zero) ]
+  nodes-moved p (v ∷ vs) m q none used (suc c) = elim (cases_Bool (p v)) [
+    | inl e ↦ rw (e, used 0 e) (nodes-moved p vs m q none (λ a. used (suc a)) c)
+    | inr e ↦ rw e (nodes-moved p vs m q none (λ a. used (suc a)) (suc c))
+  ]
