@@ -47,7 +47,9 @@ module _ {S V : Type 0} (by : Setting S V) where
       let n = length vs in
       All-from_get_or (Early (latest_finish (suc k))) (map f (range_with_len 0 n)) (blank_node by.rule by.tally)
       (λ b lt. subst (Early (latest_finish (suc k))) (sym (get_or-map-range_with_len f 0 n b b (blank_node by.rule by.tally) (omega (arith, length-map-range_with_len f 0 n)) (omega arith)))
-      (gathered-soon (latest_finish (suc k)) (arrivals by (b + 1) (nodes_in us)) (all-arrivals by (Soon (latest_finish (suc k))) (Early (latest_finish k)) (λ u j e. arrive-soon k u.label.down j e) (b + 1) (nodes_in us) (all_nodes (Early (latest_finish k)) us h))))
+      (gathered-soon (latest_finish (suc k)) (arrivals by (b + 1) (nodes_in us))
+      (all-arrivals by (Soon (latest_finish (suc k))) (Early (latest_finish k)) (λ u j e. arrive-soon k u.label.down j e) (b + 1) (nodes_in us)
+      (all_nodes (Early (latest_finish k)) us h))))
 
   pub first_early : (us : List (Node S V)) → All (Early (latest_finish 0)) (first_layer by.rule by.tally us)
   first_early [] = tt
@@ -66,18 +68,23 @@ pub early_at_last : {S V : Type 0} (later : ℕ) (us : List (Node S V)) → All 
 early_at_last later us h = all_mono (Early (latest_finish (15 - later))) (Early (latest_finish 15)) (λ u e. omega arith) us h
 
 -- and the layer after it
-pub early_on : {S V : Type 0} (by : Setting S V) (later : ℕ) (us rest : List (Node S V)) → later ≢ 0 → later ≤ 15 → by.width ≤ length rest → All (Early (latest_finish (15 - later))) us
+pub early_on : {S V : Type 0} (by : Setting S V) (later : ℕ) (us rest : List (Node S V)) → later ≢ 0 → later ≤ 15 → by.width ≤ length rest
+    → All (Early (latest_finish (15 - later))) us
     → All (Early (latest_finish (15 - (later - 1)))) (take by.width (next_layer by us (take by.width rest) ++ drop by.width rest))
 early_on by later us rest ne most room h =
     let N = next_layer by us (take by.width rest) in
     let k : suc (15 - later) ≡ 15 - (later - 1) = omega arith in
-    rw (take_at N (drop by.width rest) by.width (next-long by us (take by.width rest) ∙ length-take-le by.width rest room), ← k) (next-early by (15 - later) us (take by.width rest) h)
+    rw (take_at N (drop by.width rest) by.width (next-long by us (take by.width rest) ∙ length-take-le by.width rest room), ← k)
+    (next-early by (15 - later) us (take by.width rest) h)
 
 pub after_more : {S V : Type 0} (by : Setting S V) (k : ℕ) (xs : List (Node S V)) → k ≢ 0
-    → labelled_after by k xs ≡ take by.width xs ++ labelled_after by (k - 1) (next_layer by (take by.width xs) (take by.width (drop by.width xs)) ++ drop by.width (drop by.width xs))
+    → labelled_after by k xs
+    ≡ take by.width xs ++ labelled_after by (k - 1) (next_layer by (take by.width xs) (take by.width (drop by.width xs)) ++ drop by.width (drop by.width xs))
 unfolding labelled_after
 after_more by zero xs ne = absurd (ne refl)
 after_more by (suc k) xs ne = let e : suc k - 1 ≡ k = omega arith in rw e
 
-pub early_first : {S V : Type 0} (by : Setting S V) (n : ℕ) (us rest : List (Node S V)) → length us ≡ by.width → All (Early (latest_finish n)) (take by.width (first_layer by.rule by.tally us ++ rest))
-early_first by n us rest e = rw (take_at (first_layer by.rule by.tally us) rest by.width (first-long by.rule by.tally us ∙ e)) (all_mono (Early (latest_finish 0)) (Early (latest_finish n)) (λ u h. omega arith) (first_layer by.rule by.tally us) (first_early by us))
+pub early_first : {S V : Type 0} (by : Setting S V) (n : ℕ) (us rest : List (Node S V)) → length us ≡ by.width
+    → All (Early (latest_finish n)) (take by.width (first_layer by.rule by.tally us ++ rest))
+early_first by n us rest e = rw (take_at (first_layer by.rule by.tally us) rest by.width (first-long by.rule by.tally us ∙ e))
+    (all_mono (Early (latest_finish 0)) (Early (latest_finish n)) (λ u h. omega arith) (first_layer by.rule by.tally us) (first_early by us))

@@ -41,13 +41,15 @@ module _ {S V : Type 0} (by : Setting S V) where
   doors-in b l ts to a m h e =
       by-doors (over-door (suc b) to l) (arrivals_by_door (arrival_over by) b l) ts a m h (λ j. refl)
       (λ k i q ge lt. no-door b to l k (ap (λ (k : ℕ). get_or to k 0) (sym q) ∙ e i lt ∙ get_or_past ts i 0 ge))
-      (λ k i rest q lt. rw (← q, e i (omega arith), q, add-one k) (put-cond (eqb (get_or ts i 0) (suc b)) (arrival_over by l (suc k)) (arrivals_by_door (arrival_over by) b l (suc (suc k)) rest)))
+      (λ k i rest q lt. rw (← q, e i (omega arith), q, add-one k)
+      (put-cond (eqb (get_or ts i 0) (suc b)) (arrival_over by l (suc k)) (arrivals_by_door (arrival_over by) b l (suc (suc k)) rest)))
 
   -- a record with these targets and this label
   abbrev made : Outs → Down S V → Node S V
   made nd l = record { arcs = record { to = padded_targets nd }; label = record { down = l; up = no_up } }
 
-  from-doors : (b : ℕ) (nd : Outs) (l : Down S V) → length nd ≤ 16 → flat_map (over-door (suc b) (padded_targets nd) l) (range_with_len 0 16) ≡ arrivals_by_door (arrival_over by) b l 1 nd
+  from-doors : (b : ℕ) (nd : Outs) (l : Down S V) → length nd ≤ 16
+      → flat_map (over-door (suc b) (padded_targets nd) l) (range_with_len 0 16) ≡ arrivals_by_door (arrival_over by) b l 1 nd
   from-doors b nd l h = doors-in b l nd (padded_targets nd) 0 16 h (λ i g. ap (λ (k : ℕ). get_or (padded_targets nd) k 0) (zero-add i) ∙ table_at 16 i (λ k. get_or nd k 0) 0 g)
 
   from-used : (b : ℕ) (nd : Outs) (l : Down S V) → length nd ≤ 16 → eqb l.lasts 0 ≡ false → from_node by (suc b) (made nd l) ≡ arrivals_by_door (arrival_over by) b l 1 nd
@@ -56,10 +58,12 @@ module _ {S V : Type 0} (by : Setting S V) where
 
   from-bare : (b : ℕ) (l : Down S V) → from_node by (suc b) (made [] l) ≡ []
   unfolding from_node by_door arrivals_by_door
-  from-bare b l = cond_both (eqb l.lasts 0) [] (flat_map (over-door (suc b) (padded_targets []) l) (range_with_len 0 16)) (λ ys. ys ≡ []) (λ _. refl) (λ _. from-doors b [] l (omega arith))
+  from-bare b l = cond_both (eqb l.lasts 0) [] (flat_map (over-door (suc b) (padded_targets []) l) (range_with_len 0 16)) (λ ys. ys ≡ []) (λ _. refl)
+      (λ _. from-doors b [] l (omega arith))
 
   -- places without arcs
-  cut-none : (b : ℕ) (q : Bool) (x : Node S V) (us : List (Node S V)) → from_node by (suc b) x ≡ [] → flat_map (from_node by (suc b)) us ≡ [] → flat_map (from_node by (suc b)) (cond q (x ∷ us) []) ≡ []
+  cut-none : (b : ℕ) (q : Bool) (x : Node S V) (us : List (Node S V)) → from_node by (suc b) x ≡ [] → flat_map (from_node by (suc b)) us ≡ []
+      → flat_map (from_node by (suc b)) (cond q (x ∷ us) []) ≡ []
   cut-none b true x us e f = ap₂ (λ ys zs. ys ++ zs) e f
   cut-none b false x us e f = refl
 

@@ -122,7 +122,8 @@ module _ {S V : Type 0} (by : Setting S V) where
       let f : ℕ → Option (Down S V) = λ b. gather (merge by.rule by.tally) (arrivals_at (arrival_over by) b labs L) in
       ⊎_elim
       (λ h. ap (or_blank by.rule by.tally) (sym (table_at m b f None h)))
-      (λ h. ap (λ xs. or_blank by.rule by.tally (gather (merge by.rule by.tally) xs)) (in-nothing b m labs L g h) ∙ ap (or_blank by.rule by.tally) (sym (get_or_past (table m f) b None (omega (arith, table-long m f)))))
+      (λ h. ap (λ xs. or_blank by.rule by.tally (gather (merge by.rule by.tally) xs)) (in-nothing b m labs L g h)
+      ∙ ap (or_blank by.rule by.tally) (sym (get_or_past (table m f) b None (omega (arith, table-long m f)))))
       (cases_lt b m)
 
   -- the m records after the layer us
@@ -159,7 +160,8 @@ module _ {S V : Type 0} (by : Setting S V) where
           let same : fold (merge by.rule by.tally) x xs ≡ l = cc in
           subst (λ (y : Down S V). 0 < y.lasts) same all
 
-  standing-next : (labs : List (Option (Down S V))) (L M : Layer) (Ls : Net) → length M ≤ by.width → IsTied (L ∷ M ∷ Ls) → Standing by labs L → Standing by (labels_next by labs L (length M)) M
+  standing-next : (labs : List (Option (Down S V))) (L M : Layer) (Ls : Net) → length M ≤ by.width → IsTied (L ∷ M ∷ Ls) → Standing by labs L
+      → Standing by (labels_next by labs L (length M)) M
   unfolding labels_next next
   standing-next labs L M Ls room tied s b h =
       let f : ℕ → Option (Down S V) = λ b. gather (merge by.rule by.tally) (arrivals_at (arrival_over by) b labs L) in
@@ -171,7 +173,8 @@ module _ {S V : Type 0} (by : Setting S V) where
   Half labs [] ys = map bare (take 1 ys) ≡ table 1 (record_of_place by [] labs [])
   Half labs (L ∷ Ls) ys = (map bare (take by.width ys) ≡ table by.width (record_of_place by L labs [])) × Half (labels_next by labs L (width Ls)) Ls (drop by.width ys)
 
-  down-laid : (k : ℕ) (labs : List (Option (Down S V))) (L : Layer) (Ls : Net) (xs : List (Node S V)) → length Ls ≡ k → Good by.width (L ∷ Ls) → IsTied (L ∷ Ls) → Standing by labs L
+  down-laid : (k : ℕ) (labs : List (Option (Down S V))) (L : Layer) (Ls : Net) (xs : List (Node S V)) → length Ls ≡ k → Good by.width (L ∷ Ls)
+      → IsTied (L ∷ Ls) → Standing by labs L
       → map bare (take by.width xs) ≡ table by.width (record_of_place by L labs []) → Arranged by.width Ls (drop by.width xs)
       → Half labs (L ∷ Ls) (labelled_after by k xs) × (past by.width (suc k) (labelled_after by k xs) ≡ past by.width (suc k) xs)
   unfolding labelled_after
@@ -194,7 +197,8 @@ module _ {S V : Type 0} (by : Setting S V) where
       let us-long = mapped-long bare (record_of_place by L labs []) by.width us here in
       let n-long = mapped-long bare (record_of_place by M labs' []) by.width N nb in
       let Z = labelled_after by k (N ++ D) in
-      let ih = down-laid k labs' M Ls (N ++ D) (omega arith) good.3 tied.3 (standing-next labs L M Ls good.3.1 tied last) (rw (take_at N D by.width n-long) nb) (rw (drop_at N D by.width n-long) arr.1) in
+      let ih = down-laid k labs' M Ls (N ++ D) (omega arith) good.3 tied.3 (standing-next labs L M Ls good.3.1 tied last)
+      (rw (take_at N D by.width n-long) nb) (rw (drop_at N D by.width n-long) arr.1) in
       rw (take_at us Z by.width us-long, drop_at us Z by.width us-long) ((here, ih.0), ih.1 ∙ ap (past by.width k) (drop_at N D by.width n-long))
 
 -- ---- up
@@ -217,7 +221,8 @@ module _ {S V : Type 0} where
   abbrev Linked : List (Option Up) → List (Node S V) → ℕ → Type 0
   Linked us vs b = (v : Node S V) × (numbered (suc b) vs ≡ v ∷ []) × (get_or us b None ≡ Some v.label.up)
 
-  climb-at : (us : List (Option Up)) (vs : List (Node S V)) (t j : ℕ) (rest : List Up) → ((b : ℕ) → t ≡ suc b → Linked us vs b) → map (λ v. climb v.label.up j) (numbered t vs) ++ rest ≡ cons_if_some climb j (read us t) rest
+  climb-at : (us : List (Option Up)) (vs : List (Node S V)) (t j : ℕ) (rest : List Up) → ((b : ℕ) → t ≡ suc b → Linked us vs b)
+      → map (λ v. climb v.label.up j) (numbered t vs) ++ rest ≡ cons_if_some climb j (read us t) rest
   climb-at us vs zero j rest g = refl
   climb-at us vs (suc b) j rest g = let v = g b refl in rw v.2 (ap (λ ns. map (λ (v : Node S V). climb v.label.up j) ns ++ rest) v.1)
 
@@ -242,7 +247,8 @@ linked : {S V : Type 0} (us : List (Option Up)) (vs : List (Node S V)) (b : ℕ)
 linked us vs b d x h e q = (get_or vs b d, numbered-at b vs d h, e ∙ ap Some (sym q))
 
 module _ {S V : Type 0} (by : Setting S V) where
-  node-ups : (L : Layer) (Ls : Net) (labs : List (Option (Down S V))) (vs : List (Node S V)) (a : ℕ) → Standing by labs L → length (node L a) ≤ 16 → ((j b : ℕ) → target (node L a) j ≡ suc b → Linked (ups Ls) vs b)
+  node-ups : (L : Layer) (Ls : Net) (labs : List (Option (Down S V))) (vs : List (Node S V)) (a : ℕ) → Standing by labs L → length (node L a) ≤ 16
+      → ((j b : ℕ) → target (node L a) j ≡ suc b → Linked (ups Ls) vs b)
       → gathered_up (ups_of vs (record_of_place by L labs [] a)) ≡ or_no_up (get_or (ups (L ∷ Ls)) a None)
   unfolding ups_of up_by ups up climbs_of gather gathered_up
   node-ups L Ls labs vs a s h g =
@@ -257,7 +263,8 @@ module _ {S V : Type 0} (by : Setting S V) where
       (λ lt. let l = s a lt in rw (l.1, l.2) (flow ∙ ap or_no_up (sym (get_or-map f L a [] None lt))))
       (λ ge.
       let none : get_or U a None ≡ None = get_or_past U a None (omega (arith, length-map L f)) in
-      rw none (cond_both (eqb (or_blank by.rule by.tally (get_or labs a None)).lasts 0) [] climbs (λ ys. gathered_up ys ≡ no_up) (λ _. refl) (λ _. flow ∙ ap (λ x. or_no_up (f x)) (get_or_past L a [] ge))))
+      rw none (cond_both (eqb (or_blank by.rule by.tally (get_or labs a None)).lasts 0) [] climbs (λ ys. gathered_up ys ≡ no_up) (λ _. refl)
+      (λ _. flow ∙ ap (λ x. or_no_up (f x)) (get_or_past L a [] ge))))
       (cases_lt a (length L))
 
   risen-block : (L : Layer) (labs : List (Option (Down S V))) (U : List (Option Up)) (us vs : List (Node S V)) → map bare us ≡ table by.width (record_of_place by L labs [])
@@ -268,7 +275,8 @@ module _ {S V : Type 0} (by : Setting S V) where
       mapped-is (risen vs) (record_of_place by L labs U) by.width us (mapped-long bare R by.width us e)
       (λ a d h. ap (λ (y : Node S V). with_up y (gathered_up (ups_of vs y))) (mapped-at bare R by.width us a d e h) ∙ ap (with_up (R a)) (g a))
 
-  up-laid : (k : ℕ) (labs : List (Option (Down S V))) (L : Layer) (Ls : Net) (ys : List (Node S V)) → length Ls ≡ k → Good by.width (L ∷ Ls) → IsTied (L ∷ Ls) → Standing by labs L → Half by labs (L ∷ Ls) ys
+  up-laid : (k : ℕ) (labs : List (Option (Down S V))) (L : Layer) (Ls : Net) (ys : List (Node S V)) → length Ls ≡ k → Good by.width (L ∷ Ls)
+      → IsTied (L ∷ Ls) → Standing by labs L → Half by labs (L ∷ Ls) ys
       → risen_from by.width k ys ≡ labelled_from by labs (L ∷ Ls) ++ past by.width (suc k) ys
   unfolding labelled_from ups up risen_from
   up-laid zero labs L [] ys e good tied s half =
@@ -288,7 +296,8 @@ module _ {S V : Type 0} (by : Setting S V) where
       let VS = table by.width (record_of_place by M labs' U) in
       let X = labelled_from by (labels_next by labs' M (width Ls)) Ls in
       let later = past by.width (suc k) (drop by.width ys) in
-      let ih : risen_from by.width k (drop by.width ys) ≡ (VS ++ X) ++ later = up-laid k labs' M Ls (drop by.width ys) (omega arith) good.3 tied.3 (standing-next by labs L M Ls good.3.1 tied s) half.1 in
+      let ih : risen_from by.width k (drop by.width ys) ≡ (VS ++ X) ++ later = up-laid k labs' M Ls (drop by.width ys) (omega arith) good.3 tied.3
+      (standing-next by labs L M Ls good.3.1 tied s) half.1 in
       let front : take by.width ((VS ++ X) ++ later) ≡ VS = ap (take by.width) (append_assoc VS X later) ∙ take_at VS (X ++ later) by.width (table-long by.width (record_of_place by M labs' U)) in
       rw (ih, front)
       (ap (λ x. x ++ ((VS ++ X) ++ later)) (risen-block L labs (ups (L ∷ M ∷ Ls)) us VS half.0 (λ a. node-ups L (M ∷ Ls) labs VS a s (good.0 a) (λ j b t.
@@ -303,12 +312,14 @@ module _ {S V : Type 0} (by : Setting S V) where
   first_block : (L : Layer) (us : List (Node S V)) → map arcs_of us ≡ table by.width (arcs_at L) → map bare (first_layer by.rule by.tally us) ≡ table by.width (record_of_place by L (first_labels by.rule by.tally) [])
   first_block L us e =
       let R = record_of_place by L (first_labels by.rule by.tally) [] in
-      mapped-is bare R by.width (first_layer by.rule by.tally us) (first-long by.rule by.tally us ∙ mapped-long arcs_of (arcs_at L) by.width us e)
-      (λ a d h.
-      at_first us a d (omega (arith, mapped-long arcs_of (arcs_at L) by.width us e))
-      ∙ ap (λ (x : Arcs). record { arcs = x; label = record { down = or_blank by.rule by.tally (get_or (first_labels by.rule by.tally) a None); up = no_up } }) (mapped-at arcs_of (arcs_at L) by.width us a d e h))
+      let long = mapped-long arcs_of (arcs_at L) by.width us e in
+      mapped-is bare R by.width (first_layer by.rule by.tally us) (first-long by.rule by.tally us ∙ long)
+      (λ a d h. at_first us a d (omega (arith, long)) ∙ ap (first_at a) (mapped-at arcs_of (arcs_at L) by.width us a d e h))
     where
-      at_first : (us : List (Node S V)) (a : ℕ) (d : Node S V) → a < length us → bare (get_or (first_layer by.rule by.tally us) a d) ≡ record { arcs = (get_or us a d).arcs; label = record { down = or_blank by.rule by.tally (get_or (first_labels by.rule by.tally) a None); up = no_up } }
+      first_at : ℕ → Arcs → Node S V
+      first_at a x = record { arcs = x; label = record { down = or_blank by.rule by.tally (get_or (first_labels by.rule by.tally) a None); up = no_up } }
+
+      at_first : (us : List (Node S V)) (a : ℕ) (d : Node S V) → a < length us → bare (get_or (first_layer by.rule by.tally us) a d) ≡ first_at a (get_or us a d).arcs
       at_first [] a d h = absurd (omega arith)
       at_first (u ∷ us) zero d h = refl
       at_first (u ∷ us) (suc a) d h = ap bare (get_or-map (cleared by.rule by.tally) us a d d (omega arith))
@@ -317,7 +328,8 @@ module _ {S V : Type 0} (by : Setting S V) where
   standing-first L e zero lt = (first_label by.rule by.tally, refl, refl)
   standing-first L e (suc a) lt = absurd (omega arith)
 
-  pub relabelled-laid : (k : ℕ) (L : Layer) (Ls : Net) (xs : List (Node S V)) → by.round.n ≡ suc k → length Ls ≡ k → length L ≡ 1 → Good by.width (L ∷ Ls) → IsTied (L ∷ Ls) → Arranged by.width (L ∷ Ls) xs
+  pub relabelled-laid : (k : ℕ) (L : Layer) (Ls : Net) (xs : List (Node S V)) → by.round.n ≡ suc k → length Ls ≡ k → length L ≡ 1
+      → Good by.width (L ∷ Ls) → IsTied (L ∷ Ls) → Arranged by.width (L ∷ Ls) xs
       → relabelled by xs ≡ labelled_records by (L ∷ Ls) ++ drop (by.round.n * by.width + 1) xs
   unfolding relabelled labelled_records pass_down pass_up
   relabelled-laid k L Ls xs en el first good tied arr =
@@ -325,11 +337,13 @@ module _ {S V : Type 0} (by : Setting S V) where
       let F = first_layer by.rule by.tally us in
       let D = drop by.width xs in
       let long : length F ≡ by.width = first-long by.rule by.tally us ∙ mapped-long arcs_of (arcs_at L) by.width us arr.0 in
-      let d = down-laid by k (first_labels by.rule by.tally) L Ls (F ++ D) el good tied (standing-first L first) (rw (take_at F D by.width long) (first_block L us arr.0)) (rw (drop_at F D by.width long) arr.1) in
+      let d = down-laid by k (first_labels by.rule by.tally) L Ls (F ++ D) el good tied (standing-first L first)
+      (rw (take_at F D by.width long) (first_block L us arr.0)) (rw (drop_at F D by.width long) arr.1) in
       let p : by.round.n - 1 ≡ k = omega arith in
       rw p
       (up-laid k (first_labels by.rule by.tally) L Ls (labelled_after by k (F ++ D)) el good tied (standing-first L first) d.0
-      ∙ ap (λ ys. labelled_from by (first_labels by.rule by.tally) (L ∷ Ls) ++ ys) (d.1 ∙ ap (past by.width k) (drop_at F D by.width long) ∙ past-is by.width (suc k) xs ∙ ap (λ (n : ℕ). drop (n * by.width + 1) xs) (sym en)))
+      ∙ ap (λ ys. labelled_from by (first_labels by.rule by.tally) (L ∷ Ls) ++ ys)
+      (d.1 ∙ ap (past by.width k) (drop_at F D by.width long) ∙ past-is by.width (suc k) xs ∙ ap (λ (n : ℕ). drop (n * by.width + 1) xs) (sym en)))
 
   -- of arcs that a diagram may have
   pub relabelled-lawful : (Ls : Net) (xs : List (Node S V)) → IsLawful by.round.n by.width Ls → Arranged by.width Ls xs → relabelled by xs ≡ records_with by xs Ls

@@ -16,7 +16,8 @@ picked-most false o d h p = p
 nearest-most : (r : Round) (m j i : ℕ) → unwrap_or (nearest_of r m j i) 0 ≤ 999
 unfolding leg_step
 nearest-most r m j i =
-    folded_keeps (λ o. unwrap_or o 0 ≤ 999) (leg_step r m j) (λ o i h. picked-most (has m i && not (eqb i j)) o (drive r i j) (r.legs i j) h) None (range_with_len 0 i) (omega arith)
+    folded_keeps (λ o. unwrap_or o 0 ≤ 999) (leg_step r m j) (λ o i h. picked-most (has m i && not (eqb i j)) o (drive r i j) (r.legs i j) h) None
+    (range_with_len 0 i) (omega arith)
 
 pub leg-most : (r : Round) (m j : ℕ) → leg r m j ≤ 999
 unfolding leg
@@ -29,7 +30,8 @@ far-step None false d h p = omega arith
 far-step (Some a) true d h p = omega arith
 far-step (Some a) false d h p = omega arith
 
-pub nearest_with : (r : Round) (m j i : ℕ) → has m i ≡ true → unwrap_or (nearest_of r m j (i + 1)) 1000 ≡ min (unwrap_or (nearest_of r m j i) 1000) (cond (eqb i j) 1000 (drive r i j))
+pub nearest_with : (r : Round) (m j i : ℕ) → has m i ≡ true
+    → unwrap_or (nearest_of r m j (i + 1)) 1000 ≡ min (unwrap_or (nearest_of r m j i) 1000) (cond (eqb i j) 1000 (drive r i j))
 unfolding leg_step
 nearest_with r m j i h =
     ap (λ o. unwrap_or o 1000) (folded_counting (leg_step r m j) None i)

@@ -1,7 +1,7 @@
 -- Layers of w records, one after the other
-use Rattle.std.proofs.Common.{◌≡◌, ℕ, ◌+◌, ◌-◌, ◌*◌, ◌<◌, ◌≢◌, List, ◌++◌, length, take, drop, ap, ◌∙◌, append-nil, add-mul, one-mul, arith}
+use Rattle.std.proofs.Common.{◌≡◌, ℕ, ◌+◌, ◌-◌, ◌*◌, ◌<◌, ◌≤◌, ◌≢◌, List, ◌++◌, length, take, drop, sym, ap, ◌∙◌, append-nil, add-mul, one-mul, arith}
 use borrow.Rule.Slice.PartMut.{put_mid}
-use Rattle.std.proofs.lemmas.List.{drop_all, length-drop}
+use Rattle.std.proofs.lemmas.List.{drop_all, length-drop, length-take-le}
 
 pub one_more : (left w : ℕ) → left ≢ 0 → left * w ≡ (left - 1) * w + w
 one_more left w ne = let e : left ≡ left - 1 + 1 = omega arith in ap (λ n. n * w) e ∙ omega (arith, add-mul (left - 1) 1 w, one-mul w)
@@ -11,6 +11,9 @@ one-fits left w m ne le = omega (arith, one_more left w ne)
 
 pub rest-fits : (left w m : ℕ) → left ≢ 0 → left * w < m → (left - 1) * w < m - w
 rest-fits left w m ne le = omega (arith, one_more left w ne)
+
+pub front_long : {X : Type 0} (w : ℕ) (xs : List X) → w ≤ length xs → w ≡ length (take w xs)
+front_long w xs h = sym (length-take-le w xs h)
 
 pub rest_put : {X : Type 0} (w : ℕ) (xs ys : List X) → put_mid w (length xs - w) xs ys ≡ take w xs ++ ys
 rest_put w xs ys =

@@ -104,7 +104,8 @@ module _ {S V : Type 0} (by : Setting S V) where
   taken-gathered (x ∷ xs) h = taken-merged x xs h.0
 
   -- what holds of each arrival
-  pub all-arrivals : (P : Down S V → Type 0) (Q : Node S V → Type 0) → ((u : Node S V) (j : ℕ) → Q u → P (arrival_over by u.label.down j)) → (t : ℕ) (us : List (Node S V)) → All Q us → All P (arrivals by t us)
+  pub all-arrivals : (P : Down S V → Type 0) (Q : Node S V → Type 0) → ((u : Node S V) (j : ℕ) → Q u → P (arrival_over by u.label.down j))
+      → (t : ℕ) (us : List (Node S V)) → All Q us → All P (arrivals by t us)
   unfolding from_node by_door
   all-arrivals P Q f t =
       all_joined P Q (from_node by t)

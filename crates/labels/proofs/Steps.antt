@@ -15,7 +15,8 @@ folded-counting-more f F a k =
     ∙ ap (fold f a) (sym (flat_map_more F [] (range_with_len 0 k) k))
     ∙ fold-append f a (flat_map F (range_with_len 0 k)) (F k)
 
-pub folded_more : {A B : Type 0} (f : B → A → B) (F : ℕ → List A) (a : B) (k : ℕ) → fold f a (flat_map F (range_with_len 0 (k + 1))) ≡ fold f (fold f a (flat_map F (range_with_len 0 k))) (F k)
+pub folded_more : {A B : Type 0} (f : B → A → B) (F : ℕ → List A) (a : B) (k : ℕ)
+    → fold f a (flat_map F (range_with_len 0 (k + 1))) ≡ fold f (fold f a (flat_map F (range_with_len 0 k))) (F k)
 folded_more f F a k = folded-counting-more f F a k
 
 taken-some : (a : Up) (xs : List Up) → fold taken_up (Some a) xs ≡ Some (fold merge_up a xs)
@@ -27,7 +28,8 @@ unfolding gathered_up
 taken_gathered [] = refl
 taken_gathered (x ∷ xs) = ap (λ o. unwrap_or o no_up) (taken-some x xs)
 
-pub climb_one : {S V : Type 0} (vs : List (Node S V)) (b j : ℕ) (x : Up) → b < length vs → ((d : Node S V) → x ≡ climb (get_or vs b d).label.up j) → map (λ (v : Node S V). climb v.label.up j) (take 1 (drop b vs)) ≡ x ∷ []
+pub climb_one : {S V : Type 0} (vs : List (Node S V)) (b j : ℕ) (x : Up) → b < length vs → ((d : Node S V) → x ≡ climb (get_or vs b d).label.up j)
+    → map (λ (v : Node S V). climb v.label.up j) (take 1 (drop b vs)) ≡ x ∷ []
 climb_one [] b j x lt h = absurd (omega arith)
 climb_one (v ∷ vs) zero j x lt h = ap (λ y. y ∷ []) (sym (h v))
 climb_one (v ∷ vs) (suc b) j x lt h = climb_one vs b j x (omega arith) h
@@ -43,7 +45,8 @@ module _ {S V : Type 0} (w : ℕ) where
   unfolding risen_from
   risen_last xs d h = rw (bare_first (drop w xs) d h)
 
-  pub risen_more : (k : ℕ) (xs : List (Node S V)) → k ≢ 0 → risen_from w k xs ≡ map (risen (take w (risen_from w (k - 1) (drop w xs)))) (take w xs) ++ risen_from w (k - 1) (drop w xs)
+  pub risen_more : (k : ℕ) (xs : List (Node S V)) → k ≢ 0
+      → risen_from w k xs ≡ map (risen (take w (risen_from w (k - 1) (drop w xs)))) (take w xs) ++ risen_from w (k - 1) (drop w xs)
   unfolding risen_from
   risen_more zero xs ne = absurd (ne refl)
   risen_more (suc k) xs ne = let e : suc k - 1 ≡ k = omega arith in rw e

@@ -187,7 +187,7 @@ fn begin<R: Rule, T: Tally>(rule: &R, tally: &T, us: &mut [Node<R::State, T::Val
 }
 
 /// Works out anew the labels after a layer, which has its own, with `later` layers between it and the end.
-#[tactic(auto, using(crate::proofs::Rests::one_more))]
+#[tactic(auto, using(crate::proofs::Rests::one_more, crate::proofs::Rests::front_long))]
 fn label_after<R: Rule, T: Tally>(
     by: &Setting<'_, R, T>,
     nodes: &mut [Node<R::State, T::Value>],
@@ -210,7 +210,7 @@ fn label_after<R: Rule, T: Tally>(
 }
 
 /// Works out anew all that is worked out from the first node.
-#[tactic(auto, using(crate::proofs::Rests::one_more), unfolding(crate::specs::Passes::pass_down))]
+#[tactic(auto, using(crate::proofs::Rests::one_more, crate::proofs::Rests::front_long), unfolding(crate::specs::Passes::pass_down))]
 pub(crate) fn label_down<R: Rule, T: Tally>(
     by: &Setting<'_, R, T>,
     nodes: &mut [Node<R::State, T::Value>],

@@ -1,14 +1,9 @@
 use Rattle.std.proofs.Common.{◌≤◌, length, take, sym, arith}
-use Rattle.std.proofs.lemmas.List.{length-take-le}
 use Rattle.layers.specs.Settings.{lent_setting}
 use Rattle.labels.specs.Passes.{labelled_after}
 use Rattle.labels.proofs.Earlies.{early_at_last, early_on, after_more}
 use Rattle.labels.proofs.Rests.{one_more}
 use Rattle.labels.proofs.down.+label_after.Goals as goal
-
-pub slice_bounds-relabel_layer-end-else-later-eq0-2 : goal.slice_bounds-relabel_layer-end-else-later-eq0-2
-slice_bounds-relabel_layer-end-else-later-eq0-2 g t c =
-    sym (length-take-le c.args.by.now.width c.split_at_mut-us.result.1.now (omega (arith, one_more c.args.later c.args.by.now.width c.if-later-eq0.false, c.split_at_mut-us.ensures.back_len)))
 
 pub relabel_layer-requires-else-later-eq0 : goal.relabel_layer-requires-else-later-eq0
 relabel_layer-requires-else-later-eq0 g t c = rw c.split_at_mut-us.ensures.front (early_at_last c.args.later (take c.args.by.now.width c.args.nodes.now) c.requires.all_early)
@@ -50,4 +45,5 @@ returns-then-later-eq0 g t c = rw (c.if-later-eq0.true, c.relabel_layer.ensures,
 pub returns-else-later-eq0 : goal.returns-else-later-eq0
 returns-else-later-eq0 g t c =
     let by = lent_setting c.args.by.now (g.R.Rule.sense c.args.by.now.rule.now) (g.T.Tally.sense c.args.by.now.tally.now) in
-    rw (c.label_after.ensures, c.relabel_layer-else-later-eq0.ensures, c.split_at_mut-us.ensures.front, c.split_at_mut-us.ensures.back) (sym (after_more by c.args.later c.args.nodes.now c.if-later-eq0.false))
+    rw (c.label_after.ensures, c.relabel_layer-else-later-eq0.ensures, c.split_at_mut-us.ensures.front, c.split_at_mut-us.ensures.back)
+    (sym (after_more by c.args.later c.args.nodes.now c.if-later-eq0.false))

@@ -1,17 +1,14 @@
 use Rattle.std.proofs.Common.{sym, arith}
-use Rattle.std.proofs.lemmas.List.{length-drop, length-take-le}
-use Rattle.labels.proofs.Rests.{one_more}
+use Rattle.std.proofs.lemmas.List.{length-drop}
 use Rattle.labels.proofs.Steps.{risen_last, risen_more}
 use Rattle.labels.proofs.up.+rise_from.Goals as goal
 
-pub slice_bounds-rise_layer-end-else-later-eq0-2 : goal.slice_bounds-rise_layer-end-else-later-eq0-2
-slice_bounds-rise_layer-end-else-later-eq0-2 g t c =
-    sym (length-take-le c.args.width c.rise_from.new.nodes (omega (arith, one_more c.args.later c.args.width c.if-later-eq0.false, c.split_at_mut-us.ensures.back_len)))
-
 pub returns-then-later-eq0 : goal.returns-then-later-eq0
 returns-then-later-eq0 g t c =
-    rw (c.if-later-eq0.true, c.rise_layer.ensures, c.split_at_mut-us.ensures.front, c.split_at_mut-us.ensures.back) (risen_last c.args.width c.args.nodes.now c.index-rest-0.result (omega (arith, length-drop c.args.width c.args.nodes.now)))
+    rw (c.if-later-eq0.true, c.rise_layer.ensures, c.split_at_mut-us.ensures.front, c.split_at_mut-us.ensures.back)
+    (risen_last c.args.width c.args.nodes.now c.index-rest-0.result (omega (arith, length-drop c.args.width c.args.nodes.now)))
 
 pub returns-else-later-eq0 : goal.returns-else-later-eq0
 returns-else-later-eq0 g t c =
-    rw (c.rise_layer-else-later-eq0.ensures, c.rise_from.ensures, c.split_at_mut-us.ensures.front, c.split_at_mut-us.ensures.back) (sym (risen_more c.args.width c.args.later c.args.nodes.now c.if-later-eq0.false))
+    rw (c.rise_layer-else-later-eq0.ensures, c.rise_from.ensures, c.split_at_mut-us.ensures.front, c.split_at_mut-us.ensures.back)
+    (sym (risen_more c.args.width c.args.later c.args.nodes.now c.if-later-eq0.false))
