@@ -10,7 +10,7 @@ use Rattle.layers.specs.Net.{each_door, each_node, count_doors, count_layer}
 use Rattle.layers.specs.Records.{nodes_in}
 use Rattle.layers.specs.Targets.{targets, with_targets, redirected}
 use Rattle.layers.proofs.Counts.{nodes-fewer}
-use Rattle.layers.proofs.Shapes.{each_door-length}
+use Rattle.layers.proofs.Tied.{each_door-length}
 use Rattle.labels.specs.Passes.{part}
 use Rattle.tidying.specs.Counted.{arcs_of, arcs_within}
 use Rattle.tidying.proofs.InUse.{nodes-first}

@@ -1,5 +1,5 @@
 -- What it is for a list to have room for a diagram.
-use Rattle.std.proofs.Common.{◌≡◌, ℕ, ◌+◌, ◌*◌, ◌≤◌, true}
+use Rattle.std.proofs.Common.{◌≡◌, ℕ, ◌+◌, ◌*◌, ◌≤◌, true, le_trans, mul-le-mul_right, arith}
 use Rattle.std.proofs.lemmas.Bool.{and_parts, and_from, leb-true, le-leb}
 use Rattle.labels.specs.Passes.{fits}
 
@@ -16,3 +16,6 @@ room-facts n w long e =
 
 pub room-from : (n w long : ℕ) → 1 ≤ w → w ≤ 128 → n * w + 1 ≤ long → fits n w long ≡ true
 room-from n w long a b c = and_from _ _ (le-leb 1 w a) (and_from _ _ (le-leb w 128 b) (le-leb (n * w + 1) long c))
+
+pub few-records : (n w : ℕ) → n ≤ 16 → w ≤ 128 → n * w ≤ 2048
+few-records n w a b = le_trans (mul-le-mul_right w a) (omega arith)
