@@ -1,5 +1,5 @@
 //! A side rule: the order begins with one door. A state is whether the van may have begun.
-ghost use Rattle.std.specs.Prelude.{◌≡◌, ℕ, false, []};
+ghost use Rattle.std.specs.Prelude.{◌≡◌, false, []};
 ghost use Rattle.outside.specs.Opener.{Begins, opener_sense};
 ghost use Rattle.outside.specs.OpenerLaws.{opener_lawful, opener_lawful_for};
 

@@ -1,5 +1,5 @@
 //! `Load` is a side rule: a state is an interval, and stands for the part orders whose load lies in it.
-ghost use Rattle.std.specs.Prelude.{◌≡◌, ℕ, pos, ◌+ℤ◌, ◌≤ℤ◌, int_lt};
+ghost use Rattle.std.specs.Prelude.{◌≡◌, pos, ◌+ℤ◌, ◌≤ℤ◌, int_lt};
 ghost use Rattle.round.specs.Tables.{at};
 ghost use Rattle.rules.specs.Loads.{clamped_load, IsWithinCap, LiesBetween, load_sense};
 ghost use Rattle.rules.specs.LoadLaws.{load_lawful, load_lawful_for};
