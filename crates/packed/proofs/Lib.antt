@@ -1,7 +1,6 @@
 mod Bytes
 mod Lists
 mod Long
-mod Musts
 pub mod OnReads
 mod Parts
 mod Turns

@@ -1,21 +1,21 @@
 -- How long a sheet is.
 use Rattle.std.proofs.Common.{◌≡◌, ℕ, ◌+◌, ◌*◌, ◌/◌, ◌%◌, ◌<◌, ◌≤◌, ◌==◌, if◌then◌else◌, Bool, true, false, List, [], ◌∷◌, length, Option, Some, None, IsSome, Ok, Err, unwrap_or, refl, ap, ◌∙◌, arith, length-append}
 use Rattle.std.proofs.lemmas.Bool.{lt-ltb, le-ltb, eqb-true}
-use Rattle.std.proofs.lemmas.List.FromFn.{length-map-range_with_len}
 use Rattle.std.specs.Int.{from_bool}
 use Rattle.round.specs.declared.table.Round.{Round}
 use Rattle.layers.specs.Calls.{bound, after_calls, is_settled}
+use Rattle.diagram.specs.Musts.{musts}
 use Rattle.packed.specs.declared.refusal.Refusal.TheVariants.{Short}
 use Rattle.packed.specs.Answers.{answers}
 use Rattle.packed.specs.Requests.{Request, first_requests, requests_of, requests_in}
 use Rattle.packed.specs.Senses.{Recs, setting_for}
-use Rattle.packed.specs.Sheets.{behind, must_words, bound_words, first_words, head_words, opened_diagram, sheet_words, sheet_after}
+use Rattle.packed.specs.Sheets.{must_words, bound_words, first_words, head_words, opened_diagram, sheet_words, sheet_after}
 use Rattle.packed.specs.Words.{count_word}
 use Rattle.packed.proofs.Lists.{length-first, length-answers}
 
 pub length-must_words : (n W : ℕ) (xs : Recs) → length (must_words n W xs) ≡ 16
-unfolding must_words
-length-must_words n W xs = length-map-range_with_len (behind n W xs) 1 16
+unfolding musts
+length-must_words n W xs = refl
 
 length-bound_words : (o : Option (ℕ × ℕ)) → length (bound_words o) ≡ 3
 length-bound_words None = refl

@@ -1,11 +1,10 @@
 -- A sheet: the words that are written for a round, a width and a list of calls, or why they are refused.
-use Rattle.std.specs.Prelude.{◌≡◌, ℕ, zero, suc, ◌*◌, ◌^◌, ◌-◌, Bool, false, List, [], ◌∷◌, ◌++◌, map, length, replicate, Some, None, Option, Ok, Err, Result, nat_lt, bit_or, if◌then◌else◌, MatchBool, MatchResult, ℤ, pos, negsuc}
+use Rattle.std.specs.Prelude.{◌≡◌, ℕ, ◌*◌, ◌-◌, List, [], ◌∷◌, ◌++◌, length, drop, replicate, Some, None, Option, Ok, Err, Result, nat_lt, if◌then◌else◌, MatchBool, MatchResult, ℤ, pos, negsuc}
 use Rattle.std.specs.Int.{from_bool}
-use Rattle.std.specs.List.{range_with_len}
-use Rattle.std.specs.Result.{result_unwrap_or}
 use Rattle.round.specs.declared.table.Round.{Round}
 use Rattle.labels.specs.Passes.{blank_node}
-use Rattle.layers.specs.Calls.{Outcome, bound, must_answer, open_answer, after_open, after_calls, is_settled}
+use Rattle.layers.specs.Calls.{Outcome, bound, open_answer, after_open, after_calls, is_settled}
+use Rattle.diagram.specs.Musts.{musts}
 use Rattle.text.specs.declared.refusal.Refusal.{Refusal as TextRefusal}
 use Rattle.text.specs.declared.refusal.Refusal.TheVariants.{TooLong}
 use Rattle.text.specs.Reading.{read_text}
@@ -20,24 +19,6 @@ use Rattle.packed.specs.Senses.{Recs, setting_for}
 use Rattle.packed.specs.Words.{count_word, begun_with}
 
 -- ---- what a diagram of n doors and width W is asked, in the records xs
--- must of i and j is answered yes
-abbrev pub must_of : ℕ → ℕ → Recs → ℕ → ℕ → Bool
-must_of n W xs i j = result_unwrap_or (must_answer n W i j xs) false
-
--- the set of the doors 1 to k for which the test says yes
-abbrev pub set_where : (ℕ → Bool) → ℕ → ℕ
-set_where p zero = 0
-set_where p (suc k) = if p (suc k) then bit_or (set_where p k) (2 ^ suc k) else set_where p k
-
--- the doors that have to come behind door i; none where i is no door
-unfoldable pub behind : ℕ → ℕ → Recs → ℕ → ℕ
-behind n W xs i = set_where (must_of n W xs i) 16
-
--- the same for each of the numbers 1 to 16
-unfoldable pub must_words : ℕ → ℕ → Recs → List ℕ
-unfolding behind
-must_words n W xs = map (behind n W xs) (range_with_len 1 16)
-
 -- 1 and the bound, or zeros if there is none
 abbrev pub bound_words : Option (ℕ × ℕ) → List ℕ
 bound_words None = 0 ∷ 0 ∷ 0 ∷ []
@@ -49,9 +30,13 @@ unfolding bound is_settled
 first_words r W k xs =
     (r.n ∷ k ∷ from_bool (is_settled (setting_for r W) xs) ∷ []) ++ bound_words (bound r.n W xs)
 
+-- for each of the doors 1 to 16, the set of the doors that have to come behind it
+abbrev pub must_words : ℕ → ℕ → Recs → List ℕ
+must_words n W xs = drop 1 (musts n W xs)
+
 -- what the diagram is asked after its calls
 unfoldable pub head_words : Round → ℕ → ℕ → Recs → List ℕ
-unfolding first_words must_words
+unfolding first_words musts
 head_words r W k xs = first_words r W k xs ++ must_words r.n W xs
 
 -- ---- the sheet of a round

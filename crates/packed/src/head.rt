@@ -1,8 +1,8 @@
 //! What a diagram is asked after its calls: the words at the head of a sheet.
-ghost use Rattle.std.specs.Prelude.{◌≡◌, ℕ, ◌≤◌, length};
-ghost use Rattle.packed.specs.Sheets.{behind, must_words, first_words, head_words};
+ghost use Rattle.std.specs.Prelude.{◌≡◌, ◌≤◌, length};
+ghost use Rattle.packed.specs.Sheets.{first_words, head_words};
 ghost use Rattle.allowed.specs.Senses.{side_of};
-ghost use Rattle.diagram.specs.Words.{room_of, round_of, width_of, records_of};
+ghost use Rattle.diagram.specs.Words.{room_of, records_of};
 ghost use Rattle.packed.specs.Senses.{side_sense};
 ghost use Rattle.packed.specs.Words.{count_word, begun_with};
 
@@ -10,36 +10,9 @@ use crate::words::{count_word, put_words};
 use crate::work::{Cost, Held, Side};
 use diagram::diagram::Diagram;
 use diagram::room::Room;
-use doors::{DoorSet, with};
 
 /// The bytes ahead of the musts.
 const MUSTS: usize = 24;
-
-/// The doors that come behind door i in every wanted order, as a set.
-fn behind(diagram: &Diagram<'_, '_, Held, Cost>, i: usize) -> DoorSet
-    ensures { let n = (round_of diagram.now).n in
-        result ≡ behind n (width_of diagram.now) (records_of diagram.now) i }
-{
-    let mut set = 0;
-    for j in 1..17 {
-        if diagram.must(i, j).unwrap_or(false) {
-            set = with(set, j);
-        }
-    }
-    set
-}
-
-/// For each door, the doors behind it.
-fn musts(diagram: &Diagram<'_, '_, Held, Cost>) -> [DoorSet; 16]
-    ensures { let n = (round_of diagram.now).n in
-        result ≡ must_words n (width_of diagram.now) (records_of diagram.now) }
-{
-    let mut sets = [0; 16];
-    for k in 0..16 {
-        sets[k] = behind(diagram, k + 1);
-    }
-    sets
-}
 
 /// The words ahead of the musts, of a diagram on which so many calls were made.
 fn first_words(
@@ -78,6 +51,6 @@ pub(crate) fn put_head(
         ≡ begun_with (head_words room.entry.round.now room.entry.width (count_word calls)
         (records_of diagram.now)) out.old }
 {
-    put_words(&mut out[MUSTS..], &musts(diagram));
+    put_words(&mut out[MUSTS..], &diagram.musts()[1..]);
     put_words(out, &first_words(room, diagram, rule, calls));
 }

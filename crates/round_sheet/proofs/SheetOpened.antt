@@ -14,9 +14,10 @@ use Rattle.layers.specs.Settings.{Setting, setting}
 use Rattle.layers.specs.Calls.{after_call, after_calls, after_open, refinement, bound, is_settled}
 use Rattle.layers.specs.Claim.{ClaimHolds, WholeSettles}
 use Rattle.diagram.specs.declared.room.Room.{Room}
+use Rattle.diagram.specs.Musts.{musts}
 use Rattle.allowed.specs.Senses.{side_of, late_of}
 use Rattle.round_sheet.specs.declared.sheet.Sheet.{Sheet}
-use Rattle.round_sheet.specs.Sheets.{Records, setting_for, opened_for, refined_for, musts_of, sheet_of}
+use Rattle.round_sheet.specs.Sheets.{Records, setting_for, opened_for, refined_for, sheet_of}
 use Rattle.round_sheet.proofs.SheetClaims.{Claimed}
 
 -- what pairs on the round a and load on the round b answer, and late doors on the round t
@@ -77,7 +78,7 @@ module _ (m : Room) (a b t : Bor Round) (pairs : a ≡ m.round) (load : b ≡ m.
         → s.bound ≡ bound k.round.now.n k.width xs
         → s.refined ≡ (refined_for r lent).0
         → s.settled ≡ is_settled (setting k.round.now (side a b) (late_of r) k.width) xs
-        → s.musts ≡ musts_of k.round.now xs
+        → s.musts ≡ musts k.round.now.n k.width xs
         → s ≡ sheet_of r lent
     is_sheet k xs s e f eb er es em =
         let ys = (refined_for r lent).1 in
@@ -87,5 +88,5 @@ module _ (m : Room) (a b t : Bor Round) (pairs : a ≡ m.round) (load : b ≡ m.
         ∙ ap (λ (x : Room). is_settled (setting x.round.now (side a b) (late_of r) x.width) xs) e
         ∙ carried (λ R K T W. is_settled (setting r (side a b) (late_of r) m.width) xs ≡ is_settled (setting r R (late_of r) W) xs) refl
         ∙ ap (is_settled (setting_for r)) f in
-        let em' : s.musts ≡ musts_of r ys = em ∙ ap (λ (x : Room). musts_of x.round.now xs) e ∙ ap (musts_of r) f in
+        let em' : s.musts ≡ musts r.n 16 ys = em ∙ ap (λ (x : Room). musts x.round.now.n x.width xs) e ∙ ap (λ W. musts r.n W xs) wide ∙ ap (musts r.n 16) f in
         λ i. record { bound = eb' i; refined = er i; settled = es' i; musts = em' i }

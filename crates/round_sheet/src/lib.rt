@@ -2,7 +2,6 @@
 #![tactic(auto)]
 
 mod lines;
-mod read;
 pub mod sheet;
 #[cfg(test)]
 mod tests;

@@ -6,7 +6,6 @@ ghost use Rattle.refine.specs.Answers.{IsInnerIfFull};
 ghost use Rattle.round_sheet.specs.Claims.{NoneUndercuts, MustsHold, BoundIsReached, NoMustMissing};
 ghost use Rattle.round_sheet.specs.Sheets.{places_of, refined_for, sheet_of};
 
-use crate::read::musts_of;
 use diagram::diagram::Diagram;
 use diagram::room::Room;
 use doors::DoorSet;
@@ -84,7 +83,7 @@ fn sheet_on(room: Room<'_>, records: &mut [Place]) -> Sheet
         bound: diagram.bound(),
         refined,
         settled: diagram.settled(&rule),
-        musts: musts_of(&diagram),
+        musts: diagram.musts(),
     }
 }
 

@@ -1,11 +1,13 @@
-use Rattle.std.proofs.Common.{rules, ◌≡◌, [], ◌∷◌, drop, sym, ap, subst, ◌∙◌}
+use Rattle.std.proofs.Common.{rules, ◌≡◌, ℕ, List, [], ◌∷◌, drop, slice_index, sym, ap, ap₂, subst, ◌∙◌}
+use Rattle.doors.specs.Sets.{has}
 use Rattle.allowed.specs.Senses.{late_of}
 use Rattle.layers.specs.declared.call.Call.TheVariants.{Refine}
 use Rattle.diagram.specs.declared.room.Room.{Room}
+use Rattle.diagram.specs.Musts.{must_of}
 use Rattle.refine.specs.Answers.{IsInnerIfFull}
 use Rattle.round_sheet.specs.declared.sheet.Sheet.{Sheet}
-use Rattle.round_sheet.specs.Claims.{NoneUndercuts, MustsHold, BoundIsReached, NoMustMissing}
-use Rattle.round_sheet.specs.Sheets.{places_of, refined_for, sheet_of}
+use Rattle.round_sheet.specs.Claims.{NoneUndercuts, BoundIsReached}
+use Rattle.round_sheet.specs.Sheets.{Records, places_of, refined_for, sheet_of}
 use Rattle.round_sheet.proofs.SheetClaims.{none_undercuts, musts_hold, bound_reached, none_missing}
 use Rattle.round_sheet.proofs.SheetLater.{later_kept}
 use Rattle.round_sheet.proofs.SheetOpened.{claimed, settles, is_refined, is_sheet}
@@ -35,10 +37,15 @@ returns c =
     let k = c.refine-refined.new.self in
     let room = c.refine-refined.ensures.room ∙ open'.ensures.room in
     let nodes : k.nodes.now ≡ (refined_for r lent).1 = c.refine-refined.ensures.records ∙ ap (λ p. p.1) done in
-    let s : Sheet = record { bound = c.bound.result; refined = c.refine-refined.result; settled = c.settled.result; musts = c.musts_of.result } in
+    let s : Sheet = record { bound = c.bound.result; refined = c.refine-refined.result; settled = c.settled.result; musts = c.musts.result } in
     let sheet : s ≡ sheet_of r lent =
-    is_sheet m a b t ea eb et ew lent opened o same eo k.room k.nodes.now s room nodes c.bound.ensures (c.refine-refined.ensures.answer ∙ ap (λ p. p.0) done) (c.settled.ensures (late_of r)) c.musts_of.ensures in
+    is_sheet m a b t ea eb et ew lent opened o same eo k.room k.nodes.now s room nodes c.bound.ensures (c.refine-refined.ensures.answer ∙ ap (λ p. p.0) done) (c.settled.ensures (late_of r)) c.musts.ensures.sets in
     let to = sym sheet in
+    let sets : List ℕ = c.musts.result in
+    let each : (i j : ℕ) → has (slice_index sets i) j ≡ must_of r.n 16 (refined_for r lent).1 i j =
+    λ i j. c.musts.ensures.each i j
+    ∙ ap (λ (x : Room). must_of x.round.now.n x.width k.nodes.now i j) room
+    ∙ ap₂ (λ W (xs : Records). must_of r.n W xs i j) ew nodes in
     let whole = settles m a b t ea eb et ew lent opened o same eo (open'.ensures.whole serves []) in
     record {
       records = search (rules, nodes);
@@ -46,8 +53,8 @@ returns c =
       sheet = sheet;
       layer = subst (λ (x : Room). IsInnerIfFull x.round.now.n c.refine-refined.result) open'.ensures.room c.refine-refined.ensures.within;
       none_undercuts = subst (λ (s : Sheet). NoneUndercuts r s.bound) to (none_undercuts r (refined_for r lent).1 sure);
-      musts_hold = subst (λ (s : Sheet). MustsHold r s.musts) to (musts_hold r (refined_for r lent).1 sure);
+      musts_hold = musts_hold r (refined_for r lent).1 sure sets each;
       whole_settles = λ e. ap (λ s. s.settled) sheet ∙ whole (sym (ap (λ s. s.refined) sheet) ∙ e);
       bound_reached = λ e. subst (λ (s : Sheet). BoundIsReached r s.bound) to (bound_reached r (refined_for r lent).1 sure (sym (ap (λ s. s.settled) sheet) ∙ e));
-      none_missing = λ e. subst (λ (s : Sheet). NoMustMissing r s.musts) to (none_missing r (refined_for r lent).1 sure (sym (ap (λ s. s.settled) sheet) ∙ e));
+      none_missing = λ e. none_missing r (refined_for r lent).1 sure sets each (sym (ap (λ s. s.settled) sheet) ∙ e);
     }
