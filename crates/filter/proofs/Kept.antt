@@ -14,7 +14,7 @@ use Rattle.layers.proofs.Tied.{each_door-length}
 use Rattle.labels.specs.Passes.{part}
 use Rattle.tidying.specs.Counted.{arcs_of, arcs_within}
 use Rattle.tidying.proofs.InUse.{nodes-first}
-use Rattle.tidying.proofs.Targets.{arcs-append, length-targets, targets_read}
+use Rattle.tidying.proofs.Targets.{arcs-append, arcs-cons, length-targets, targets_read}
 use Rattle.filter.specs.Kept.{after, kept_to, kept_node, kept_from}
 use Rattle.filter.specs.Steps.{arc_count}
 use Rattle.filter.proofs.Layering.{kept-more}
@@ -28,26 +28,22 @@ sums-less x y lt = sym (ne_eqb x y (λ e. absurd (omega arith)))
 
 -- ---- nodes
 module _ {S V : Type 0} where
-  one-arcs : (x : Node S V) (xs : List (Node S V)) → arcs_within (x ∷ xs) ≡ arcs_of x + arcs_within xs
-  unfolding arcs_within arcs_of count_layer
-  one-arcs x xs = omega arith
-
   module _ (f : Node S V → Node S V) (fewer : (x : Node S V) → arcs_of (f x) ≤ arcs_of x) where
     mapped-fewer : (us : List (Node S V)) → arcs_within (map f us) ≤ arcs_within us
     mapped-fewer [] = omega arith
-    mapped-fewer (u ∷ us) = omega (arith, one-arcs (f u) (map f us), one-arcs u us, fewer u, mapped-fewer us)
+    mapped-fewer (u ∷ us) = omega (arith, arcs-cons (f u) (map f us), arcs-cons u us, fewer u, mapped-fewer us)
 
     pub less-at : (us : List (Node S V)) (a : ℕ) (d : Node S V) → a < length us → arcs_of (f (get_or us a d)) < arcs_of (get_or us a d) → arcs_within (map f us) < arcs_within us
     less-at [] a d lt h = absurd (omega arith)
-    less-at (u ∷ us) zero d lt h = omega (arith, one-arcs (f u) (map f us), one-arcs u us, mapped-fewer us, h)
-    less-at (u ∷ us) (suc a) d lt h = omega (arith, one-arcs (f u) (map f us), one-arcs u us, fewer u, less-at us a d (omega arith) h)
+    less-at (u ∷ us) zero d lt h = omega (arith, arcs-cons (f u) (map f us), arcs-cons u us, mapped-fewer us, h)
+    less-at (u ∷ us) (suc a) d lt h = omega (arith, arcs-cons (f u) (map f us), arcs-cons u us, fewer u, less-at us a d (omega arith) h)
 
     pub same-more : (us : List (Node S V)) (a : ℕ) (d : Node S V) → a < length us → arcs_within (map f (take a us)) ≡ arcs_within (take a us) → arcs_of (f (get_or us a d)) ≡ arcs_of (get_or us a d)
         → arcs_within (map f (take (a + 1) us)) ≡ arcs_within (take (a + 1) us)
     same-more us a d lt e h =
         let x = get_or us a d in
         rw (take_more us a d lt, map-append f (take a us) (x ∷ []))
-        (omega (arith, arcs-append (map f (take a us)) (f x ∷ []), arcs-append (take a us) (x ∷ []), one-arcs (f x) [], one-arcs x [], e, h))
+        (omega (arith, arcs-append (map f (take a us)) (f x ∷ []), arcs-append (take a us) (x ∷ []), arcs-cons (f x) [], arcs-cons x [], e, h))
 
   door-count : (y : Node S V) → arcs_of y ≡ count_doors (targets y)
   unfolding arcs_of

@@ -1,5 +1,5 @@
 -- A filter, one layer more.
-use Rattle.std.proofs.Common.{◌≡◌, ℕ, zero, suc, ◌+◌, ◌-◌, ◌*◌, ◌<◌, ◌≤◌, ◌≢◌, Bool, List, [], ◌∷◌, ◌++◌, map, take, drop, Option, ap, subst, suc-mul, one-mul, arith}
+use Rattle.std.proofs.Common.{le_trans, mul-le-mul_right, ◌≡◌, ℕ, zero, suc, ◌+◌, ◌-◌, ◌*◌, ◌<◌, ◌≤◌, ◌≢◌, Bool, List, [], ◌∷◌, ◌++◌, map, take, drop, Option, ap, subst, suc-mul, one-mul, arith}
 use Rattle.std.specs.List.{AllByRecursion as All}
 use Rattle.layers.specs.declared.node.Node.{Node}
 use Rattle.layers.specs.declared.node.Down.{Down}
@@ -55,3 +55,7 @@ pub all-first : {X : Type 0} (P : X → Type 0) (k : ℕ) (xs : List X) → All 
 all-first P zero xs h = tt
 all-first P (suc k) [] h = tt
 all-first P (suc k) (x ∷ xs) h = (h.0, all-first P k xs h.1)
+
+-- a diagram has at most 2,048 records before the end
+pub few-records : (n w : ℕ) → n ≤ 16 → w ≤ 128 → n * w ≤ 2048
+few-records n w a b = le_trans (mul-le-mul_right w a) (omega arith)

@@ -5,4 +5,5 @@ mod Kept
 mod KeptNet
 mod Layering
 mod QuietWords
+mod Relabelled
 mod Timely

@@ -1,8 +1,9 @@
 //! What every filter does: arcs are taken out, then the list is tidied and labelled anew.
-ghost use Rattle.std.specs.Prelude.{◌≡◌, ◌-◌, ◌*◌, true, length, take};
+ghost use Rattle.std.specs.Prelude.{◌≡◌, ◌+◌, ◌-◌, ◌*◌, ◌≤◌, true, length, take};
 ghost use Rattle.std.specs.List.{AllByRecursion};
 ghost use Rattle.layers.specs.Settings.{lent_setting};
 ghost use Rattle.labels.specs.Passes.{fits};
+ghost use Rattle.tidying.specs.Counted.{arcs_within};
 ghost use Rattle.filter.specs.Kept.{HasLabel};
 ghost use Rattle.filter.specs.Steps.{arc_count, redone, filter_steps};
 
@@ -14,18 +15,21 @@ use layers::node::Node;
 use layers::setting::Setting;
 use rules::rule::Rule;
 use tallies::tally::Tally;
-use tidying::count::count_arcs;
 use tidying::tidy::tidy;
 
-/// Tidied, and labelled anew.
-fn redo<R: Rule, T: Tally>(by: &Setting<'_, R, T>, nodes: &mut [Node<R::State, T::Value>])
+/// Tidies, labels anew, and answers how many arcs went.
+fn redo<R: Rule, T: Tally>(by: &Setting<'_, R, T>, nodes: &mut [Node<R::State, T::Value>]) -> usize
     requires { fits by.now.round.now.n by.now.width (length nodes.old) ≡ true }
-    ensures { let by = lent_setting by.now (R.sense by.now.rule.now) (T.sense by.now.tally.now) in
+    ensures records { let by = lent_setting by.now (R.sense by.now.rule.now)
+        (T.sense by.now.tally.now) in
         nodes.new ≡ redone by nodes.old }
+    ensures lost { result + arcs_within nodes.new ≡ arcs_within nodes.old }
+    ensures few { result ≤ 32768 }
 {
     let blank = blank_node(by.rule, by.tally);
-    tidy(by.round, nodes, by.width, &blank);
+    let lost = tidy(by.round, nodes, by.width, &blank.label);
     relabel(by, nodes);
+    lost
 }
 
 /// Takes out each arc that goes by the test, tidies and labels anew, and answers how many arcs went.
@@ -43,9 +47,6 @@ pub(crate) fn filter<R: Rule, T: Tally, F: Test<State = R::State, Value = T::Val
     ensures counted { result ≡ arc_count by.now.round.now.n by.now.width nodes.old -
         arc_count by.now.round.now.n by.now.width nodes.new }
 {
-    let before = count_arcs(by.round, nodes, by.width);
-    take_from(test, 0, by.round.n, nodes, by.width);
-    redo(by, nodes);
-    let left = count_arcs(by.round, nodes, by.width);
-    before.saturating_sub(left)
+    let gone = take_from(test, 0, by.round.n, nodes, by.width);
+    gone + redo(by, nodes)
 }

@@ -1,3 +1,4 @@
+pub mod Counts
 pub mod InUse
 mod Lists
 mod Marks
@@ -5,7 +6,7 @@ mod Numbers
 mod Kept
 mod Nets
 mod Renewed
-mod Steps
+pub mod Steps
 pub mod Targets
 pub mod TidyNet
 mod Words

@@ -12,14 +12,13 @@ use Rattle.layers.specs.Targets.{targets}
 use Rattle.layers.proofs.Flows.{rank-zero, has-arc, redirect-arc, mark-next, flags-at, renumber-at}
 use Rattle.layers.proofs.Tied.{flags-back, redirect-back, redirect-length, marked_from, climbs, climbs-from}
 use Rattle.tidying.specs.Tidied.{lively, reached_next, numbers, tidied, first_mark}
-use Rattle.tidying.specs.Paths.{Bare}
 use Rattle.tidying.proofs.InUse.{nodes-few}
 use Rattle.tidying.proofs.Lists.{get_or-blank, zero-or-suc}
 use Rattle.tidying.proofs.Kept.{compress-one, kept-rank, kept-targets}
 use Rattle.tidying.proofs.Marks.{On, reached-on, on-reached, set-on}
 use Rattle.tidying.proofs.Renewed.{dead, arc-in, renewed-layer, renewed-sent, renewed-live, numbers-zero, number-is, block-nodes}
 use Rattle.tidying.proofs.Steps.{block, front, back}
-use Rattle.tidying.proofs.Targets.{lively-from}
+use Rattle.tidying.proofs.Targets.{Bare, lively-from}
 
 pub up-in : (Ls : Net) (b : ℕ) → get_or (marks_up Ls) b None ≡ Some tt → b < width Ls
 unfolding marks_up up

@@ -7,13 +7,12 @@ use Rattle.layers.specs.declared.node.Node.{Node}
 use Rattle.layers.specs.Records.{is_used, nodes_in}
 use Rattle.layers.specs.Targets.{targets, with_targets}
 use Rattle.tidying.specs.Tidied.{lively, reached_next, renewed, renew_at, renewals, together, numbers}
-use Rattle.tidying.specs.Paths.{Bare}
 use Rattle.tidying.proofs.InUse.{nodes-few, nodes-used, nodes-past, nodes-moved}
 use Rattle.tidying.proofs.Lists.{get_or-mapped, zero-or-suc}
 use Rattle.tidying.proofs.Marks.{On}
 use Rattle.tidying.proofs.Numbers.{number-at, number-none}
 use Rattle.tidying.proofs.Steps.{block}
-use Rattle.tidying.proofs.Targets.{lively-has, lively-from}
+use Rattle.tidying.proofs.Targets.{Bare, lively-has, lively-from}
 
 module _ {S V : Type 0} (z : Node S V) (new : List ℕ) (x : Node S V) where
   pub renewed-on : (b : Bool) → b ≡ true → renewed z b new x ≡ with_targets x (map (λ t. get_or new t 0) (targets x))

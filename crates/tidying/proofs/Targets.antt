@@ -1,14 +1,15 @@
 -- The targets of a record, and counts of arcs
-use Rattle.std.proofs.Common.{◌≡◌, ℕ, zero, suc, ◌+◌, ◌<◌, true, if◌then◌else◌, not, ◌==◌, ◌≢◌, List, [], ◌∷◌, ◌++◌, map, length, get_or, take, drop, set, sum_by, count_by, sym, refl, ap, ◌∙◌, arith, take-append-drop}
+use Rattle.std.proofs.Common.{◌≡◌, ℕ, zero, suc, ◌+◌, ◌<◌, true, false, if◌then◌else◌, not, ◌==◌, ◌≢◌, List, [], ◌∷◌, ◌++◌, map, length, get_or, take, drop, set, sum_by, count_by, sym, refl, ap, ◌∙◌, arith, take-append-drop}
 use Rattle.std.specs.List.{range_with_len}
 use Rattle.std.proofs.lemmas.Bool.Decides.{nat_tests}
 use Rattle.std.proofs.lemmas.List.FromFn.{fill_by_all, get_or-map-range_with_len}
 use Rattle.std.proofs.lemmas.List.Sums.{sum_by-append, sum_by-cons, sum_by-set}
+use Rattle.layers.specs.declared.node.Label.{Label}
 use Rattle.layers.specs.declared.node.Node.{Node}
 use Rattle.layers.specs.Net.{count_doors, count_layer}
 use Rattle.layers.specs.Targets.{targets}
 use Rattle.tidying.specs.Counted.{arcs_of, arcs_within}
-use Rattle.tidying.specs.Tidied.{lively}
+use Rattle.tidying.specs.Tidied.{bare_node, lively}
 
 pub length-targets : {S V : Type 0} (x : Node S V) → length (targets x) ≡ 16
 unfolding targets
@@ -49,6 +50,10 @@ unfolding arcs_within arcs_of count_layer
 arcs-summed [] = refl
 arcs-summed (x ∷ xs) = ap (λ n. arcs_of x + n) (arcs-summed xs) ∙ sym (sum_by-cons arcs_of x xs)
 
+pub arcs-cons : {S V : Type 0} (x : Node S V) (xs : List (Node S V)) → arcs_within (x ∷ xs) ≡ arcs_of x + arcs_within xs
+unfolding arcs_within arcs_of count_layer
+arcs-cons x xs = omega arith
+
 pub arcs-append : {S V : Type 0} (xs ys : List (Node S V)) → arcs_within (xs ++ ys) ≡ arcs_within xs + arcs_within ys
 arcs-append xs ys = omega (arith, arcs-summed (xs ++ ys), arcs-summed xs, arcs-summed ys, sum_by-append arcs_of xs ys)
 
@@ -73,7 +78,26 @@ layer-less w k here later xs row rest us ys front back p q = omega (
 pub arcs-set : {S V : Type 0} (xs : List (Node S V)) (i : ℕ) (y d : Node S V) → i < length xs → arcs_within (set xs i y) + arcs_of (get_or xs i d) ≡ arcs_within xs + arcs_of y
 arcs-set xs i y d lt = omega (arith, arcs-summed (set xs i y), arcs-summed xs, sum_by-set arcs_of xs i y d lt)
 
+pub bare_counted : {S V : Type 0} (l : Label S V) → arcs_of (bare_node l) ≡ 0
+unfolding arcs_of targets count_doors
+bare_counted l = refl
+
 -- ---- a node with arcs
+-- the record has none
+abbrev pub Bare : {S V : Type 0} → Node S V → Type 0
+Bare z = (k : ℕ) → get_or (targets z) k 0 ≡ 0
+
+doors-bare : (ts : List ℕ) → count_doors ts ≡ 0 → (k : ℕ) → get_or ts k 0 ≡ 0
+unfolding count_doors
+doors-bare [] e k = refl
+doors-bare (zero ∷ ts) e zero = refl
+doors-bare (zero ∷ ts) e (suc k) = doors-bare ts e k
+doors-bare (suc b ∷ ts) e k = absurd (omega arith)
+
+pub bare-from : {S V : Type 0} (z : Node S V) → arcs_of z ≡ 0 → Bare z
+unfolding arcs_of
+bare-from z e = doors-bare (targets z) e
+
 doors-have : (ts : List ℕ) → count_doors ts ≢ 0 → (k : ℕ) × (b : ℕ) × (get_or ts k 0 ≡ suc b)
 unfolding count_doors
 doors-have [] ne = absurd (ne refl)
@@ -94,3 +118,7 @@ lively-has x live = doors-have (targets x) (grind (arith, nat_tests))
 pub lively-from : {S V : Type 0} (x : Node S V) (k b : ℕ) → get_or (targets x) k 0 ≡ suc b → lively x ≡ true
 unfolding lively arcs_of
 lively-from x k b e = let few = doors-from (targets x) k b e in grind (arith, nat_tests)
+
+pub lively-none : {S V : Type 0} (x : Node S V) → lively x ≡ false → arcs_of x ≡ 0
+unfolding lively
+lively-none x dead = grind (arith, nat_tests)

@@ -15,12 +15,11 @@ use Rattle.layers.proofs.Tidying.{tidy-means}
 use Rattle.labels.proofs.Laying.{arcs_of, Arranged, Good}
 use Rattle.labels.proofs.RedirectNet.{table-list, padded-is, padded-at, arranged-long, arcs-arranged, targets-is, targets-arranged}
 use Rattle.tidying.specs.Tidied.{lively, reached_next, renewed, renew_at, renewals, together, numbers, tidied, first_mark}
-use Rattle.tidying.specs.Paths.{Bare}
 use Rattle.tidying.proofs.Lists.{get_or-blank, get_or-filled}
 use Rattle.tidying.proofs.Nets.{Like, Likes, first-likes}
 use Rattle.tidying.proofs.Renewed.{renewed-layer, block-nodes}
 use Rattle.tidying.proofs.Steps.{block, block-long, front, back, tail-is}
-use Rattle.tidying.proofs.Targets.{length-targets}
+use Rattle.tidying.proofs.Targets.{Bare, length-targets}
 
 padded-same : (nd : Outs) (k : ℕ) → length nd ≤ 16 → get_or (padded_targets nd) k 0 ≡ get_or nd k 0
 padded-same nd k short = elim (cases_lt k 16) [ inl lt ↦ padded-at nd k lt | inr ge ↦ get_or_past (padded_targets nd) k 0 ge ∙ sym (get_or_past nd k 0 (omega arith)) ]

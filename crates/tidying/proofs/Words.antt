@@ -7,11 +7,12 @@ use Rattle.layers.specs.Records.{nodes_in}
 use Rattle.layers.specs.Targets.{targets}
 use Rattle.layers.proofs.Tidying.{tidy-means}
 use Rattle.tidying.specs.Tidied.{reached_next, numbers, end_numbers, tidied, first_mark}
-use Rattle.tidying.specs.Paths.{arc, Leads, from_layer, reached, Bare, KeptExactly, SamePaths}
+use Rattle.tidying.specs.Paths.{arc, Leads, from_layer, reached, KeptExactly, SamePaths}
 use Rattle.tidying.proofs.InUse.{nodes-few}
 use Rattle.tidying.proofs.Lists.{get_or-blank}
 use Rattle.tidying.proofs.Marks.{On, reached-on, on-reached}
 use Rattle.tidying.proofs.Nets.{Like, Likes, first-on, first-likes}
+use Rattle.tidying.proofs.Targets.{Bare}
 use Rattle.tidying.proofs.Renewed.{arc-in, number-live, live-number}
 
 module _ {S V : Type 0} (w : ℕ) (z : Node S V) (bare : Bare z) (small : w < 256) where
@@ -55,8 +56,8 @@ module _ {S V : Type 0} (w : ℕ) (z : Node S V) (bare : Bare z) (small : w < 25
       like (u ∷ us) (suc a) k = like us a k
 
   pub same-paths : (n : ℕ) (xs : List (Node S V)) → n * w ≤ length xs → SamePaths w z n xs (tidied w z n first_mark xs)
-  same-paths zero xs fits b = λ ds len. unfold tidied in ((λ h. h), (λ h. h))
-  same-paths (suc r) xs fits b = go
+  same-paths zero xs fits = λ ds len. unfold tidied in ((λ h. h), (λ h. h))
+  same-paths (suc r) xs fits = go
     where
       L : Layer
       L = targets (get_or (nodes_in (take w xs)) 0 z) ∷ []
@@ -131,7 +132,7 @@ module _ {S V : Type 0} (w : ℕ) (z : Node S V) (bare : Bare z) (small : w < 25
       reached-has i (reached_next from (nodes_in (take w xs))) (drop w xs) h.0 ds b lt (on-reached z from (nodes_in (take w xs)) a k (suc h.0) (leads-in (drop w xs) h.0 ds b lt h.2) on s.0 s.1 h.1) (omega arith) h.2
 
   pub kept-exactly : (n : ℕ) (xs : List (Node S V)) → KeptExactly w z n xs
-  kept-exactly n xs b i a lt =
+  kept-exactly n xs i a lt =
       let from = reached w z i first_mark xs in
       let ys = from_layer w i xs in
       let e : n - i ≡ suc (n - i - 1) = omega arith in (

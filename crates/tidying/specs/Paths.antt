@@ -36,21 +36,17 @@ OnPath w z n xs i a =
     ((ds : List ℕ) × (length ds ≡ i) × Leads w z xs 1 ds a)
     × ((ds : List ℕ) × (length ds ≡ n - i) × Leads w z (from_layer w i xs) a ds 1)
 
--- the record has no arc
-abbrev pub Bare : {S V : Type 0} → Node S V → Type 0
-Bare z = (k : ℕ) → slice_index (targets z) k ≡ 0
-
 -- the new number of node a of layer i when n layers are tidied, 0 if it goes
 abbrev pub new_number : {S V : Type 0} → ℕ → Node S V → ℕ → List (Node S V) → ℕ → ℕ → ℕ
 new_number w z n xs i a = slice_index (numbers w z (n - i) (reached w z i first_mark xs) (from_layer w i xs)) a
 
 -- the nodes on a path, and no others, stay
 abbrev pub KeptExactly : {S V : Type 0} → ℕ → Node S V → ℕ → List (Node S V) → Type 0
-KeptExactly w z n xs = Bare z → (i a : ℕ) → i < n →
+KeptExactly w z n xs = (i a : ℕ) → i < n →
     (new_number w z n xs i (suc a) ≢ 0 → OnPath w z n xs i (suc a))
     × (OnPath w z n xs i (suc a) → new_number w z n xs i (suc a) ≢ 0)
 
 -- the paths stay, no more and no fewer
 abbrev pub SamePaths : {S V : Type 0} → ℕ → Node S V → ℕ → List (Node S V) → List (Node S V) → Type 0
-SamePaths w z n xs ys = Bare z → (ds : List ℕ) → length ds ≡ n →
+SamePaths w z n xs ys = (ds : List ℕ) → length ds ≡ n →
     (Leads w z xs 1 ds 1 → Leads w z ys 1 ds 1) × (Leads w z ys 1 ds 1 → Leads w z xs 1 ds 1)

@@ -3,11 +3,16 @@
 -- Marks and numbers stand in tables of 256 places, by a node's number.
 use Rattle.std.specs.Prelude.{ℕ, zero, suc, ◌+◌, ◌-◌, Bool, true, false, if◌then◌else◌, not, List, [], ◌∷◌, ◌++◌, map, length, take, drop, replicate, fold, filter, ◌==◌, slice_index, slice_index_or, slice_set}
 use Rattle.std.specs.List.{flat_map, range_with_len, zip}
+use Rattle.layers.specs.declared.node.Label.{Label}
 use Rattle.layers.specs.declared.node.Node.{Node}
 use Rattle.layers.specs.Records.{nodes_in}
 use Rattle.layers.specs.Targets.{targets, with_targets}
 use Rattle.tidying.specs.Counted.{arcs_of}
 use Rattle.tidying.specs.InUse.{on_nodes}
+
+-- a record without arcs
+abbrev pub bare_node : {S V : Type 0} → Label S V → Node S V
+bare_node l = record { arcs = record { to = replicate 16 0 }; label = l }
 
 -- whether a node has arcs
 unfoldable pub lively : {S V : Type 0} → Node S V → Bool

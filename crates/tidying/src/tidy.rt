@@ -4,12 +4,13 @@
 ghost use Rattle.std.specs.Prelude.{◌≡◌, ◌+◌, ◌-◌, ◌*◌, ◌<◌, ◌≤◌, true, ◌++◌, map, length, take, drop, replicate, if◌then◌else◌, filter, slice_index};
 ghost use Rattle.tidying.specs.Paths.{KeptExactly, SamePaths};
 ghost use Rattle.labels.specs.Passes.{fits};
+ghost use Rattle.tidying.specs.Counted.{arcs_of, arcs_within};
 ghost use Rattle.layers.specs.Targets.{targets, with_targets};
-ghost use Rattle.tidying.specs.Tidied.{lively, marked, reached_next, renewed, renewals, together, numbering, numbers, tidied, first_mark};
+ghost use Rattle.tidying.specs.Tidied.{bare_node, lively, marked, reached_next, renewed, renewals, together, numbering, numbers, tidied, first_mark};
 
 use crate::count::{count_nodes, count_of};
 use labels::room::has_room;
-use layers::node::{Arcs, Node};
+use layers::node::{Arcs, Label, Node};
 use round::table::Round;
 
 /// Whether an arc leaves the node.
@@ -45,34 +46,48 @@ fn mark_next<S: Copy, V: Copy>(from: &[bool; 256], us: &[Node<S, V>]) -> [bool; 
     marks
 }
 
-/// A node with its targets numbered anew.
-fn renew<S: Copy, V: Copy>(x: &Node<S, V>, new: &[u8; 256]) -> Node<S, V>
-    ensures { result ≡ with_targets x.now (map (λ t. slice_index new.now t) (targets x.now)) }
+/// Numbers a node's targets anew, and answers how many of its arcs went.
+fn renew<S: Copy, V: Copy>(x: &mut Node<S, V>, new: &[u8; 256]) -> usize
+    requires { slice_index new.now 0 ≡ 0 }
+    ensures targets { x.new ≡ with_targets x.old
+        (map (λ t. slice_index new.now t) (targets x.old)) }
+    ensures lost { result + arcs_of x.new ≡ arcs_of x.old }
+    ensures few { result ≤ 16 }
 {
+    let before = count_of(x);
     let mut to = x.arcs.to;
     for t in to.iter_mut() {
         *t = new[*t as usize];
     }
-    Node {
-        arcs: Arcs { to },
-        label: x.label,
-    }
+    x.arcs.to = to;
+    before - count_of(x)
 }
 
-/// Renews the nodes that are reached; the others go blank.
+/// Renews the nodes that are reached; the others go blank. Answers how many arcs went.
 #[tactic(auto, unfolding(crate::specs::Tidied::renewals))]
 fn renew_layer<S: Copy, V: Copy>(
     us: &mut [Node<S, V>],
     from: &[bool; 256],
     new: &[u8; 256],
     blank: Node<S, V>,
-)
-    requires { length us.old ≤ 128 }
-    ensures { us.new ≡ renewals blank from.now new.now us.old }
+) -> usize
+    requires us_bound { length us.old ≤ 128 }
+    requires none { slice_index new.now 0 ≡ 0 }
+    requires bare { arcs_of blank ≡ 0 }
+    ensures renewed { us.new ≡ renewals blank from.now new.now us.old }
+    ensures lost { result + arcs_within us.new ≡ arcs_within us.old }
+    ensures few { result ≤ 16 * length us.old }
 {
+    let mut lost = 0;
     for (a, x) in us.iter_mut().enumerate() {
-        *x = if from[a + 1] { renew(x, new) } else { blank };
+        if from[a + 1] {
+            lost += renew(x, new);
+        } else {
+            lost += count_of(x);
+            *x = blank;
+        }
     }
+    lost
 }
 
 /// The numbers that the nodes with arcs get, by the numbers that they have.
@@ -99,9 +114,10 @@ fn gather_up<S: Copy, V: Copy>(us: &mut [Node<S, V>]) -> usize
 {
     let mut k = 0;
     for i in 0..us.len() {
-        let x = us[i];
-        if lives(&x) {
-            us[k] = x;
+        if lives(&us[i]) {
+            if k != i {
+                us[k] = us[i];
+            }
             k += 1;
         }
     }
@@ -126,24 +142,36 @@ fn compact<S: Copy, V: Copy>(us: &mut [Node<S, V>], z: Node<S, V>)
     blank_all(&mut us[k..], z);
 }
 
-/// Tidies one layer, whose marked nodes are reached; `new` has the numbers of the next.
-fn tidy_layer<S: Copy, V: Copy>(
+/// The numbers of a layer's nodes after tidying, by those before it, and how many arcs were lost from it on.
+#[derive(Clone, Copy)]
+struct Renumbered {
+    numbers: [u8; 256],
+    lost: usize,
+}
+
+/// Tidies the nodes us of a layer, of which the marked ones are reached; `new` has the numbers of the next.
+#[tactic(auto, using(crate::proofs::Counts::together_same))]
+fn tidy_nodes<S: Copy, V: Copy>(
     us: &mut [Node<S, V>],
     from: &[bool; 256],
     new: &[u8; 256],
     blank: &Node<S, V>,
-) -> [u8; 256]
-    requires { length us.old ≤ 128 }
+) -> Renumbered
+    requires us_bound { length us.old ≤ 128 }
+    requires none { slice_index new.now 0 ≡ 0 }
+    requires bare { arcs_of blank.now ≡ 0 }
     ensures records { us.new ≡ together blank.now (renewals blank.now from.now new.now us.old) }
-    ensures numbered { result ≡ numbering (renewals blank.now from.now new.now us.old) }
+    ensures numbered { result.numbers ≡ numbering (renewals blank.now from.now new.now us.old) }
+    ensures lost { result.lost + arcs_within us.new ≡ arcs_within us.old }
+    ensures few { result.lost ≤ 16 * length us.old }
 {
-    renew_layer(us, from, new, *blank);
+    let lost = renew_layer(us, from, new, *blank);
     let numbers = number_layer(us);
     compact(us, *blank);
-    numbers
+    Renumbered { numbers, lost }
 }
 
-/// Tidies `left` layers of `w` records, the marked nodes of the first being reached, and answers its new numbers.
+/// Tidies `left` layers of `w` records, the marked nodes of the first being reached.
 #[tactic(auto, using(crate::proofs::Lists::one_more), unfolding(crate::specs::Tidied::tidied, crate::specs::Tidied::numbers))]
 fn tidy_from<S: Copy, V: Copy>(
     nodes: &mut [Node<S, V>],
@@ -151,53 +179,77 @@ fn tidy_from<S: Copy, V: Copy>(
     left: usize,
     from: &[bool; 256],
     blank: &Node<S, V>,
-) -> [u8; 256]
+) -> Renumbered
     requires w_bound { w ≤ 128 }
+    requires left_bound { left ≤ 16 }
     requires w_in_bounds { left * w < length nodes.old }
+    requires bare { arcs_of blank.now ≡ 0 }
     ensures records { nodes.new ≡ tidied w blank.now left from.now nodes.old }
-    ensures numbered { result ≡ numbers w blank.now left from.now nodes.old }
+    ensures numbered { result.numbers ≡ numbers w blank.now left from.now nodes.old }
+    ensures lost { result.lost + arcs_within nodes.new ≡ arcs_within nodes.old }
+    ensures few { result.lost ≤ 16 * (left * w) }
 {
     if left == 0 {
-        let mut end = [0u8; 256];
-        end[1] = 1;
-        return end;
+        let mut numbers = [0u8; 256];
+        numbers[1] = 1;
+        return Renumbered { numbers, lost: 0 };
     }
     let (us, rest) = nodes.split_at_mut(w);
     let many = count_nodes(us);
     let next = mark_next(from, &us[..many]);
-    let new = tidy_from(rest, w, left - 1, &next, blank);
-    tidy_layer(&mut us[..many], from, &new, blank)
+    let later = tidy_from(rest, w, left - 1, &next, blank);
+    let new = later.numbers;
+    let here = tidy_nodes(&mut us[..many], from, &new, blank);
+    let numbers = here.numbers;
+    let lost = here.lost + later.lost;
+    Renumbered { numbers, lost }
 }
 
 /// Tidies a diagram of n layers of w records and the end, in which the first node alone is reached at the start.
-fn tidy_all<S: Copy, V: Copy>(nodes: &mut [Node<S, V>], n: usize, w: usize, blank: &Node<S, V>)
+fn tidy_all<S: Copy, V: Copy>(
+    nodes: &mut [Node<S, V>],
+    n: usize,
+    w: usize,
+    blank: &Node<S, V>,
+) -> usize
     requires w_bound { w ≤ 128 }
+    requires n_bound { n ≤ 16 }
     requires w_in_bounds { n * w < length nodes.old }
+    requires bare { arcs_of blank.now ≡ 0 }
     ensures records { nodes.new ≡ tidied w blank.now n first_mark nodes.old }
     ensures words { KeptExactly w blank.now n nodes.old }
     ensures paths { SamePaths w blank.now n nodes.old nodes.new }
+    ensures lost { result + arcs_within nodes.new ≡ arcs_within nodes.old }
+    ensures few { result ≤ 16 * (n * w) }
 {
     let mut first = [false; 256];
     first[1] = true;
-    tidy_from(nodes, w, n, &first, blank);
+    tidy_from(nodes, w, n, &first, blank).lost
 }
 
-/// Tidies a diagram of the round's doors: exactly the nodes on a path stay, and exactly the paths. `blank` is written to the
-/// places that are left. A list that has no room for the diagram is left alone.
+/// Tidies a diagram of the round's doors, and answers how many arcs went: exactly the nodes on a path stay, and exactly the
+/// paths. `blank` is the label of the places that are left. A list that has no room for the diagram is left alone.
 pub fn tidy<S: Copy, V: Copy>(
     round: &Round,
     nodes: &mut [Node<S, V>],
     width: usize,
-    blank: &Node<S, V>,
-)
+    blank: &Label<S, V>,
+) -> usize
     ensures records { nodes.new ≡ (if fits round.now.n width (length nodes.old) then tidied width
-        blank.now round.now.n first_mark nodes.old else nodes.old) }
+        (bare_node blank.now) round.now.n first_mark nodes.old else nodes.old) }
     ensures words { fits round.now.n width (length nodes.old) ≡ true
-        → KeptExactly width blank.now round.now.n nodes.old }
+        → KeptExactly width (bare_node blank.now) round.now.n nodes.old }
     ensures paths { fits round.now.n width (length nodes.old) ≡ true
-        → SamePaths width blank.now round.now.n nodes.old nodes.new }
+        → SamePaths width (bare_node blank.now) round.now.n nodes.old nodes.new }
+    ensures lost { result + arcs_within nodes.new ≡ arcs_within nodes.old }
+    ensures few { result ≤ 32768 }
 {
-    if has_room(round, width, nodes.len()) {
-        tidy_all(nodes, round.n, width, blank);
+    if !has_room(round, width, nodes.len()) {
+        return 0;
     }
+    let blank = Node {
+        arcs: Arcs { to: [0; 16] },
+        label: *blank,
+    };
+    tidy_all(nodes, round.n, width, &blank)
 }

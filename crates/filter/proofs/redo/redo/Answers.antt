@@ -1,10 +1,12 @@
-use Rattle.std.proofs.Common.{◌≡◌, true, length, ap, ◌∙◌}
+use Rattle.std.proofs.Common.{◌≡◌, true, map, length, ap, ◌∙◌, arith}
 use Rattle.std.proofs.lemmas.Bool.{cond-true}
 use Rattle.layers.specs.Settings.{lent_setting}
 use Rattle.layers.specs.declared.node.Node.{Node}
 use Rattle.labels.specs.Passes.{fits, blank_node, relabelled}
-use Rattle.tidying.specs.Tidied.{tidied, first_mark}
+use Rattle.labels.proofs.Laying.{arcs_of}
+use Rattle.tidying.specs.Tidied.{bare_node, tidied, first_mark}
 use Rattle.filter.specs.Steps.{redone}
+use Rattle.filter.proofs.Relabelled.{count-same, relabelled-same}
 use Rattle.filter.proofs.redo.redo.Goals as goal
 
 pub returns : goal.returns
@@ -14,9 +16,13 @@ returns g c =
     let W = by.width in
     let n = by.round.n in
     let xs = c.args.nodes.now in
-    let ys = c.tidy.new.nodes in
+    let ys = c.tidy-lost.new.nodes in
     let is : ys ≡ tidied W (blank_node by.rule by.tally) n first_mark xs =
-    c.tidy.ensures.records ∙ cond-true (fits n W (length xs)) _ _ c.requires ∙ ap (λ (z : Node g.row.R-State.Denot g.row.T-Value.Denot). tidied W z n first_mark xs) c.blank_node-blank.ensures in
-    let long : length ys ≡ length xs = c.tidy.auto.nodes in
-    let room : fits n W (length ys) ≡ true = ap (fits n W) long ∙ c.requires in
-    c.relabel.ensures.passes ∙ cond-true (fits n W (length ys)) _ _ room ∙ ap (relabelled by) is
+    c.tidy-lost.ensures.records ∙ cond-true (fits n W (length xs)) _ _ c.requires ∙ ap (λ (z : Node g.row.R-State.Denot g.row.T-Value.Denot). tidied W (bare_node z.label) n first_mark xs) c.blank_node-blank.ensures in
+    let room : fits n W (length ys) ≡ true = ap (fits n W) c.tidy-lost.auto.nodes ∙ c.requires in
+    let labelled = c.relabel.ensures.passes ∙ cond-true (fits n W (length ys)) _ _ room in
+    record {
+      records = labelled ∙ ap (relabelled by) is;
+      lost = omega (arith, c.tidy-lost.ensures.lost, count-same c.relabel.new.nodes ys (ap (map arcs_of) labelled ∙ relabelled-same by ys));
+      few = c.tidy-lost.ensures.few;
+    }

@@ -3,12 +3,11 @@ use Rattle.std.proofs.Common.{◌*◌, subst, ◌≡◌, ℕ, suc, ◌-◌, ◌<
 use Rattle.std.proofs.lemmas.List.{length-take, length-take-le}
 use Rattle.layers.specs.declared.node.Node.{Node}
 use Rattle.labels.proofs.Rests.{one_more, one-fits, rest-fits}
-use Rattle.labels.proofs.Rooms.{few-records}
 use Rattle.tidying.specs.InUse.{on_nodes}
 use Rattle.tidying.proofs.InUse.{pass-done}
 use Rattle.tidying.proofs.Targets.{layer-less}
 use Rattle.filter.specs.Kept.{HasLabel, after, kept_node, kept_from}
-use Rattle.filter.proofs.Layering.{kept-more, next-there, all-layers, all-first}
+use Rattle.filter.proofs.Layering.{few-records, kept-more, next-there, all-layers, all-first}
 use Rattle.filter.proofs.take.+take_from.Goals as goal
 
 pub returns-then-left-eq0-clause-left : goal.returns-then-left-eq0-clause-left
