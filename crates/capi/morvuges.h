@@ -78,6 +78,17 @@ int64_t morvuges_sheet(const uint8_t *text, size_t text_len, size_t width, const
  */
 int64_t morvuges_refine_often(const uint8_t *text, size_t text_len, size_t width, size_t times);
 
+/*
+ * Reads a round's text, opens its diagram at this width and refines it once, and `times` times over asks it whether it is settled.
+ * Answers as the last time: 1 if it is, else 0; 0 if `times` is 0. For measuring.
+ */
+int64_t morvuges_settled_often(const uint8_t *text, size_t text_len, size_t width, size_t times);
+
+/*
+ * The same, asking it for all musts. Answers how many there are the last time, of all pairs of doors; 0 if `times` is 0.
+ */
+int64_t morvuges_musts_often(const uint8_t *text, size_t text_len, size_t width, size_t times);
+
 #ifdef __cplusplus
 }
 #endif

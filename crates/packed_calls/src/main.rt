@@ -2,7 +2,8 @@
 //! lists of calls of every kind, and what is refused.
 #![tactic(auto)]
 
-use packed::often::refine_often;
+use packed::often::{Question, ask_often, refine_often};
+use packed::refusal::Refusal;
 use packed::sheet::sheet;
 use std::alloc::{AllocError, Global};
 use std::io::Read;
@@ -218,7 +219,15 @@ fn print_refusals(rt: &HostRuntime, text: &[u8]) -> anyhow::Result<()> {
     Ok(())
 }
 
-/// The last of so many refines.
+/// An answer as C is told of it.
+fn code_of(answer: Result<u32, Refusal>) -> i64 {
+    match answer {
+        Ok(answer) => i64::from(answer),
+        Err(refusal) => refusal.code(),
+    }
+}
+
+/// The last answer of so many refines; of asking so many times whether the diagram is settled, once it is refined; and for its musts.
 fn print_often(rt: &HostRuntime, text: &[u8]) -> anyhow::Result<()> {
     let cases: [(&[u8], usize, usize); 7] = [
         (text, 1, 0),
@@ -230,11 +239,10 @@ fn print_often(rt: &HostRuntime, text: &[u8]) -> anyhow::Result<()> {
         (b"", 3, 2),
     ];
     for (text, width, times) in cases {
-        let answer = match refine_often(text, width, times) {
-            Ok(answer) => i64::from(answer),
-            Err(refusal) => refusal.code(),
-        };
-        println!(rt; "often\t{width}\t{times}\t{answer}")?;
+        let refined = code_of(refine_often(text, width, times));
+        let settled = code_of(ask_often(text, width, times, Question::Settled));
+        let musts = code_of(ask_often(text, width, times, Question::Musts));
+        println!(rt; "often\t{width}\t{times}\t{refined}\t{settled}\t{musts}")?;
     }
     Ok(())
 }

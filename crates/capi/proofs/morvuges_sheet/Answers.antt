@@ -1,4 +1,4 @@
-use Rattle.std.proofs.Common.{◌≡◌, ◌^◌, ◌<◌, Ok, Err, pos, length, rules, arith, w64, FitsSigned, to_z, ap, ◌∙◌}
+use Rattle.std.proofs.Common.{◌≡◌, ◌^◌, ◌<◌, Ok, Err, length, rules, arith, w64, FitsSigned, to_z, ap, ◌∙◌}
 use Rattle.std.proofs.lemmas.Int.{to_z_pos, to_z-of_z}
 use Rattle.packed.specs.Sheets.{sheet_of, byte_count, code}
 use Rattle.packed.proofs.OnReads.{on-read-map}
