@@ -1,3 +1,4 @@
+pub mod Below
 pub mod Earlies
 pub mod Folds
 pub mod Inward

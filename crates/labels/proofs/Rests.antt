@@ -19,3 +19,9 @@ pub rest_put : {X : Type 0} (w : ℕ) (xs ys : List X) → put_mid w (length xs 
 rest_put w xs ys =
     ap (λ zs. take w xs ++ (ys ++ zs)) (drop_all (length xs - w) (drop w xs) (omega (arith, length-drop w xs)))
     ∙ ap (λ zs. take w xs ++ zs) (append-nil ys)
+
+-- the layers before layer i - 1, itself, and those after it
+pub layers_in : (i n w : ℕ) → 1 ≤ i → i ≤ n → (i - 1) * w + w + (n - i) * w ≡ n * w
+layers_in i n w low high =
+    let e : n ≡ i - 1 + 1 + (n - i) = omega arith in
+    sym (ap (λ k. k * w) e ∙ omega (arith, add-mul (i - 1 + 1) (n - i) w, add-mul (i - 1) 1 w, one-mul w))

@@ -1,7 +1,8 @@
 -- Relabelling as the code does it, in two passes over the records of any list: so many records to a layer, 16 doors to a record.
 -- Nobody has to believe these steps: on the arcs of a diagram `labelled` of `relabel` says what they come to.
-use Rattle.std.specs.Prelude.{ℕ, zero, suc, ◌+◌, ◌-◌, ◌*◌, ◌≤◌, Bool, if◌then◌else◌, ◌&&◌, List, [], ◌∷◌, ◌++◌, map, length, take, drop, replicate, Some, None, fold, Option, ◌==◌, nat_le, slice_index, slice_index_or, slice_set}
+use Rattle.std.specs.Prelude.{◌≡◌, ℕ, zero, suc, ◌+◌, ◌-◌, ◌*◌, ◌≤◌, Bool, true, if◌then◌else◌, ◌&&◌, List, [], ◌∷◌, ◌++◌, map, length, take, drop, replicate, Some, None, fold, Option, ◌==◌, nat_le, slice_index, slice_index_or, slice_set}
 use Rattle.std.specs.List.{range_with_len, flat_map}
+use Rattle.round.specs.Clock.{latest_finish}
 use Rattle.round.specs.declared.table.Round.{Round}
 use Rattle.rules.specs.Rules.{RuleSense}
 use Rattle.tallies.specs.Tallies.{TallySense}
@@ -9,6 +10,8 @@ use Rattle.layers.specs.declared.node.Node.{Node}
 use Rattle.layers.specs.declared.node.Down.{Down}
 use Rattle.layers.specs.declared.node.Up.{Up}
 use Rattle.layers.specs.Settings.{Setting}
+use Rattle.layers.specs.Calls.{records_with}
+use Rattle.layers.specs.Net.{Net}
 use Rattle.layers.specs.Records.{nodes_in}
 use Rattle.layers.specs.Labels.{leg_step, arrival_over, merge, first_label, blank_label, climb, merge_up, no_up}
 
@@ -163,3 +166,34 @@ relabelled by xs = pass_up by.round.n by.width (pass_down by xs)
 -- a list of that length has room for a diagram of n doors and width w
 abbrev pub fits : ℕ → ℕ → ℕ → Bool
 fits n w long = nat_le 1 w && (nat_le w 128 && nat_le (n * w + 1) long)
+
+-- ---- below a layer
+-- no finish of these records is above m
+abbrev pub in_time : {S V : Type 0} → ℕ → List (Node S V) → Bool
+in_time m [] = true
+in_time m (u ∷ us) = nat_le u.label.down.finish m && in_time m us
+
+module _ {S V : Type 0} (by : Setting S V) where
+  -- i is a layer after the first node, and no finish of the layer before it is above what the clock allows there
+  abbrev pub may_follow : ℕ → List (Node S V) → Bool
+  may_follow i xs = nat_le 1 i && (nat_le i by.round.n && in_time (latest_finish (i - 1)) (part ((i - 1) * by.width) by.width xs))
+
+  -- the downward labels of layer i and of all after it, from those that stand in the layer before it
+  unfoldable pub relabelled_below : ℕ → List (Node S V) → List (Node S V)
+  unfolding labelled_after
+  relabelled_below i xs = let at = (i - 1) * by.width in take at xs ++ labelled_after by (by.round.n - i) (drop at xs)
+
+  -- the same, of a list that it can be said of; any other stays
+  unfoldable pub below_steps : ℕ → List (Node S V) → List (Node S V)
+  unfolding relabelled_below
+  below_steps i xs = if fits by.round.n by.width (length xs) && may_follow i xs then relabelled_below i xs else xs
+
+  -- the upward sets of all records are those that the arcs Ls give
+  abbrev pub HasUps : Net → List (Node S V) → Type 0
+  HasUps Ls xs = map (λ x. x.label.up) xs ≡ map (λ x. x.label.up) (records_with by xs Ls)
+
+  -- the downward labels of the layers before layer i are those that the arcs Ls give
+  abbrev pub HasDownsBefore : ℕ → Net → List (Node S V) → Type 0
+  HasDownsBefore i Ls xs =
+      map (λ x. x.label.down) (take (i * by.width) xs)
+      ≡ map (λ x. x.label.down) (take (i * by.width) (records_with by xs Ls))

@@ -188,7 +188,7 @@ fn begin<R: Rule, T: Tally>(rule: &R, tally: &T, us: &mut [Node<R::State, T::Val
 
 /// Works out anew the labels after a layer, which has its own, with `later` layers between it and the end.
 #[tactic(auto, using(crate::proofs::Rests::one_more, crate::proofs::Rests::front_long))]
-fn label_after<R: Rule, T: Tally>(
+pub(crate) fn label_after<R: Rule, T: Tally>(
     by: &Setting<'_, R, T>,
     nodes: &mut [Node<R::State, T::Value>],
     later: usize,
