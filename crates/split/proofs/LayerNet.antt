@@ -1,5 +1,5 @@
 -- A layer of the records, in use as far as the net's has nodes: what arrives from it, and the layer after it parted.
-use Rattle.std.proofs.Common.{◌≡◌, ℕ, zero, suc, ◌+◌, ◌*◌, ◌<◌, ◌≤◌, not, List, [], ◌∷◌, map, length, get_or, take, drop, Some, None, Option, sym, refl, ap, ◌∙◌, suc-mul, zero-mul, arith}
+use Rattle.std.proofs.Common.{◌≡◌, ℕ, zero, suc, ◌+◌, ◌*◌, ◌<◌, ◌≤◌, Bool, true, false, not, ◌||◌, List, [], ◌∷◌, map, length, get_or, take, drop, Some, None, Option, sym, refl, ap, ◌∙◌, suc-mul, zero-mul, arith}
 use Rattle.std.specs.Prelude.{if◌then◌else◌, ◌==◌}
 use Rattle.std.proofs.lemmas.List.{drop-drop, length-map, length-take-le, get_or-map, get_or-take, get_or_default, same_lists}
 use Rattle.round.specs.declared.table.Round.{Round}
@@ -9,7 +9,7 @@ use Rattle.layers.specs.declared.node.Down.{Down}
 use Rattle.layers.specs.declared.node.Label.{Label}
 use Rattle.layers.specs.Net.{table, Outs, Layer, Net, node}
 use Rattle.layers.specs.Lawful.{IsEven, IsLawful}
-use Rattle.layers.specs.Labels.{all_agree, first_arrival, differs_from_first}
+use Rattle.layers.specs.Labels.{agree, all_agree, arrival_over, first_arrival, differs_from_first}
 use Rattle.layers.specs.Records.{nodes_in, arcs_in, downs_in, padded_targets, arcs_at}
 use Rattle.layers.specs.Calls.{parted_arcs, arrivals as arrivalsIn}
 use Rattle.layers.proofs.Bridge.{table-long}
@@ -73,6 +73,16 @@ module _ {S V : Type 0} where
 
   pub stands_same : (us vs : List (Node S V)) → labelsOf us ≡ labelsOf vs → length (nodes_in us) ≡ length (nodes_in vs)
   stands_same us vs e = sym (length-map (nodes_in us) (λ (x : Node S V). x.label)) ∙ ap length (standing-labels us vs e) ∙ length-map (nodes_in vs) (λ (x : Node S V). x.label)
+
+  pub standing-used : (us : List (Node S V)) (u : ℕ) (x : Node S V) → u < length (nodes_in us) → ((get_or (nodes_in us) u x).label.down.lasts == 0) ≡ false
+  standing-used [] u x lt = absurd (omega arith)
+  standing-used (v ∷ vs) u x lt = go (v.label.down.lasts == 0) refl u lt (standing-used vs)
+    where
+      go : (q : Bool) → (v.label.down.lasts == 0) ≡ q → (u : ℕ) → u < length (if not q then v ∷ nodes_in vs else []) → ((b : ℕ) (x : Node S V) → b < length (nodes_in vs) → ((get_or (nodes_in vs) b x).label.down.lasts == 0) ≡ false)
+          → ((get_or (if not q then v ∷ nodes_in vs else []) u x).label.down.lasts == 0) ≡ false
+      go true e u lt h = absurd (omega arith)
+      go false e zero lt h = e
+      go false e (suc u) lt h = h u x (omega arith)
 
   -- ---- one layer
   -- their arcs are the net's
@@ -140,7 +150,11 @@ module _ {S V : Type 0} (by : Setting S V) (d : ℕ) (Ls : Net) (xs : List (Node
         let f : Node S V → Option (Down S V) = λ v. Some v.label.down in
         let le = room in
         let lt' : u < length (nodes_in us) = omega (arith, k.stand) in
-        ap (λ o. differs_from_first by (Some y) o j) (get_or-map f (nodes_in us) u x None lt' ∙ ap f (standing-at us u x lt' ∙ get_or-take by.width (drop (d * by.width) xs) u x (omega arith)))
+        let v = get_or (drop (d * by.width) xs) u x in
+        let there : get_or (nodes_in us) u x ≡ v = standing-at us u x lt' ∙ get_or-take by.width (drop (d * by.width) xs) u x (omega arith) in
+        let used : (v.label.down.lasts == 0) ≡ false = ap (λ (w : Node S V). w.label.down.lasts == 0) (sym there) ∙ standing-used us u x lt' in
+        ap (λ o. differs_from_first by (Some y) o j) (get_or-map f (nodes_in us) u x None lt' ∙ ap f there)
+        ∙ ap (λ (q : Bool). not (q || agree by.rule y (arrival_over by v.label.down j))) (sym used)
 
     pub known-parted : (a m : ℕ) → m ≡ length (get_or Ls (suc d) []) → a < m → m < by.width → Arranged by.width (parted_arcs by d a labs Ls) (parted_one by (d * by.width) a m xs)
     unfolding parted_one

@@ -3,6 +3,7 @@ pub mod ArrivalNet
 mod Asking
 mod Checks
 pub mod DepthNet
+pub mod Divided
 mod Doing
 mod Examples
 pub mod JoinNet
@@ -10,6 +11,7 @@ pub mod JoinWords
 mod Joins
 pub mod LayerNet
 pub mod LayerWords
+pub mod InArcs
 mod Meets
 pub mod PartNet
 pub mod PartWords

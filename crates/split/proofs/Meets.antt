@@ -1,21 +1,41 @@
--- Arrivals looked at one after another
-use Rattle.std.proofs.Common.{◌≡◌, Bool, true, ◌&&◌, List, [], ◌∷◌, Some, None, fold, Option, sym, refl, ap, ◌∙◌}
-use Rattle.std.proofs.Math.Bool.{and_assoc, and-true}
+-- What is compared of two arrivals, in the order of their cost
+use Rattle.std.proofs.Common.{◌≡◌, ℕ, ◌≤◌, Bool, true, List, ◌&&◌, eqb, Some, Option, ap, ◌∙◌, arith}
+use Rattle.std.proofs.Math.Path.{fun_ext}
 use Rattle.layers.specs.declared.node.Down.{Down}
-use Rattle.layers.specs.Labels.{agree, agrees_with_all, all_agree, first_arrival}
-use Rattle.split.specs.Agreed.{met}
+use Rattle.layers.specs.declared.node.Label.{Label}
+use Rattle.layers.specs.declared.node.Node.{Node}
+use Rattle.layers.specs.Labels.{agree, all_agree, arrival_over, first_arrival}
 use Rattle.layers.specs.Settings.{Setting}
+use Rattle.labels.specs.Passes.{arrivals}
+use Rattle.split.specs.declared.listing.InArc.{InArc}
+use Rattle.split.specs.declared.source.Source.{Source}
+use Rattle.split.specs.Agreed.{brought, kept_by}
+use Rattle.split.specs.Listed.{in_arcs, all_stay}
+use Rattle.split.specs.Parted.{or_unused}
+use Rattle.split.specs.Steps.{kept_first}
+use Rattle.split.proofs.InArcs.{stay-alike}
 
-module _ {S V : Type 0} (by : Setting S V) where
-  abbrev pub Seen : Type 0
-  Seen = Option (Down S V) × Bool
+in_turn : (a b c d e : Bool) → (d && (a && (b && (e && c)))) ≡ (a && (b && (c && (d && e))))
+in_turn a b c d e = grind arith
 
-  met-after : (x : Down S V) (b : Bool) (ys : List (Down S V)) → fold (met by) (Some x, b) ys ≡ (Some x, b && agrees_with_all by.rule x ys)
-  unfolding agrees_with_all
-  met-after x b [] = ap (λ c. (Some x, c)) (sym (and-true b))
-  met-after x b (y ∷ ys) = met-after x (b && agree by.rule x y) ys ∙ ap (λ c. (Some x, c)) (and_assoc b (agree by.rule x y) (agrees_with_all by.rule x ys))
+pub kept-agrees : {S V : Type 0} (by : Setting S V) (s : Source S V) (l : Down S V) (j : ℕ) → kept_by by.round by.rule s l j ≡ agree by.rule (brought by s) (arrival_over by l j)
+unfolding kept_by agree arrival_over brought
+kept-agrees by s l j =
+    let x = arrival_over by s.label s.door in
+    let y = arrival_over by l j in
+    in_turn (eqb x.all y.all) (eqb x.some y.some) (eqb x.finish y.finish) (eqb x.lasts y.lasts) (by.rule.same x.state y.state)
 
-  pub met_all : (ys : List (Down S V)) → fold (met by) (None, true) ys ≡ (first_arrival ys, all_agree by.rule ys)
-  unfolding all_agree
-  met_all [] = refl
-  met_all (y ∷ ys) = met-after y true ys
+-- the test by the first arrival
+pub kept-same : {S V : Type 0} (by : Setting S V) (s : Source S V) (o : Option (Down S V)) → Some (brought by s) ≡ o → or_unused (λ u j. kept_by by.round by.rule s u.down j) ≡ kept_first by o
+kept-same {S} {V} by s o is =
+    let f : Label S V → ℕ → Bool = λ u j. kept_by by.round by.rule s u.down j in
+    let g : Label S V → ℕ → Bool = λ u j. agree by.rule (brought by s) (arrival_over by u.down j) in
+    let same : f ≡ g = fun_ext (λ u. fun_ext (λ j. kept-agrees by s u.down j)) in
+    ap or_unused same ∙ ap (kept_first by) is
+
+-- whether all stay by that test is whether the arrivals agree
+pub stay-said : {S V : Type 0} (by : Setting S V) (self : (x : S) → by.rule.same x x ≡ true) (z : Node S V) (us : List (Node S V)) (list : List InArc) (s : Source S V) (t : ℕ) (b : Bool)
+    → 1 ≤ t → list ≡ in_arcs us → Some (brought by s) ≡ first_arrival (arrivals by t us) → b ≡ all_stay (λ u j. kept_by by.round by.rule s u.down j) t z us list → b ≡ all_agree by.rule (arrivals by t us)
+stay-said {S} {V} by self z us list s t b one listed first said =
+    let keeps : Label S V → ℕ → Bool = λ u j. kept_by by.round by.rule s u.down j in
+    said ∙ ap (all_stay keeps t z us) listed ∙ stay-alike z us by t keeps (brought by s) (λ u j. kept-agrees by s u.down j) self one first

@@ -1,31 +1,49 @@
 -- Parting the nodes of a layer, one after another
-use Rattle.std.proofs.Common.{◌≡◌, ℕ, zero, suc, ◌+◌, ◌<◌, ◌≤◌, Bool, true, false, leb, List, Some, None, Option, sym, refl, ap, ◌∙◌, add-one, arith}
+use Rattle.std.proofs.Common.{◌≡◌, ℕ, zero, suc, ◌+◌, ◌<◌, ◌≤◌, Bool, true, false, leb, cond, List, ◌++◌, length, take, drop, Ok, Err, ◌≢◌, sym, refl, ap, ◌∙◌, ap₂, arith}
+use Rattle.std.proofs.lemmas.List.{take_at, drop_at, take-append-drop, drop-drop, length-append, length-take-le}
 use Rattle.std.proofs.lemmas.Bool.{le-leb, lt-leb}
 use Rattle.std.proofs.lemmas.Bool.Decides.{nat_tests}
 use Rattle.layers.specs.declared.node.Node.{Node}
-use Rattle.split.specs.Steps.{next_count, alike, parted_one, next_records, parts_from}
+use Rattle.layers.specs.declared.refusal.Refusal.{Refusal}
+use Rattle.layers.specs.declared.refusal.Refusal.TheVariants.{OneGroup, LayerFull}
+use Rattle.layers.specs.Calls.{Outcome}
+use Rattle.layers.specs.Records.{nodes_in}
+use Rattle.split.specs.Steps.{node_count, group_check, alike, parted_one, next_records, parts_from}
 use Rattle.layers.specs.Settings.{Setting}
 
--- whether the in-arcs agree, as they were looked at by number
-pub said : {S V : Type 0} (by : Setting S V) (at a : ℕ) (xs : List (Node S V)) {b c : Bool} → b ≡ alike by at (a + 1) xs → b ≡ c → alike by at (suc a) xs ≡ c
-said by at a xs e f = ap (λ (t : ℕ). alike by at t xs) (sym (add-one a)) ∙ sym e ∙ f
-
 module _ {S V : Type 0} (by : Setting S V) (at a m : ℕ) (xs : List (Node S V)) where
-  -- ---- one node
-  abbrev pub Next : Option ℕ → List (Node S V) → Type 0
-  Next o ys = (o ≡ next_count (alike by at (suc a) xs) (leb by.width m) m) × (ys ≡ next_records by at a m xs)
+  -- one node: the answer, and the records
+  abbrev pub Next : Outcome → List (Node S V) → Type 0
+  Next o ys = (o ≡ group_check (alike by at (suc a) xs) (leb by.width m)) × (ys ≡ next_records by at a m xs)
 
-  pub next-alike : alike by at (suc a) xs ≡ true → Next (Some m) xs
+  pub next-alike : alike by at (suc a) xs ≡ true → Next (Err OneGroup) xs
   next-alike e = rw e (refl, refl)
 
-  pub next-full : alike by at (suc a) xs ≡ false → by.width ≤ m → Next None xs
+  pub next-full : alike by at (suc a) xs ≡ false → by.width ≤ m → Next (Err LayerFull) xs
   next-full e h = rw (e, le-leb by.width m h) (refl, refl)
 
-  pub next-parted : alike by at (suc a) xs ≡ false → m < by.width → Next (Some (m + 1)) (parted_one by at a m xs)
-  next-parted e h = rw (e, lt-leb by.width m h) (ap Some (add-one m), refl)
+  pub next-parted : alike by at (suc a) xs ≡ false → m < by.width → Next (Ok tt) (parted_one by at a m xs)
+  next-parted e h = rw (e, lt-leb by.width m h) (refl, refl)
 
-  pub next-most : (l : ℕ) (ys : List (Node S V)) → m ≤ by.width → Next (Some l) ys → l ≤ by.width
-  next-most l ys h n = grind (arith, nat_tests, n.0)
+  pub next-most : (ys : List (Node S V)) → m ≤ by.width → Next (Ok tt) ys → suc m ≤ by.width
+  next-most ys h n = grind (arith, nat_tests, n.0)
+
+  -- what it leaves, by the answer
+  pub next-ok : group_check (alike by at (suc a) xs) (leb by.width m) ≡ Ok tt → next_records by at a m xs ≡ parted_one by at a m xs
+  next-ok e = go (alike by at (suc a) xs) (leb by.width m) e
+    where
+      go : (p q : Bool) → group_check p q ≡ Ok tt → cond p xs (cond q xs (parted_one by at a m xs)) ≡ parted_one by at a m xs
+      go true q e = cc
+      go false true e = cc
+      go false false e = refl
+
+  pub next-err : (e : Refusal) → group_check (alike by at (suc a) xs) (leb by.width m) ≡ Err e → next_records by at a m xs ≡ xs
+  next-err e h = go (alike by at (suc a) xs) (leb by.width m) h
+    where
+      go : (p q : Bool) → group_check p q ≡ Err e → cond p xs (cond q xs (parted_one by at a m xs)) ≡ xs
+      go true q e = refl
+      go false true e = refl
+      go false false e = cc
 
   -- ---- one turn
   pub parts-end : (k : ℕ) → m ≤ a → (false, xs) ≡ parts_from by at k a m xs
@@ -33,10 +51,67 @@ module _ {S V : Type 0} (by : Setting S V) (at a m : ℕ) (xs : List (Node S V))
   parts-end zero h = refl
   parts-end (suc k) h = rw (le-leb m a h) refl
 
-  pub parts-full : (k : ℕ) (ys : List (Node S V)) → a < m → Next None ys → (true, ys) ≡ parts_from by at (suc k) a m xs
+  pub parts-full : (k : ℕ) (ys : List (Node S V)) → a < m → Next (Err LayerFull) ys → (true, ys) ≡ parts_from by at (suc k) a m xs
   unfolding parts_from
   parts-full k ys h n = grind (arith, nat_tests, n.0, n.1)
 
-  pub parts_more : (k l : ℕ) (ys : List (Node S V)) → a < m → Next (Some l) ys → parts_from by at k (suc a) l ys ≡ parts_from by at (suc k) a m xs
+  pub parts_more : (k : ℕ) (ys : List (Node S V)) → a < m → Next (Ok tt) ys → parts_from by at k (suc a) (suc m) ys ≡ parts_from by at (suc k) a m xs
   unfolding parts_from
-  parts_more k l ys h n = grind (arith, nat_tests, n.0, n.1)
+  parts_more k ys h n = grind (arith, nat_tests, n.0, n.1)
+
+  pub parts_same : (k : ℕ) (ys : List (Node S V)) (e : Refusal) → a < m → e ≢ LayerFull → Next (Err e) ys → parts_from by at k (suc a) m ys ≡ parts_from by at (suc k) a m xs
+  unfolding parts_from
+  parts_same k ys e h ne n = grind (arith, nat_tests, n.0, n.1)
+
+-- ---- the same from where the layer before begins
+module _ {S V : Type 0} (by : Setting S V) (at : ℕ) where
+  abbrev lift : List (Node S V) → Bool × List (Node S V) → Bool × List (Node S V)
+  lift xs r = (r.0, take at xs ++ r.1)
+
+  parted-from : (a m : ℕ) (xs : List (Node S V)) → parted_one by at a m xs ≡ take at xs ++ parted_one by 0 a m (drop at xs)
+  unfolding parted_one
+  parted-from a m xs = refl
+
+  pub next-from : (a m : ℕ) (xs : List (Node S V)) → take at xs ++ next_records by 0 a m (drop at xs) ≡ next_records by at a m xs
+  next-from a m xs = go (alike by at (suc a) xs) (leb by.width m)
+    where
+      go : (p q : Bool) → take at xs ++ cond p (drop at xs) (cond q (drop at xs) (parted_one by 0 a m (drop at xs))) ≡ cond p xs (cond q xs (parted_one by at a m xs))
+      go true q = take-append-drop at xs
+      go false true = take-append-drop at xs
+      go false false = sym (parted-from a m xs)
+
+  parted-before : (a m : ℕ) (xs : List (Node S V)) → at ≤ length xs
+      → (take at (parted_one by at a m xs) ≡ take at xs) × (drop at (parted_one by at a m xs) ≡ parted_one by 0 a m (drop at xs)) × (at ≤ length (parted_one by at a m xs))
+  parted-before a m xs h =
+      let A = take at xs in
+      let B = parted_one by 0 a m (drop at xs) in
+      let many = length-take-le at xs h in (
+        ap (take at) (parted-from a m xs) ∙ take_at A B at many,
+        ap (drop at) (parted-from a m xs) ∙ drop_at A B at many,
+        rw (parted-from a m xs) (omega (arith, length-append A B)),
+      )
+
+  pub parts-shift : (k a m : ℕ) (xs : List (Node S V)) → at ≤ length xs → parts_from by at k a m xs ≡ lift xs (parts_from by 0 k a m (drop at xs))
+  unfolding parts_from
+  parts-shift zero a m xs h = ap (λ ys. (false, ys)) (sym (take-append-drop at xs))
+  parts-shift (suc k) a m xs h =
+      go (leb m a) (alike by at (suc a) xs) (leb by.width m) _ _ _ _ (parts-shift k (suc a) m xs h)
+      (let b = parted-before a m xs h in
+      parts-shift k (suc a) (suc m) (parted_one by at a m xs) b.2 ∙ ap₂ (λ ys zs. (let r = parts_from by 0 k (suc a) (suc m) zs in (r.0, ys ++ r.1))) b.0 b.1)
+    where
+      go : (p q r : Bool) (X Y : Bool × List (Node S V)) (X' Y' : Bool × List (Node S V)) → X ≡ lift xs X' → Y ≡ lift xs Y'
+          → cond p (false, xs) (cond q X (cond r (true, xs) Y)) ≡ lift xs (cond p (false, drop at xs) (cond q X' (cond r (true, drop at xs) Y')))
+      go true q r X Y X' Y' e f = ap (λ ys. (false, ys)) (sym (take-append-drop at xs))
+      go false true r X Y X' Y' e f = e
+      go false false true X Y X' Y' e f = ap (λ ys. (true, ys)) (sym (take-append-drop at xs))
+      go false false false X Y X' Y' e f = f
+
+  -- the nodes of the layer, counted from there
+  pub count-from : (xs : List (Node S V)) → node_count by.width by.width (drop at xs) ≡ node_count (at + by.width) by.width xs
+  count-from xs = ap (λ ys. length (nodes_in (take by.width ys))) (drop-drop by.width at xs)
+
+  pub parts-done : (r : Bool) (xs zs ys : List (Node S V)) → at ≤ length xs → zs ≡ drop at xs → (r, ys) ≡ parts_from by 0 by.width 0 (node_count by.width by.width zs) zs
+      → (r, take at xs ++ ys) ≡ parts_from by at by.width 0 (node_count (at + by.width) by.width xs) xs
+  parts-done r xs zs ys h same e =
+      ap (lift xs) (e ∙ ap (λ vs. parts_from by 0 by.width 0 (node_count by.width by.width vs) vs) same ∙ ap (λ (m : ℕ). parts_from by 0 by.width 0 m (drop at xs)) (count-from xs))
+      ∙ sym (parts-shift by.width 0 (node_count (at + by.width) by.width xs) xs h)

@@ -1,10 +1,14 @@
 -- A node parted: the in-arcs that do not stay go to a new node, numbered last, with the same out-arcs.
 -- `stays` is asked of the label of an in-arc's source, and its door.
 -- Nobody has to believe these steps: `words` of `part` and of `part_layer` say what they come to.
-use Rattle.std.specs.Prelude.{ℕ, suc, Bool, if◌then◌else◌, not, ◌&&◌, List, ◌++◌, map, take, drop, ◌==◌, slice_index_or, slice_set}
+use Rattle.std.specs.Prelude.{ℕ, suc, Bool, if◌then◌else◌, not, ◌&&◌, ◌||◌, List, ◌++◌, map, take, drop, ◌==◌, slice_index_or, slice_set}
 use Rattle.layers.specs.declared.node.Node.{Node}
 use Rattle.layers.specs.declared.node.Label.{Label}
 use Rattle.layers.specs.Targets.{redirected}
+
+-- the same test, but the arcs of a place that is not in use stay
+abbrev pub or_unused : {S V : Type 0} → (Label S V → ℕ → Bool) → Label S V → ℕ → Bool
+or_unused stays u j = u.down.lasts == 0 || stays u j
 
 module _ {S V : Type 0} (stays : Label S V → ℕ → Bool) where
   -- the arc of u by door j to place b, where the node at place a is parted and the new one stands at m

@@ -13,7 +13,7 @@ use Rattle.layers.specs.Settings.{Setting}
 use Rattle.layers.specs.Targets.{targets}
 use Rattle.labels.specs.Passes.{part, fits, arrivals, blank_node, relabelled}
 use Rattle.split.specs.Joined.{joined_second}
-use Rattle.split.specs.Parted.{parted_second}
+use Rattle.split.specs.Parted.{or_unused, parted_second}
 
 -- ---- checks: passed, or the refusal
 -- the second check, if the first is passed
@@ -41,12 +41,6 @@ group_check agreed full = if agreed then Err OneGroup else if full then Err Laye
 abbrev pub pair_check : Bool → Bool → Outcome
 pair_check same apart = if same then Err SameNode else if apart then Err Clash else Ok tt
 
--- how many nodes a layer of m has once one is parted, unless its in-arcs agree; none if the layer is full
-abbrev pub next_count : Bool → Bool → ℕ → Option ℕ
-next_count true full m = Some m
-next_count false true m = None
-next_count false false m = Some (suc m)
-
 -- how many nodes stand in the w records at `at`
 abbrev pub node_count : {S V : Type 0} → ℕ → ℕ → List (Node S V) → ℕ
 node_count at w xs = length (nodes_in (part at w xs))
@@ -70,10 +64,10 @@ module _ {S V : Type 0} (by : Setting S V) where
   abbrev pub alike : ℕ → ℕ → Recs → Bool
   alike at a xs = all_agree by.rule (arrivals by a (part at by.width xs))
 
-  -- which in-arcs stay: those that agree with the first arrival
+  -- which in-arcs stay: those that agree with the first arrival, and those of a place that is not in use
   abbrev pub kept_first : Option (Down S V) → Label S V → ℕ → Bool
-  kept_first None u j = true
-  kept_first (Some x) u j = agree by.rule x (arrival_over by u.down j)
+  kept_first None = λ u j. true
+  kept_first (Some x) = or_unused (λ u j. agree by.rule x (arrival_over by u.down j))
 
   -- the node at place a of the layer after that at `at`, which has m nodes, parted
   unfoldable pub parted_one : ℕ → ℕ → ℕ → Recs → Recs

@@ -6,8 +6,9 @@ ghost use Rattle.labels.specs.Passes.{part};
 ghost use Rattle.split.specs.Steps.{node_count, agreed_to, agreed_steps};
 ghost use Rattle.split.specs.Words.{AgreedDone};
 
-use crate::agreement::look_in;
+use crate::agreement::alike;
 use crate::counting::count_in;
+use crate::listing::{list_layer, room};
 use labels::room::has_room;
 use layers::node::Node;
 use layers::setting::Setting;
@@ -28,11 +29,13 @@ fn layer_agreed<R: Rule, T, V: Copy>(
         result ≡ agreed_to by (node_count (at + by.width) by.width nodes.now)
         (part at by.width nodes.now) }
 {
+    let us = &nodes[at..at + by.width];
     let count = count_in(nodes, at + by.width, by.width);
+    let mut list = room();
+    let many = list_layer(us, &mut list);
     let mut all = true;
     for b in 0..count {
-        let got = look_in(by, nodes, at, b as u8 + 1);
-        all &= got.agreed;
+        all &= alike(by, us, &list[..many], b as u8 + 1);
     }
     all
 }

@@ -1,139 +1,94 @@
 //! Whether the arrivals at a node agree. No value is looked at, so that the tally plays no part: a setting is enough that is
 //! lent none, and the clauses hold with any.
-ghost use Rattle.std.specs.Prelude.{◌≡◌, ◌+◌, ◌≤◌, length, fold};
+ghost use Rattle.std.specs.Prelude.{◌≡◌, ◌<◌, ◌≤◌};
 ghost use Rattle.tallies.specs.Tallies.{TallySense};
-ghost use Rattle.layers.specs.Labels.{agree, all_agree, first_arrival};
-ghost use Rattle.layers.specs.Settings.{lent_setting};
-ghost use Rattle.labels.specs.Passes.{part, from_node, arrivals};
-ghost use Rattle.split.specs.Agreed.{finish_of, brought, brought_first, seen, met};
+ghost use Rattle.layers.specs.declared.node.Node.{Node as ANode};
+ghost use Rattle.layers.specs.Labels.{arrival_finish, all_agree, first_arrival};
+ghost use Rattle.layers.specs.Settings.{Setting as ASetting, lent_setting};
+ghost use Rattle.labels.specs.Passes.{arrivals};
+ghost use Rattle.split.specs.Agreed.{brought_first, kept_by};
+ghost use Rattle.split.specs.Listed.{IsListed};
 
-use crate::source::{Arrived, Source};
+use crate::by_first::ByFirst;
+use crate::dividing::all_stay;
+use crate::listing::InArc;
+use crate::source::Source;
 use labels::leg::leg_from;
-use layers::node::Node;
+use layers::node::{Down, Node};
 use layers::setting::Setting;
 use round::table::Round;
 use rules::rule::Rule;
 
-/// When the work at the arrival would end, in u64 since any finish may stand.
-fn finish_of<S: Copy, V: Copy>(round: &Round, x: &Source<S, V>) -> u64
-    ensures { result ≡ finish_of round.now x.now }
+/// When the work at the arrival by door j would end, in u64 since any finish may stand.
+fn finish_of<S: Copy, V: Copy>(round: &Round, u: &Down<S, V>, j: usize) -> u64
+    requires { j < 17 }
+    ensures { result ≡ arrival_finish round.now u.now j }
 {
-    let leg = leg_from(round, x.label.lasts, x.door);
-    round.finish(x.label.finish, leg, x.door)
+    let leg = leg_from(round, u.lasts, j);
+    round.finish(u.finish, leg, j)
 }
 
-/// Whether two arrivals agree in all, some, finish, lasts and state.
-#[tactic(auto, unfolding(layers::specs::Labels::agree, layers::specs::Labels::arrival_over, crate::specs::Agreed::brought))]
+/// Whether what x brings agrees, in all, some, finish, lasts and state, with what comes by door j from a node with the label u.
+#[tactic(auto, unfolding(crate::specs::Agreed::kept_by))]
 pub(crate) fn agrees<R: Rule, T, V: Copy>(
     by: &Setting<'_, R, T>,
     x: &Source<R::State, V>,
-    y: &Source<R::State, V>,
+    u: &Down<R::State, V>,
+    j: usize,
 ) -> bool
-    ensures { (tally : TallySense V)
-        → let by = lent_setting by.now (R.sense by.now.rule.now) tally in
-        result ≡ agree by.rule (brought by x.now) (brought by y.now) }
+    requires { j < 17 }
+    ensures { let s = by.now in
+        result ≡ kept_by s.round.now (R.sense s.rule.now) x.now u.now j }
 {
     let last = 1u32 << x.door;
-    let other = 1u32 << y.door;
-    (x.label.all | last) == (y.label.all | other)
-        && (x.label.some | last) == (y.label.some | other)
-        && finish_of(by.round, x) == finish_of(by.round, y)
-        && last == other
+    let other = 1u32 << j;
+    last == other
+        && (x.label.all | last) == (u.all | other)
+        && (x.label.some | last) == (u.some | other)
         && by.rule.same(
             by.rule.step(x.label.state, x.door),
-            by.rule.step(y.label.state, y.door),
+            by.rule.step(u.state, j),
         )
+        && finish_of(by.round, &x.label, x.door) == finish_of(by.round, u, j)
 }
 
-/// One more arrival.
-fn meet<R: Rule, T, V: Copy>(
-    by: &Setting<'_, R, T>,
-    got: Arrived<R::State, V>,
-    y: Source<R::State, V>,
-) -> Arrived<R::State, V>
-    ensures { (tally : TallySense V)
-        → let by = lent_setting by.now (R.sense by.now.rule.now) tally in
-        seen by result ≡ met by (seen by got) (brought by y) }
-{
-    let Arrived { first, agreed } = got;
-    match first {
-        None => Arrived {
-            first: Some(y),
-            agreed,
-        },
-        Some(x) => Arrived {
-            first: Some(x),
-            agreed: agreed && agrees(by, &x, &y),
-        },
-    }
-}
-
-/// All arcs of u that lead to node t.
-#[tactic(auto, unfolding(labels::specs::Passes::from_node, labels::specs::Passes::by_door, crate::specs::Agreed::brought))]
-fn meet_node<R: Rule, T, V: Copy>(
-    by: &Setting<'_, R, T>,
-    got: Arrived<R::State, V>,
-    u: &Node<R::State, V>,
+/// The first of the listed in-arcs that leads to node t.
+pub(crate) fn first_into<S: Copy, V: Copy>(
+    us: &[Node<S, V>],
+    list: &[InArc],
     t: u8,
-) -> Arrived<R::State, V>
-    ensures { (tally : TallySense V)
-        → let by = lent_setting by.now (R.sense by.now.rule.now) tally in
-        seen by result ≡ fold (met by) (seen by got) (from_node by t u.now) }
+) -> Option<Source<S, V>>
+    requires one_le_t { 1 ≤ t }
+    requires listed { IsListed us.now list.now }
+    ensures { (by : ASetting S V)
+        → brought_first by result ≡ first_arrival (arrivals by t us.now) }
 {
-    if u.label.down.lasts == 0 {
-        return got;
-    }
-    let mut all = got;
-    for k in 0..16 {
-        if u.arcs.to[k] == t {
-            let y = Source {
-                label: u.label.down,
-                door: k + 1,
-            };
-            all = meet(by, all, y);
+    for x in list {
+        if x.to == t {
+            return Some(Source {
+                label: us[x.place as usize].label.down,
+                door: x.door as usize + 1,
+            });
         }
     }
-    all
+    None
 }
 
-/// The first arrival at node t out of the layer us before it, and whether all agree with it.
-fn look_at<R: Rule, T, V: Copy>(
+/// Whether the in-arcs of node t agree, of those that are listed from the records us.
+pub(crate) fn alike<R: Rule, T, V: Copy>(
     by: &Setting<'_, R, T>,
     us: &[Node<R::State, V>],
+    list: &[InArc],
     t: u8,
-) -> Arrived<R::State, V>
-    ensures first { (tally : TallySense V)
+) -> bool
+    requires one_le_t { 1 ≤ t }
+    requires listed { IsListed us.now list.now }
+    ensures { (tally : TallySense V)
         → let by = lent_setting by.now (R.sense by.now.rule.now) tally in
-        brought_first by result.first ≡ first_arrival (arrivals by t us.now) }
-    ensures agreed { (tally : TallySense V)
-        → let by = lent_setting by.now (R.sense by.now.rule.now) tally in
-        result.agreed ≡ all_agree by.rule (arrivals by t us.now) }
+        result ≡ all_agree by.rule (arrivals by t us.now) }
 {
-    let mut all = Arrived {
-        first: None,
-        agreed: true,
-    };
-    for u in us {
-        all = meet_node(by, all, u, t);
+    match first_into(us, list, t) {
+        None => true,
+        Some(first) => all_stay(&ByFirst { by, first }, us, list, t),
     }
-    all
-}
-
-/// The same, of the layer at `at`.
-pub(crate) fn look_in<R: Rule, T, V: Copy>(
-    by: &Setting<'_, R, T>,
-    nodes: &[Node<R::State, V>],
-    at: usize,
-    t: u8,
-) -> Arrived<R::State, V>
-    requires { at + by.now.width ≤ length nodes.now }
-    ensures first { (tally : TallySense V)
-        → let by = lent_setting by.now (R.sense by.now.rule.now) tally in
-        brought_first by result.first ≡ first_arrival (arrivals by t (part at by.width nodes.now)) }
-    ensures agreed { (tally : TallySense V)
-        → let by = lent_setting by.now (R.sense by.now.rule.now) tally in
-        result.agreed ≡ all_agree by.rule (arrivals by t (part at by.width nodes.now)) }
-{
-    let end = at + by.width;
-    look_at(by, &nodes[at..end], t)
 }

@@ -1,11 +1,12 @@
 //! Dividing the in-arcs of a node between it and a new one, over a test of which stay.
-ghost use Rattle.std.specs.Prelude.{◌≡◌, ℕ, ◌+◌, ◌-◌, ◌<◌, ◌≤◌, Bool, map, length, slice_index};
+ghost use Rattle.std.specs.Prelude.{◌≡◌, ℕ, ◌+◌, ◌-◌, ◌<◌, ◌≤◌, Bool, map, length};
 ghost use Rattle.layers.specs.declared.node.Label.{Label as ALabel};
 ghost use Rattle.layers.specs.declared.node.Node.{Node as ANode};
-ghost use Rattle.layers.specs.Targets.{at_door};
-ghost use Rattle.split.specs.Parted.{parted_to, parted_node, parted_second};
+ghost use Rattle.split.specs.Listed.{leaves, redirected_arc, IsListed, all_stay};
+ghost use Rattle.split.specs.Parted.{or_unused, parted_node};
 
-use layers::node::{Arcs, Label, Node};
+use crate::listing::InArc;
+use layers::node::{Label, Node};
 
 /// Which in-arcs of a node stay, by the source's label and the door. There is one such test, by which `part` goes; another way
 /// of splitting a node comes in as another one.
@@ -21,70 +22,66 @@ pub(crate) trait Test {
         ensures { result ≡ keeps self.now u.now j };
 }
 
-/// The target of the arc by the door k + 1, once those into a that do not stay go to `new`.
-#[tactic(auto, unfolding(crate::specs::Parted::parted_to))]
-fn divided_target<K: Test>(test: &K, u: &Node<K::State, K::Value>, k: usize, a: u8, new: u8) -> u8
-    requires k_bound { k < 16 }
-    requires one_le_a { 1 ≤ a }
-    requires one_le_new { 1 ≤ new }
-    ensures { result ≡ at_door (parted_to (K.keeps test.now) (a - 1) (new - 1) u.now) (k + 1)
-        (slice_index u.now.arcs.to k) }
+/// Whether the in-arc x leads to node t, and does not stay there.
+#[tactic(auto, using(crate::proofs::InArcs::leaves_met, crate::proofs::InArcs::leaves_other))]
+fn leaves<K: Test>(test: &K, us: &[Node<K::State, K::Value>], x: &InArc, t: u8) -> bool
+    requires place_in_bounds { x.now.place < length us.now }
+    requires door_bound { x.now.door < 16 }
+    ensures { (z : ANode (K.State) (K.Value))
+        → result ≡ leaves (K.keeps test.now) t z us.now x.now }
 {
-    let t = u.arcs.to[k];
-    if t != a {
-        return t;
-    }
-    if test.stays(&u.label, k + 1) { t } else { new }
+    let InArc { place, door, to } = *x;
+    to == t && !test.stays(&us[place as usize].label, door as usize + 1)
 }
 
-fn divide_node<K: Test>(
+/// Whether all in-arcs of node t stay, of those that are listed from the records us.
+pub(crate) fn all_stay<K: Test>(
     test: &K,
-    x: &Node<K::State, K::Value>,
-    a: u8,
-    new: u8,
-) -> Node<K::State, K::Value>
-    requires one_le_a { 1 ≤ a }
-    requires one_le_new { 1 ≤ new }
-    ensures { result ≡ parted_node (K.keeps test.now) (a - 1) (new - 1) x.now }
+    us: &[Node<K::State, K::Value>],
+    list: &[InArc],
+    t: u8,
+) -> bool
+    requires listed { IsListed us.now list.now }
+    ensures { (z : ANode (K.State) (K.Value))
+        → result ≡ all_stay (K.keeps test.now) t z us.now list.now }
 {
-    let mut to = [0u8; 16];
-    for k in 0..16 {
-        to[k] = divided_target(test, x, k, a, new);
+    for x in list {
+        if leaves(test, us, x, t) {
+            return false;
+        }
     }
-    Node {
-        arcs: Arcs { to },
-        label: x.label,
-    }
+    true
 }
 
-fn divide_layer<K: Test>(test: &K, us: &mut [Node<K::State, K::Value>], a: u8, new: u8)
-    requires one_le_a { 1 ≤ a }
-    requires one_le_new { 1 ≤ new }
-    ensures { us.new ≡ map (parted_node (K.keeps test.now) (a - 1) (new - 1)) us.old }
+/// The in-arc x goes to `new`, in its record and in the list.
+fn send<S: Copy, V: Copy>(us: &mut [Node<S, V>], x: &mut InArc, new: u8)
+    requires place_in_bounds { x.old.place < length us.old }
+    requires door_bound { x.old.door < 16 }
+    ensures records { (z : ANode S V) → us.new ≡ redirected_arc z us.old x.old new }
+    ensures arc { x.new ≡ record x.old { to = new } }
 {
-    for x in us.iter_mut() {
-        *x = divide_node(test, x, a, new);
-    }
+    x.to = new;
+    us[x.place as usize].arcs.to[x.door as usize] = new;
 }
 
-/// Parts node a of the second of the layers of w records, which has `count` nodes and room for one more.
-#[tactic(auto, unfolding(crate::specs::Parted::parted_second))]
+/// The in-arcs of node t that do not stay go to `new`, in the records us and in the list of their arcs.
 pub(crate) fn divide<K: Test>(
     test: &K,
-    nodes: &mut [Node<K::State, K::Value>],
-    w: usize,
-    a: u8,
-    count: u8,
+    us: &mut [Node<K::State, K::Value>],
+    list: &mut [InArc],
+    t: u8,
+    new: u8,
 )
-    requires w_in_bounds { w + w < length nodes.old }
-    requires w_bound { w ≤ 128 }
-    requires one_le_a { 1 ≤ a }
-    requires a_le_count { a ≤ count }
-    requires count_lt_w { count < w }
-    ensures { (z : ANode (K.State) (K.Value))
-        → nodes.new ≡ parted_second (K.keeps test.now) w (a - 1) count nodes.old z }
+    requires one_le_us { 1 ≤ length us.old }
+    requires one_le_t { 1 ≤ t }
+    requires one_le_new { 1 ≤ new }
+    requires listed { IsListed us.old list.old }
+    ensures records { us.new ≡ map (parted_node (or_unused (K.keeps test.now)) (t - 1) (new - 1)) us.old }
+    ensures listed { IsListed us.new list.new }
 {
-    let (us, vs) = nodes.split_at_mut(w);
-    divide_layer(test, us, a, count + 1);
-    vs[count as usize] = vs[a as usize - 1];
+    for x in list.iter_mut() {
+        if leaves(test, us, x, t) {
+            send(us, x, new);
+        }
+    }
 }

@@ -8,6 +8,7 @@ mod check;
 mod counting;
 mod dividing;
 pub mod joining;
+mod listing;
 mod moving;
 pub mod parting;
 mod source;

@@ -23,10 +23,3 @@ impl<S: Copy, V: Copy> Clone for Source<S, V> {
 }
 
 impl<S: Copy, V: Copy> Copy for Source<S, V> {}
-
-/// The arrivals that were looked at: the first of them, and whether the others agree with it.
-#[derive_where(Clone, Copy; S: Copy, V: Copy)]
-pub(crate) struct Arrived<S, V> {
-    pub(crate) first: Option<Source<S, V>>,
-    pub(crate) agreed: bool,
-}

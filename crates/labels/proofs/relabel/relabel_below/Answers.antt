@@ -3,7 +3,7 @@ use Rattle.std.proofs.lemmas.Bool.{cond-true, cond-false}
 use Rattle.layers.specs.Settings.{lent_setting}
 use Rattle.labels.specs.Passes.{fits, may_follow, labelled_after, relabelled_below, below_steps}
 use Rattle.labels.proofs.Below.{below-laid}
-use Rattle.labels.proofs.Earlies.{all-mono}
+use Rattle.labels.proofs.Folds.{all_mono}
 use Rattle.labels.proofs.Rooms.{follow-facts}
 use Rattle.labels.proofs.relabel.relabel_below.Goals as goal
 
@@ -26,7 +26,7 @@ label_after-requires g c =
     record {
       later_bound = omega (arith, f.low, by.round.most);
       records_in_bounds = omega (arith, f.enough, c.split_at_mut-from.ensures.back_len);
-      all_early = rw c.split_at_mut-from.ensures.back (all-mono _ _ (λ u e. omega (arith, f.low, f.high, by.round.most)) _ f.early);
+      all_early = rw c.split_at_mut-from.ensures.back (all_mono _ _ (λ u e. omega (arith, f.low, f.high, by.round.most)) _ f.early);
     }
 
 pub returns-then-may_follow : goal.returns-then-may_follow

@@ -1,5 +1,6 @@
-use Rattle.std.proofs.Common.{◌≡◌, ◌+◌, ◌-◌, ◌≤◌}
+use Rattle.std.proofs.Common.{◌≡◌, ◌-◌, ◌≤◌, take}
 use Rattle.layers.specs.Settings.{lent_setting}
+use Rattle.split.specs.Listed.{IsListed}
 use Rattle.split.specs.Steps.{node_count, parts_from}
 use Rattle.split.proofs.parting.part_from.Given as goal
 
@@ -7,4 +8,5 @@ abbrev pub invariant-loop-a : goal.invariant-loop-a
 invariant-loop-a g l =
     let by = lent_setting l.by (g.R.Rule.sense l.by.rule.now) (g.T.Tally.sense l.by.tally.now) in
     (l.count ≤ by.width)
-    × (parts_from by l.at (by.width - l.a) l.a l.count l.nodes ≡ parts_from by l.at by.width 0 (node_count (l.at + by.width) by.width l.initial.nodes) l.initial.nodes)
+    × (parts_from by 0 (by.width - l.a) l.a l.count l.nodes ≡ parts_from by 0 by.width 0 (node_count by.width by.width l.initial.nodes) l.initial.nodes)
+    × IsListed (take by.width l.nodes) (take l.many l.list)
