@@ -76,7 +76,8 @@ pub(crate) fn divide<K: Test>(
     requires one_le_t { 1 ≤ t }
     requires one_le_new { 1 ≤ new }
     requires listed { IsListed us.old list.old }
-    ensures records { us.new ≡ map (parted_node (or_unused (K.keeps test.now)) (t - 1) (new - 1)) us.old }
+    ensures records { let stays = or_unused (K.keeps test.now) in
+        us.new ≡ map (parted_node stays (t - 1) (new - 1)) us.old }
     ensures listed { IsListed us.new list.new }
 {
     for x in list.iter_mut() {
