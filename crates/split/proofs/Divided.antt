@@ -13,12 +13,26 @@ use Rattle.layers.specs.declared.node.Label.{Label}
 use Rattle.layers.specs.Targets.{with_targets, at_door}
 use Rattle.labels.proofs.Folds.{counting_more}
 use Rattle.labels.proofs.Redirects.{by_door, redirect-made}
-use Rattle.labels.proofs.Steps.{folded-counting-more, length-mapped, getD-mapped}
-use Rattle.labels.proofs.Writing.{over-more, get_d_over}
+use Rattle.labels.proofs.Steps.{folded-counting-more}
+use Rattle.labels.proofs.Writing.{over-more}
 use Rattle.split.specs.declared.listing.InArc.{InArc}
 use Rattle.split.specs.Listed.{listed_arc, listed_node, in_arcs, leaves, redirected_arc}
 use Rattle.split.specs.Parted.{or_unused, parted_to, parted_node}
 use Rattle.split.proofs.InArcs.{Within, within-at, at, in-arcs-at}
+
+-- ---- a list of which the first a elements are altered
+length-mapped : {X : Type 0} (f : X → X) (us : List X) (a : ℕ) → a ≤ length us → length (map f (take a us) ++ drop a us) ≡ length us
+length-mapped f us a h = omega (arith, length-append (map f (take a us)) (drop a us), length-map (take a us) f, length-take-le a us h, length-drop a us)
+
+getD-mapped : {X : Type 0} (f : X → X) (us : List X) (a : ℕ) (d : X) → a < length us → get_or (map f (take a us) ++ drop a us) a d ≡ get_or us a d
+getD-mapped f us a d h =
+    get_or-append_right (map f (take a us)) (drop a us) a a d (length-map (take a us) f ∙ length-take-le a us (omega arith)) (omega arith)
+    ∙ get_or-drop a us (a - a) d ∙ ap (λ k. get_or us k d) (omega arith)
+
+get_d_over : {X : Type 0} (f : ℕ → X) (xs : List X) (a : ℕ) (z : X) → get_or (map f (range_with_len 0 a) ++ drop a xs) a z ≡ get_or xs a z
+get_d_over f xs a z =
+    get_or-append_right (map f (range_with_len 0 a)) (drop a xs) a a z (length-map-range_with_len f 0 a) (omega arith)
+    ∙ get_or-drop a xs (a - a) z ∙ ap (λ k. get_or xs k z) (omega arith)
 
 -- ---- lists of lists
 flat-more : {A : Type 0} (F : ℕ → List A) (n : ℕ) → flat_map F (range_with_len 0 (n + 1)) ≡ flat_map F (range_with_len 0 n) ++ F n
