@@ -12,6 +12,8 @@ mod raw {
             out_len: usize,
         ) -> i64;
         pub fn morvuges_refine_often(text: *const u8, text_len: usize, width: usize, times: usize) -> i64;
+        pub fn morvuges_settled_often(text: *const u8, text_len: usize, width: usize, times: usize) -> i64;
+        pub fn morvuges_musts_often(text: *const u8, text_len: usize, width: usize, times: usize) -> i64;
     }
 }
 
@@ -25,4 +27,14 @@ pub fn sheet(text: &[u8], width: usize, calls: &[u8], out: &mut [u8]) -> i64 {
 pub fn refine_often(text: &[u8], width: usize, times: usize) -> i64 {
     // SAFETY: as above.
     unsafe { raw::morvuges_refine_often(text.as_ptr(), text.len(), width, times) }
+}
+
+pub fn settled_often(text: &[u8], width: usize, times: usize) -> i64 {
+    // SAFETY: as above.
+    unsafe { raw::morvuges_settled_often(text.as_ptr(), text.len(), width, times) }
+}
+
+pub fn musts_often(text: &[u8], width: usize, times: usize) -> i64 {
+    // SAFETY: as above.
+    unsafe { raw::morvuges_musts_often(text.as_ptr(), text.len(), width, times) }
 }

@@ -156,24 +156,39 @@ fn singles(rounds: &[Round], width: usize, kind: &str) -> Sums {
     sums
 }
 
-/// What a refined diagram is asked: whether it is settled, its bound and all musts; in the library with the reading of the text.
-fn asks(rounds: &[Round], width: usize) -> Sums {
+/// How often a refined diagram is asked, so that its time stands out.
+const ASKED: usize = 256;
+
+/// What a refined diagram is asked, in the library and in the twin.
+struct Question {
+    name: &'static str,
+    library: fn(&[u8], usize, usize) -> i64,
+    twin: fn(&Diagram) -> i64,
+}
+
+const QUESTIONS: [Question; 2] = [
+    Question { name: "settled", library: library::settled_often, twin: |d| i64::from(d.settled()) },
+    Question { name: "all musts", library: library::musts_often, twin: |d| d.musts().iter().map(|set| i64::from(set.count_ones())).sum() },
+];
+
+/// One question, for one width; the library's time is that of a call that asks often less that of one that never asks.
+fn asks(rounds: &[Round], width: usize, question: &Question) -> Option<Sums> {
     let mut sums = Sums::new();
-    let refine = bytes(Call::Refine.words());
-    let mut out = vec![0; 92];
     for round in rounds {
         let text = round.text();
-        let all = least(1, || library::sheet(text.as_bytes(), width, &refine, &mut out));
-        let without = least(1, || of_library(text.as_bytes(), width, 1));
+        let of_library = |times| (question.library)(black_box(text.as_bytes()), width, times);
         let mut d = Diagram::new(round, width);
         d.open();
         d.refine();
-        let twin = least(OFTEN, || {
-            (0..OFTEN).map(|_| d.settled() as i64 + d.musts()[1] as i64 + d.bound().is_some() as i64).sum()
-        });
-        sums.add((all - without).max(0.0), twin);
+        if of_library(1) != (question.twin)(&d) {
+            println!("answers differ at width {width}");
+            return None;
+        }
+        let library = (least(1, || of_library(ASKED)) - least(1, || of_library(0))) / ASKED as f64;
+        let twin = least(ASKED, || (0..ASKED).map(|_| (question.twin)(black_box(&d))).sum());
+        sums.add(library.max(0.0), twin);
     }
-    sums
+    Some(sums)
 }
 
 pub fn measure() -> ExitCode {
@@ -197,9 +212,14 @@ pub fn measure() -> ExitCode {
             singles(&rounds, width, kind).print(&format!("{width:5}      "));
         }
     }
-    println!("width        rounds  library     twin  ratio (least to most)   settled, bound and all musts");
-    for width in WIDTHS {
-        asks(&rounds, width).print(&format!("{width:5}      "));
+    for question in &QUESTIONS {
+        println!("width        rounds  library     twin  ratio (least to most)   {}, on a refined diagram", question.name);
+        for width in WIDTHS {
+            let Some(sums) = asks(&rounds, width, question) else {
+                return ExitCode::FAILURE;
+            };
+            sums.print(&format!("{width:5}      "));
+        }
     }
     ExitCode::SUCCESS
 }

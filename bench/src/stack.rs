@@ -50,7 +50,10 @@ fn measure() -> usize {
             let refine = of_call(|| {
                 black_box(library::refine_often(text.as_bytes(), 128, 2));
             });
-            sheet.max(refine)
+            let ask = of_call(|| {
+                black_box(library::settled_often(text.as_bytes(), 128, 2) + library::musts_often(text.as_bytes(), 128, 2));
+            });
+            sheet.max(refine).max(ask)
         })
         .max()
         .unwrap_or(0)
