@@ -7,8 +7,7 @@ ghost use Rattle.labels.specs.Passes.{fits};
 ghost use Rattle.filter.specs.Steps.{timely, arc_count, cut_steps, CutDone};
 
 use crate::redo::filter;
-use crate::test::Test;
-use labels::leg::leg_from;
+use crate::test::{Arc, Test};
 use labels::room::has_room;
 use layers::node::{Down, Node, Up};
 use layers::setting::Setting;
@@ -23,7 +22,6 @@ const LATEST: u32 = 39_969;
 /// The ceiling. A rule has no say in it: its states stand for themselves.
 #[derive(Drop)]
 pub(crate) struct Ceiling<'a, T, S, V> {
-    pub(crate) round: &'a Round,
     pub(crate) tally: &'a T,
     pub(crate) ceiling: V,
     pub(crate) states: PhantomData<S>,
@@ -35,21 +33,14 @@ impl<'a, T: Tally, S: Copy> Test for Ceiling<'a, T, S, T::Value> {
 
     type Value = T::Value;
 
-    ghost goes = { λ t. is_above_ceiling t.round.now (T.Tally.sense t.tally.now) t.ceiling };
+    ghost goes = { λ t r. is_above_ceiling r (T.Tally.sense t.tally.now) t.ceiling };
 
     ghost fits = { λ t u. u.finish ≤ latest_finish 15 };
 
-    fn takes_out(
-        &self,
-        layer: usize,
-        left: usize,
-        j: usize,
-        u: &Down<S, T::Value>,
-        v: &Up,
-    ) -> bool {
-        let leg = leg_from(self.round, u.lasts, j);
-        let finish = self.round.finish(u.finish, leg, j) as u32;
-        let value = self.tally.step(u.value, j, leg, finish);
+    fn takes_out(&self, arc: &Arc<'_>, u: &Down<S, T::Value>, v: &Up) -> bool {
+        let j = arc.door;
+        let finish = arc.round.finish(u.finish, arc.leg, j) as u32;
+        let value = self.tally.step(u.value, j, arc.leg, finish);
         !self.tally.not_above(value, self.ceiling)
     }
 }
@@ -94,7 +85,6 @@ pub fn cut<R: Rule, T: Tally>(
         return 0;
     }
     let test = Ceiling {
-        round: by.round,
         tally: by.tally,
         ceiling,
         states: PhantomData,

@@ -7,7 +7,7 @@ ghost use Rattle.filter.specs.Kept.{HasLabel, kept_node, kept_from};
 ghost use Rattle.filter.specs.Steps.{quiet_steps, QuietDone};
 
 use crate::sweep::SixTests;
-use crate::take::{Step, next_count, thin_node};
+use crate::take::{Filter, Step, next_count, thin_node};
 use crate::test::Test;
 use labels::room::has_room;
 use layers::node::Node;
@@ -24,7 +24,7 @@ fn nodes_stay<F: Test>(
     requires layer_bound { at.now.layer ≤ 16 }
     requires left_bound { at.now.left ≤ 16 }
     requires fits { AllByRecursion (HasLabel (F.fits at.now.test.now)) us.now }
-    ensures { let goes = F.goes at.now.test.now in
+    ensures { let goes = F.goes at.now.test.now at.now.round.now in
         result ≡ (arcs_within (map (kept_node goes at.now.layer at.now.left at.now.next.now) us.now)
         == arcs_within us.now) }
 {
@@ -39,32 +39,34 @@ fn nodes_stay<F: Test>(
 
 /// The same from a layer on, with `left` layers of arcs from it to the end.
 fn stay_from<F: Test>(
-    test: &F,
+    by: &Filter<'_, F>,
     layer: usize,
     left: usize,
     nodes: &[Node<F::State, F::Value>],
-    w: usize,
 ) -> bool
     requires layer_bound { layer + left ≤ 16 }
-    requires w_in_bounds { left * w < length nodes.now }
-    requires fits { AllByRecursion (HasLabel (F.fits test.now)) (take (left * w) nodes.now) }
-    ensures { result ≡ (arcs_within (kept_from (F.goes test.now) w layer left nodes.now)
+    requires width_in_bounds { left * by.now.width < length nodes.now }
+    requires fits { AllByRecursion (HasLabel (F.fits by.now.test.now))
+        (take (left * by.now.width) nodes.now) }
+    ensures { let goes = F.goes by.now.test.now by.now.round.now in
+        result ≡ (arcs_within (kept_from goes by.now.width layer left nodes.now)
         == arcs_within nodes.now) }
 {
     if left == 0 {
         return true;
     }
-    let m = next_count(w, left - 1);
-    let (us, rest) = nodes.split_at(w);
+    let m = next_count(by.width, left - 1);
+    let (us, rest) = nodes.split_at(by.width);
     let next = &rest[..m];
     let at = Step {
-        test,
+        round: by.round,
+        test: by.test,
         layer,
         left,
         next,
     };
     let many = count_nodes(us);
-    nodes_stay(&at, &us[..many]) && stay_from(test, layer + 1, left - 1, rest, w)
+    nodes_stay(&at, &us[..many]) && stay_from(by, layer + 1, left - 1, rest)
 }
 
 /// Whether none of the six tests bars an arc, by the labels that stand. A tally has no say in it.
@@ -82,10 +84,14 @@ pub fn quiet<R: Rule, V: Copy>(
     if !has_room(round, width, nodes.len()) {
         return false;
     }
-    let tests: SixTests<'_, R, V> = SixTests {
-        round,
+    let test: SixTests<'_, R, V> = SixTests {
         rule,
         values: PhantomData,
     };
-    stay_from(&tests, 0, round.n, nodes, width)
+    let by = Filter {
+        round,
+        width,
+        test: &test,
+    };
+    stay_from(&by, 0, round.n, nodes)
 }

@@ -7,7 +7,7 @@ ghost use Rattle.tidying.specs.Counted.{arcs_within};
 ghost use Rattle.filter.specs.Kept.{HasLabel};
 ghost use Rattle.filter.specs.Steps.{arc_count, redone, filter_steps};
 
-use crate::take::take_from;
+use crate::take::{Filter, take_from};
 use crate::test::Test;
 use labels::blank::blank_node;
 use labels::relabel::relabel;
@@ -43,10 +43,15 @@ pub(crate) fn filter<R: Rule, T: Tally, F: Test<State = R::State, Value = T::Val
         (take (by.now.round.now.n * by.now.width) nodes.old) }
     ensures steps { let by = lent_setting by.now (R.sense by.now.rule.now)
         (T.sense by.now.tally.now) in
-        nodes.new ≡ filter_steps by (F.goes test.now) nodes.old }
+        nodes.new ≡ filter_steps by (F.goes test.now by.round) nodes.old }
     ensures counted { result ≡ arc_count by.now.round.now.n by.now.width nodes.old -
         arc_count by.now.round.now.n by.now.width nodes.new }
 {
-    let gone = take_from(test, 0, by.round.n, nodes, by.width);
+    let filter = Filter {
+        round: by.round,
+        width: by.width,
+        test,
+    };
+    let gone = take_from(&filter, 0, by.round.n, nodes);
     gone + redo(by, nodes)
 }

@@ -2,19 +2,17 @@
 ghost use Rattle.std.specs.Prelude.{◌≡◌, ◌+◌, ◌-◌, ◌<◌, length, nat_lt, if◌then◌else◌, ⊤};
 ghost use Rattle.round.specs.Clock.{door};
 ghost use Rattle.layers.specs.Settings.{lent_setting};
-ghost use Rattle.layers.specs.Labels.{arrival_finish, is_barred};
+ghost use Rattle.layers.specs.Labels.{leg, arrival_finish, is_barred};
 ghost use Rattle.labels.specs.Passes.{fits};
 ghost use Rattle.filter.specs.Kept.{few};
 ghost use Rattle.filter.specs.Steps.{arc_count, sweep_steps, SweepDone};
 
 use crate::redo::filter;
-use crate::test::Test;
+use crate::test::{Arc, Test};
 use doors::{DoorSet, contains};
-use labels::leg::leg_from;
 use labels::room::has_room;
 use layers::node::{Down, Node, Up};
 use layers::setting::Setting;
-use round::table::Round;
 use rules::rule::Rule;
 use std::marker::PhantomData;
 use tallies::tally::Tally;
@@ -27,19 +25,19 @@ fn too_few(set: DoorSet, j: usize, need: u32) -> bool
     (set | (1u32 << j)).count_ones() < need
 }
 
-/// Whether the work at j would end after it closes, in u64 since any finish may stand.
-fn too_late<S: Copy, V: Copy>(round: &Round, u: &Down<S, V>, j: usize) -> bool
-    ensures { result ≡ nat_lt (door round.now j).closes (arrival_finish round.now u.now j) }
+/// Whether the work at the arc's door would end after it closes, in u64 since any finish may stand.
+fn too_late<S: Copy, V: Copy>(arc: &Arc<'_>, u: &Down<S, V>) -> bool
+    requires { arc.now.leg ≡ leg arc.now.round.now u.now.lasts arc.now.door }
+    ensures { let r = arc.now.round.now in let j = arc.now.door in
+        result ≡ nat_lt (door r j).closes (arrival_finish r u.now j) }
 {
-    let leg = leg_from(round, u.lasts, j);
-    let end = round.finish(u.finish, leg, j);
-    u64::from(round.door(j).closes) < end
+    let end = arc.round.finish(u.finish, arc.leg, arc.door);
+    u64::from(arc.round.door(arc.door).closes) < end
 }
 
 /// The six tests. A tally has no say in them: its values stand for themselves.
 #[derive(Drop)]
 pub(crate) struct SixTests<'a, R, V> {
-    pub(crate) round: &'a Round,
     pub(crate) rule: &'a R,
     pub(crate) values: PhantomData<V>,
 }
@@ -49,24 +47,18 @@ impl<'a, R: Rule, V: Copy> Test for SixTests<'a, R, V> {
 
     type Value = V;
 
-    ghost goes = { λ t. is_barred t.round.now (R.Rule.sense t.rule.now) };
+    ghost goes = { λ t r. is_barred r (R.Rule.sense t.rule.now) };
 
     ghost fits = { λ t u. ⊤ };
 
-    fn takes_out(
-        &self,
-        layer: usize,
-        left: usize,
-        j: usize,
-        u: &Down<R::State, V>,
-        v: &Up,
-    ) -> bool {
+    fn takes_out(&self, arc: &Arc<'_>, u: &Down<R::State, V>, v: &Up) -> bool {
+        let j = arc.door;
         contains(u.all, j)
-            || too_few(u.some, j, layer as u32 + 1)
-            || too_late(self.round, u, j)
-            || self.rule.bars(u.state, j)
+            || too_few(u.some, j, arc.layer as u32 + 1)
             || contains(v.allup, j)
-            || too_few(v.someup, j, left as u32)
+            || too_few(v.someup, j, arc.left as u32)
+            || too_late(arc, u)
+            || self.rule.bars(u.state, j)
     }
 }
 
@@ -91,7 +83,6 @@ pub fn sweep<R: Rule, T: Tally>(
         return 0;
     }
     let tests = SixTests {
-        round: by.round,
         rule: by.rule,
         values: PhantomData,
     };

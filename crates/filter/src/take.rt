@@ -1,35 +1,49 @@
 //! Taking out arcs by a test, by the labels that stand.
 ghost use Rattle.std.specs.Prelude.{◌≡◌, ◌+◌, ◌-◌, ◌*◌, ◌<◌, ◌≤◌, map, length, take, slice_index};
 ghost use Rattle.std.specs.List.{AllByRecursion};
+ghost use Rattle.layers.specs.Labels.{leg};
 ghost use Rattle.layers.specs.Targets.{at_door};
 ghost use Rattle.tidying.specs.Counted.{arcs_of, arcs_within};
 ghost use Rattle.filter.specs.Kept.{HasLabel, after, kept_to, kept_node, kept_from};
 
-use crate::test::Test;
+use crate::test::{Arc, Test};
+use labels::leg::legs;
 use layers::node::Node;
+use round::table::Round;
 use tidying::count::count_nodes;
 
-/// A layer that is filtered: the test, the layer's number, how many layers of arcs there are from it to the end, and the layer
-/// after it.
+/// A filter: the round and the width of the diagram, and the test.
+#[derive(Drop)]
+pub(crate) struct Filter<'a, F> {
+    pub(crate) round: &'a Round,
+    pub(crate) width: usize,
+    pub(crate) test: &'a F,
+}
+
+/// A layer that is filtered: the round and the test, the layer's number, how many layers of arcs there are from it to the end, and
+/// the layer after it.
 #[derive(Drop)]
 pub(crate) struct Step<'a, F, S, V> {
+    pub(crate) round: &'a Round,
     pub(crate) test: &'a F,
     pub(crate) layer: usize,
     pub(crate) left: usize,
     pub(crate) next: &'a [Node<S, V>],
 }
 
-/// What is left of u's arc by the door k + 1; one that leads out of the next layer goes.
+/// What is left of u's arc by the door k + 1, where `legs` are those of u; one that leads out of the next layer goes.
 fn door_left<F: Test>(
     at: &Step<'_, F, F::State, F::Value>,
     u: &Node<F::State, F::Value>,
+    legs: &[u16; 16],
     k: usize,
 ) -> u8
     requires layer_bound { at.now.layer ≤ 16 }
     requires left_bound { at.now.left ≤ 16 }
     requires k_bound { k < 16 }
+    requires is_leg { slice_index legs.now k ≡ leg at.now.round.now u.now.label.down.lasts (k + 1) }
     requires fits { F.fits at.now.test.now u.now.label.down }
-    ensures { let goes = F.goes at.now.test.now in
+    ensures { let goes = F.goes at.now.test.now at.now.round.now in
         result ≡ at_door (kept_to goes at.now.layer at.now.left at.now.next.now u.now) (k + 1)
         (slice_index u.now.arcs.to k) }
 {
@@ -39,10 +53,14 @@ fn door_left<F: Test>(
         return 0;
     }
     let up = &at.next[t - 1].label.up;
-    if at
-        .test
-        .takes_out(at.layer, at.left, k + 1, &u.label.down, up)
-    {
+    let arc = Arc {
+        round: at.round,
+        layer: at.layer,
+        left: at.left,
+        door: k + 1,
+        leg: u32::from(legs[k]),
+    };
+    if at.test.takes_out(&arc, &u.label.down, up) {
         0
     } else {
         to
@@ -57,15 +75,16 @@ pub(crate) fn thin_node<F: Test>(
     requires layer_bound { at.now.layer ≤ 16 }
     requires left_bound { at.now.left ≤ 16 }
     requires fits { F.fits at.now.test.now u.old.label.down }
-    ensures left { let goes = F.goes at.now.test.now in
+    ensures left { let goes = F.goes at.now.test.now at.now.round.now in
         u.new ≡ kept_node goes at.now.layer at.now.left at.now.next.now u.old }
     ensures gone { result + arcs_of u.new ≡ arcs_of u.old }
     ensures few { result ≤ 16 }
 {
+    let legs = legs(at.round, u.label.down.lasts);
     let mut to = [0u8; 16];
     let mut gone = 0;
     for k in 0..16 {
-        let left = door_left(at, u, k);
+        let left = door_left(at, u, &legs, k);
         to[k] = left;
         if left != u.arcs.to[k] {
             gone += 1;
@@ -84,7 +103,7 @@ fn thin_nodes<F: Test>(
     requires left_bound { at.now.left ≤ 16 }
     requires us_bound { length us.old ≤ 128 }
     requires fits { AllByRecursion (HasLabel (F.fits at.now.test.now)) us.old }
-    ensures left { let goes = F.goes at.now.test.now in
+    ensures left { let goes = F.goes at.now.test.now at.now.round.now in
         us.new ≡ map (kept_node goes at.now.layer at.now.left at.now.next.now) us.old }
     ensures gone { result + arcs_within us.new ≡ arcs_within us.old }
     ensures few { result ≤ 16 * length us.old }
@@ -105,34 +124,36 @@ pub(crate) fn next_count(w: usize, later: usize) -> usize
 
 /// Takes out each arc that goes, from a layer on, with `left` layers of arcs from it to the end, and answers how many.
 pub(crate) fn take_from<F: Test>(
-    test: &F,
+    by: &Filter<'_, F>,
     layer: usize,
     left: usize,
     nodes: &mut [Node<F::State, F::Value>],
-    w: usize,
 ) -> usize
     requires layer_bound { layer + left ≤ 16 }
-    requires w_in_bounds { left * w < length nodes.old }
-    requires w_bound { w ≤ 128 }
-    requires fits { AllByRecursion (HasLabel (F.fits test.now)) (take (left * w) nodes.old) }
-    ensures left { nodes.new ≡ kept_from (F.goes test.now) w layer left nodes.old }
+    requires width_in_bounds { left * by.now.width < length nodes.old }
+    requires width_bound { by.now.width ≤ 128 }
+    requires fits { AllByRecursion (HasLabel (F.fits by.now.test.now))
+        (take (left * by.now.width) nodes.old) }
+    ensures left { let goes = F.goes by.now.test.now by.now.round.now in
+        nodes.new ≡ kept_from goes by.now.width layer left nodes.old }
     ensures gone { result + arcs_within nodes.new ≡ arcs_within nodes.old }
-    ensures few { result ≤ 16 * (left * w) }
+    ensures few { result ≤ 16 * (left * by.now.width) }
 {
     if left == 0 {
         return 0;
     }
-    let m = next_count(w, left - 1);
-    let (us, rest) = nodes.split_at_mut(w);
+    let m = next_count(by.width, left - 1);
+    let (us, rest) = nodes.split_at_mut(by.width);
     let next = &rest[..m];
     let at = Step {
-        test,
+        round: by.round,
+        test: by.test,
         layer,
         left,
         next,
     };
     let many = count_nodes(us);
     let here = thin_nodes(&at, &mut us[..many]);
-    let later = take_from(test, layer + 1, left - 1, rest, w);
+    let later = take_from(by, layer + 1, left - 1, rest);
     here + later
 }

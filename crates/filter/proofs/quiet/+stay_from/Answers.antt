@@ -12,40 +12,40 @@ use Rattle.filter.proofs.Layering.{next-there, all-layers, all-first}
 use Rattle.filter.proofs.quiet.+stay_from.Goals as goal
 
 pub split_at-requires : goal.split_at-requires
-split_at-requires g t c = let h : c.args.w < length c.args.nodes.now = one-fits c.args.left c.args.w _ c.if-left-eq0.false c.requires.w_in_bounds in omega arith
+split_at-requires g t c = let h : c.args.by.now.width < length c.args.nodes.now = one-fits c.args.left c.args.by.now.width _ c.if-left-eq0.false c.requires.width_in_bounds in omega arith
 
 pub slice_bounds-next-end : goal.slice_bounds-next-end
 slice_bounds-next-end g t c =
-    let there = next-there c.args.w c.args.left (length c.args.nodes.now) c.if-left-eq0.false c.requires.w_in_bounds in
+    let there = next-there c.args.by.now.width c.args.left (length c.args.nodes.now) c.if-left-eq0.false c.requires.width_in_bounds in
     let vs = c.split_at.result.1.now in
     let fits : c.next_count-m.result ≤ length vs = omega (arith, there, c.next_count-m.ensures, c.split_at.ensures.back_len) in
     sym (length-take-le c.next_count-m.result vs fits)
 
 pub nodes_stay-requires-clause-fits : goal.nodes_stay-requires-clause-fits
 nodes_stay-requires-clause-fits g t c =
-    let P = HasLabel (g.F.Test.fits c.args.test.now) in
+    let P = HasLabel (g.F.Test.fits c.args.by.now.test.now) in
     all-first P c.count_nodes-many.result c.split_at.result.0.now
-    (subst (All P) (sym c.split_at.ensures.front) (all-layers P c.args.w c.args.left c.args.nodes.now c.if-left-eq0.false c.requires.fits).0)
+    (subst (All P) (sym c.split_at.ensures.front) (all-layers P c.args.by.now.width c.args.left c.args.nodes.now c.if-left-eq0.false c.requires.fits).0)
 
 pub stay_from-requires : goal.stay_from-requires
 stay_from-requires g t c κs within =
     let ne = c.if-left-eq0.false in
-    let P = HasLabel (g.F.Test.fits c.args.test.now) in
-    let rest = rest-fits c.args.left c.args.w (length c.args.nodes.now) ne c.requires.w_in_bounds in
-    let later = subst (λ (us : List (Node g.row.F-State.Denot g.row.F-Value.Denot)). All P (take ((c.args.left - 1) * c.args.w) us)) (sym c.split_at.ensures.back) (all-layers P c.args.w c.args.left c.args.nodes.now ne c.requires.fits).1 in
+    let P = HasLabel (g.F.Test.fits c.args.by.now.test.now) in
+    let rest = rest-fits c.args.left c.args.by.now.width (length c.args.nodes.now) ne c.requires.width_in_bounds in
+    let later = subst (λ (us : List (Node g.row.F-State.Denot g.row.F-Value.Denot)). All P (take ((c.args.left - 1) * c.args.by.now.width) us)) (sym c.split_at.ensures.back) (all-layers P c.args.by.now.width c.args.left c.args.nodes.now ne c.requires.fits).1 in
     (omega arith, (within.0, (within.1.0, (within.1.1, (omega (arith, c.requires.layer_bound), (omega (arith, rest, c.split_at.ensures.back_len), later))))))
 
 pub returns-then-left-eq0 : goal.returns-then-left-eq0
 unfolding kept_from
 returns-then-left-eq0 g t c =
     let n = arcs_within c.args.nodes.now in
-    sym (ap (λ (k : ℕ). eqb (arcs_within (kept_from (g.F.Test.goes c.args.test.now) c.args.w c.args.layer k c.args.nodes.now)) n) c.if-left-eq0.true ∙ eq-eqb n n refl)
+    sym (ap (λ (k : ℕ). eqb (arcs_within (kept_from (g.F.Test.goes c.args.by.now.test.now c.args.by.now.round.now) c.args.by.now.width c.args.layer k c.args.nodes.now)) n) c.if-left-eq0.true ∙ eq-eqb n n refl)
 
 pub returns-then-nodes_stay : goal.returns-then-nodes_stay
 returns-then-nodes_stay g t c =
-    let goes = g.F.Test.goes c.args.test.now in
+    let goes = g.F.Test.goes c.args.by.now.test.now c.args.by.now.round.now in
     let xs = c.args.nodes.now in
-    let w = c.args.w in
+    let w = c.args.by.now.width in
     let i = c.args.layer in
     let left = c.args.left - 1 in
     let parts = c.split_at.ensures in
@@ -58,9 +58,9 @@ returns-then-nodes_stay g t c =
 
 pub returns-else-nodes_stay : goal.returns-else-nodes_stay
 returns-else-nodes_stay g t c =
-    let goes = g.F.Test.goes c.args.test.now in
+    let goes = g.F.Test.goes c.args.by.now.test.now c.args.by.now.round.now in
     let xs = c.args.nodes.now in
-    let w = c.args.w in
+    let w = c.args.by.now.width in
     let i = c.args.layer in
     let parts = c.split_at.ensures in
     let nexts : take c.next_count-m.result c.split_at.result.1.now ≡ take (after w (c.args.left - 1)) (drop w xs) =

@@ -9,7 +9,7 @@ returns-then-thin_node-ne0 g c =
     let at = c.args.at.now in
     let us = c.args.us.now in
     let u = c.index-us-a.result in
-    let goes = g.F.Test.goes at.test.now in
+    let goes = g.F.Test.goes at.test.now at.round.now in
     let f = kept_node goes at.layer at.left at.next.now in
     let left : arcs_of c.thin_node.new.u ≡ arcs_of (f (get_or us c.loop-a.a u)) = ap arcs_of (c.thin_node.ensures.left ∙ ap f c.index-us-a.is) in
     sums-less _ _ (less-at f (node-fewer goes at.layer at.left at.next.now) us c.loop-a.a u c.loop-a-test.true (omega (arith, left, ap arcs_of c.index-us-a.is, c.thin_node.ensures.gone, c.if-thin_node-ne0.true)))
@@ -19,7 +19,7 @@ loop-a-preserved g c =
     let at = c.args.at.now in
     let us = c.args.us.now in
     let u = c.index-us-a.result in
-    let goes = g.F.Test.goes at.test.now in
+    let goes = g.F.Test.goes at.test.now at.round.now in
     let f = kept_node goes at.layer at.left at.next.now in
     let left : arcs_of c.thin_node.new.u ≡ arcs_of (f (get_or us c.loop-a.a u)) = ap arcs_of (c.thin_node.ensures.left ∙ ap f c.index-us-a.is) in
     same-more f (node-fewer goes at.layer at.left at.next.now) us c.loop-a.a u c.loop-a-test.true c.loop-a.invariant (omega (arith, left, ap arcs_of c.index-us-a.is, c.thin_node.ensures.gone, c.if-thin_node-ne0.false))

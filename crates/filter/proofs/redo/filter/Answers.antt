@@ -10,7 +10,7 @@ use Rattle.filter.proofs.redo.filter.Goals as goal
 pub take_from-gone-requires : goal.take_from-gone-requires
 take_from-gone-requires g c =
     let f = room-facts c.args.by.now.round.now.n c.args.by.now.width (length c.args.nodes.now) c.requires.room in
-    record { layer_bound = omega arith; w_in_bounds = omega (arith, f.enough); w_bound = f.high; fits = c.requires.fits }
+    record { layer_bound = omega arith; width_in_bounds = omega (arith, f.enough); width_bound = f.high; fits = c.requires.fits }
 
 pub returns : goal.returns
 unfolding filter_steps
@@ -22,7 +22,7 @@ returns g c =
     let ys = c.take_from-gone.new.nodes in
     let zs = c.redo.new.nodes in
     let steps = c.redo.ensures.records ∙ ap (redone by) c.take_from-gone.ensures.left in
-    let tail = ap (λ ws. arcs_within (drop (n * W) ws)) steps ∙ filter-tail by (g.F.Test.goes c.args.test.now) xs (omega (arith, (room-facts n W (length xs) c.requires.room).enough)) in
+    let tail = ap (λ ws. arcs_within (drop (n * W) ws)) steps ∙ filter-tail by (g.F.Test.goes c.args.test.now by.round) xs (omega (arith, (room-facts n W (length xs) c.requires.room).enough)) in
     record {
       steps = steps;
       counted = omega (arith, count-whole n W xs, count-whole n W zs, c.take_from-gone.ensures.gone, c.redo.ensures.lost, tail);

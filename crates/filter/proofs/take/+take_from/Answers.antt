@@ -14,42 +14,42 @@ pub returns-then-left-eq0-clause-left : goal.returns-then-left-eq0-clause-left
 unfolding kept_from
 returns-then-left-eq0-clause-left g t c =
     let none : c.args.left ≡ 0 = c.if-left-eq0.true in
-    sym (ap (λ (n : ℕ). kept_from (g.F.Test.goes c.args.test.now) c.args.w c.args.layer n c.args.nodes.now) none)
+    sym (ap (λ (n : ℕ). kept_from (g.F.Test.goes c.args.by.now.test.now c.args.by.now.round.now) c.args.by.now.width c.args.layer n c.args.nodes.now) none)
 
 pub split_at_mut-us-requires : goal.split_at_mut-us-requires
-split_at_mut-us-requires g t c = let h : c.args.w < length c.args.nodes.now = one-fits c.args.left c.args.w _ c.if-left-eq0.false c.requires.w_in_bounds in omega arith
+split_at_mut-us-requires g t c = let h : c.args.by.now.width < length c.args.nodes.now = one-fits c.args.left c.args.by.now.width _ c.if-left-eq0.false c.requires.width_in_bounds in omega arith
 
 pub slice_bounds-next-end : goal.slice_bounds-next-end
 slice_bounds-next-end g t c =
-    let there = next-there c.args.w c.args.left (length c.args.nodes.now) c.if-left-eq0.false c.requires.w_in_bounds in
+    let there = next-there c.args.by.now.width c.args.left (length c.args.nodes.now) c.if-left-eq0.false c.requires.width_in_bounds in
     omega (arith, there, c.next_count-m.ensures, c.split_at_mut-us.ensures.back_len)
 
 pub slice_bounds-next-end-2 : goal.slice_bounds-next-end-2
 slice_bounds-next-end-2 g t c =
-    let there = next-there c.args.w c.args.left (length c.args.nodes.now) c.if-left-eq0.false c.requires.w_in_bounds in
+    let there = next-there c.args.by.now.width c.args.left (length c.args.nodes.now) c.if-left-eq0.false c.requires.width_in_bounds in
     let vs = c.split_at_mut-us.result.1.now in
     let fits : c.next_count-m.result ≤ length vs = omega (arith, there, c.next_count-m.ensures, c.split_at_mut-us.ensures.back_len) in
     sym (length-take-le c.next_count-m.result vs fits)
 
 pub thin_nodes-here-requires-clause-fits : goal.thin_nodes-here-requires-clause-fits
 thin_nodes-here-requires-clause-fits g t c =
-    let P = HasLabel (g.F.Test.fits c.args.test.now) in
+    let P = HasLabel (g.F.Test.fits c.args.by.now.test.now) in
     all-first P c.count_nodes-many.result c.split_at_mut-us.result.0.now
-    (subst (All P) (sym c.split_at_mut-us.ensures.front) (all-layers P c.args.w c.args.left c.args.nodes.now c.if-left-eq0.false c.requires.fits).0)
+    (subst (All P) (sym c.split_at_mut-us.ensures.front) (all-layers P c.args.by.now.width c.args.left c.args.nodes.now c.if-left-eq0.false c.requires.fits).0)
 
 pub take_from-later-requires : goal.take_from-later-requires
 take_from-later-requires g t c κs within =
     let ne = c.if-left-eq0.false in
-    let P = HasLabel (g.F.Test.fits c.args.test.now) in
-    let rest = rest-fits c.args.left c.args.w (length c.args.nodes.now) ne c.requires.w_in_bounds in
-    let later = subst (λ (us : List (Node g.row.F-State.Denot g.row.F-Value.Denot)). All P (take ((c.args.left - 1) * c.args.w) us)) (sym c.split_at_mut-us.ensures.back) (all-layers P c.args.w c.args.left c.args.nodes.now ne c.requires.fits).1 in
-    (omega arith, (within.0, (within.1.0, (within.1.1, (omega (arith, c.requires.layer_bound), (omega (arith, rest, c.split_at_mut-us.ensures.back_len), (c.requires.w_bound, later)))))))
+    let P = HasLabel (g.F.Test.fits c.args.by.now.test.now) in
+    let rest = rest-fits c.args.left c.args.by.now.width (length c.args.nodes.now) ne c.requires.width_in_bounds in
+    let later = subst (λ (us : List (Node g.row.F-State.Denot g.row.F-Value.Denot)). All P (take ((c.args.left - 1) * c.args.by.now.width) us)) (sym c.split_at_mut-us.ensures.back) (all-layers P c.args.by.now.width c.args.left c.args.nodes.now ne c.requires.fits).1 in
+    (omega arith, (within.0, (within.1.0, (within.1.1, (omega (arith, c.requires.layer_bound), (omega (arith, rest, c.split_at_mut-us.ensures.back_len), (c.requires.width_bound, later)))))))
 
 pub returns-clause-left : goal.returns-clause-left
 returns-clause-left g t c =
-    let goes = g.F.Test.goes c.args.test.now in
+    let goes = g.F.Test.goes c.args.by.now.test.now c.args.by.now.round.now in
     let xs = c.args.nodes.now in
-    let w = c.args.w in
+    let w = c.args.by.now.width in
     let i = c.args.layer in
     let left = c.args.left - 1 in
     let parts = c.split_at_mut-us.ensures in
@@ -68,14 +68,14 @@ returns-clause-left g t c =
 pub overflow_add-result : goal.overflow_add-result
 overflow_add-result g t c =
     let short = length-take c.count_nodes-many.result c.split_at_mut-us.result.0.now in
-    omega (arith, short, few-records (c.args.left - 1) c.args.w (omega (arith, c.requires.layer_bound)) c.requires.w_bound, c.thin_nodes-here.ensures.few, c.split_at_mut-us.ensures.front_len, c.take_from-later.ensures.few)
+    omega (arith, short, few-records (c.args.left - 1) c.args.by.now.width (omega (arith, c.requires.layer_bound)) c.requires.width_bound, c.thin_nodes-here.ensures.few, c.split_at_mut-us.ensures.front_len, c.take_from-later.ensures.few)
 
 pub returns-clause-gone : goal.returns-clause-gone
 returns-clause-gone g t c =
     let parts = c.split_at_mut-us.ensures in
-    layer-less c.args.w c.count_nodes-many.result _ _ c.args.nodes.now c.split_at_mut-us.result.0.now c.split_at_mut-us.result.1.now c.thin_nodes-here.new.us c.take_from-later.new.nodes parts.front parts.back c.thin_nodes-here.ensures.gone c.take_from-later.ensures.gone
+    layer-less c.args.by.now.width c.count_nodes-many.result _ _ c.args.nodes.now c.split_at_mut-us.result.0.now c.split_at_mut-us.result.1.now c.thin_nodes-here.new.us c.take_from-later.new.nodes parts.front parts.back c.thin_nodes-here.ensures.gone c.take_from-later.ensures.gone
 
 pub returns-clause-few : goal.returns-clause-few
 returns-clause-few g t c =
     let short = length-take c.count_nodes-many.result c.split_at_mut-us.result.0.now in
-    omega (arith, short, one_more c.args.left c.args.w c.if-left-eq0.false, c.thin_nodes-here.ensures.few, c.split_at_mut-us.ensures.front_len, c.take_from-later.ensures.few)
+    omega (arith, short, one_more c.args.left c.args.by.now.width c.if-left-eq0.false, c.thin_nodes-here.ensures.few, c.split_at_mut-us.ensures.front_len, c.take_from-later.ensures.few)

@@ -8,7 +8,7 @@ use Rattle.filter.proofs.take.door_left.Goals.{then-t-eq0-via-then-t-eq0, then-t
 pub returns-then-t-eq0 : goal.returns-then-t-eq0
 returns-then-t-eq0 g c =
     let at = c.args.at.now in
-    let goes = g.F.Test.goes at.test.now in
+    let goes = g.F.Test.goes at.test.now at.round.now in
     let u = c.args.u.now in
     let to = get_or u.arcs.to c.args.k 0 in
     elim c.then-t-eq0.branch [
@@ -19,7 +19,7 @@ returns-then-t-eq0 g c =
 pub returns-then-takes_out : goal.returns-then-takes_out
 returns-then-takes_out g c =
     let at = c.args.at.now in
-    let goes = g.F.Test.goes at.test.now in
+    let goes = g.F.Test.goes at.test.now at.round.now in
     let u = c.args.u.now in
     let j = c.args.k + 1 in
     let to = get_or u.arcs.to c.args.k 0 in
@@ -30,7 +30,7 @@ returns-then-takes_out g c =
 pub returns-else-takes_out : goal.returns-else-takes_out
 returns-else-takes_out g c =
     let at = c.args.at.now in
-    let goes = g.F.Test.goes at.test.now in
+    let goes = g.F.Test.goes at.test.now at.round.now in
     let u = c.args.u.now in
     let j = c.args.k + 1 in
     let to = get_or u.arcs.to c.args.k 0 in

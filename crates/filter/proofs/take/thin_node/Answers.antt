@@ -14,14 +14,14 @@ loop-k-preserved g c =
     let at = c.args.at.now in
     let u = c.args.u.now in
     let k = c.loop-k.k in
-    let f : ℕ → ℕ = by_door (kept_to (g.F.Test.goes at.test.now) at.layer at.left at.next.now u) u in
+    let f : ℕ → ℕ = by_door (kept_to (g.F.Test.goes at.test.now at.round.now) at.layer at.left at.next.now u) u in
     let t = get_or u.arcs.to k 0 in
     let more = sum_by-map-range_with_len_more one_if f 0 k k (omega arith) in
     let more' = sum_by-map-range_with_len_more one_if (λ k. get_or u.arcs.to k 0) 0 k k (omega arith) in
     let left = ap (set c.loop-k.to k) c.door_left-left.ensures ∙ ap (λ ts. set ts k (f k)) c.loop-k.invariant.left ∙ over-more f (replicate {A = ℕ} 16 0) k c.loop-k-test.true in
     elim c.if-left-u.branch [
       | then-left-u w ↦
-          (let one = one-less (f k) t (left-or-none (g.F.Test.goes at.test.now) at.layer at.left at.next.now u (k + 1) t) (rw (← c.door_left-left.ensures) w.if-left-u.true) in
+          (let one = one-less (f k) t (left-or-none (g.F.Test.goes at.test.now at.round.now) at.layer at.left at.next.now u (k + 1) t) (rw (← c.door_left-left.ensures) w.if-left-u.true) in
           record { left = left; gone = omega (arith, more, more', one, w.gone-is, c.loop-k.invariant.gone); few = omega (arith, w.gone-is) })
       | else-left-u w ↦
           (let same : one_if (f k) ≡ one_if t = ap one_if (sym c.door_left-left.ensures ∙ w.if-left-u.false) in
@@ -33,7 +33,7 @@ unfolding kept_node
 returns-clause-left g c =
     let at = c.args.at.now in
     let u = c.args.u.now in
-    let f = kept_to (g.F.Test.goes at.test.now) at.layer at.left at.next.now u in
+    let f = kept_to (g.F.Test.goes at.test.now at.round.now) at.layer at.left at.next.now u in
     let all : c.loop-k.k ≡ 16 = omega arith in
     ap (with_targets u) (c.loop-k.invariant.left ∙ ap (written (by_door f u)) all) ∙ redirect-made f u
 
@@ -41,7 +41,7 @@ pub returns-clause-gone : goal.returns-clause-gone
 returns-clause-gone g c =
     let at = c.args.at.now in
     let u = c.args.u.now in
-    let f : ℕ → ℕ = by_door (kept_to (g.F.Test.goes at.test.now) at.layer at.left at.next.now u) u in
+    let f : ℕ → ℕ = by_door (kept_to (g.F.Test.goes at.test.now at.round.now) at.layer at.left at.next.now u) u in
     let all : c.loop-k.k ≡ 16 = omega arith in
     let now = arcs_written f (with_targets u c.loop-k.to) (c.loop-k.invariant.left ∙ ap (written f) all) in
     omega (arith, arcs_read u, now, rw all at c.loop-k.invariant.gone)

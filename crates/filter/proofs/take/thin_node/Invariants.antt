@@ -7,7 +7,7 @@ use Rattle.filter.proofs.take.thin_node.Given as goal
 
 abbrev pub invariant-loop-k : goal.invariant-loop-k
 invariant-loop-k g l =
-    let f = by_door (kept_to (g.F.Test.goes l.at.test.now) l.at.layer l.at.left l.at.next.now l.u) l.u in
+    let f = by_door (kept_to (g.F.Test.goes l.at.test.now l.at.round.now) l.at.layer l.at.left l.at.next.now l.u) l.u in
     record {
       left : l.to ≡ written f l.k;
       gone : l.gone + sum_by one_if (map f (range_with_len 0 l.k)) ≡ sum_by one_if (map (λ k. get_or l.u.arcs.to k 0) (range_with_len 0 l.k));

@@ -9,7 +9,7 @@ use Rattle.filter.proofs.take.thin_nodes.Goals as goal
 pub loop-u-preserved : goal.loop-u-preserved
 loop-u-preserved g c =
     let at = c.args.at.now in
-    let f = kept_node (g.F.Test.goes at.test.now) at.layer at.left at.next.now in
+    let f = kept_node (g.F.Test.goes at.test.now at.round.now) at.layer at.left at.next.now in
     let E = c.args.us.now in
     let ys = c.loop-u.us in
     let p = c.loop-u.u-index in
