@@ -18,17 +18,12 @@ use Rattle.layers.specs.Records.{arcs_read, laid_arcs}
 use Rattle.layers.specs.Calls.{records_with}
 use Rattle.layers.specs.Settings.{Setting}
 use Rattle.labels.specs.Passes.{Early, part, with_down, with_up, blank_node, cleared, first_layer, next_layer, labelled, labelled_after, pass_down, risen, risen_from, pass_up, relabelled, fits, may_follow, relabelled_below, below_steps, HasUps, HasDownsBefore}
+use Rattle.labels.proofs.Climbs.{down_of, up_of}
 use Rattle.labels.proofs.Earlies.{first-long, next-long, next-early, first_early}
 use Rattle.labels.proofs.Laying.{arcs_of, relabelled-read}
 use Rattle.labels.proofs.Rooms.{room-facts, in_time-from}
 
 module _ {S V : Type 0} where
-  abbrev pub down_of : Node S V → Down S V
-  down_of x = x.label.down
-
-  abbrev pub up_of : Node S V → Up
-  up_of x = x.label.up
-
   -- records are the same by their arcs and their labels
   pub same-records : (xs ys : List (Node S V)) → map arcs_of xs ≡ map arcs_of ys → map down_of xs ≡ map down_of ys → map up_of xs ≡ map up_of ys → xs ≡ ys
   same-records [] [] a d u = refl
@@ -47,7 +42,7 @@ module _ {S V : Type 0} where
   fronts f k xs ys e = sym (take-map f k xs) ∙ ap (take k) e ∙ take-map f k ys
 
   -- two parts, each the same to f
-  in-parts : {X : Type 0} (f : Node S V → X) (k : ℕ) (A B xs : List (Node S V)) → map f A ≡ map f (take k xs) → map f B ≡ map f (drop k xs) → map f (A ++ B) ≡ map f xs
+  pub in-parts : {X : Type 0} (f : Node S V → X) (k : ℕ) (A B xs : List (Node S V)) → map f A ≡ map f (take k xs) → map f B ≡ map f (drop k xs) → map f (A ++ B) ≡ map f xs
   in-parts f k A B xs a b = map-append f A B ∙ ap₂ (λ ys zs. ys ++ zs) a b ∙ sym (map-append f (take k xs) (drop k xs)) ∙ ap (map f) (take-append-drop k xs)
 
   -- ---- the pass up keeps what is not an upward set
