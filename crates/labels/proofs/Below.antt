@@ -172,38 +172,31 @@ module _ {S V : Type 0} (by : Setting S V) where
   layer-more : (i : ℕ) → 1 ≤ i → i * by.width ≡ (i - 1) * by.width + by.width
   layer-more i low = let e : i ≡ suc (i - 1) = omega arith in ap (λ (k : ℕ). k * by.width) e ∙ suc-mul (i - 1) by.width
 
-  -- the labels that stand come out as they are
-  pub stood-has : (i : ℕ) (xs : List (Node S V)) → 1 ≤ i → i ≤ by.round.n → by.round.n * by.width + 1 ≤ length xs → StoodFirst (i - 1) xs
-      → map down_of (take (i * by.width) xs) ≡ map down_of (take (i * by.width) (relabelled by xs))
-  unfolding relabelled relabelled_below
-  stood-has i xs low high fit h =
-      let w = by.width in
-      let at = (i - 1) * w in
-      let some = layer-more i low in
-      let P = pass_down by xs in
-      let Z = labelled_after by (by.round.n - i) (drop at xs) in
-      let most : i * w ≤ by.round.n * w = mul-le-mul_right w high in
-      let room : w ≤ length (drop at xs) = omega (arith, some, length-drop at xs) in
-      let front : take (at + w) (take at xs ++ Z) ≡ take (at + w) xs =
-      take-add at w (take at xs ++ Z) ∙ ap₂ (λ ys zs. ys ++ take w zs) (take_at (take at xs) Z at (length-take-le at xs (omega (arith, some)))) (drop_at (take at xs) Z at (length-take-le at xs (omega (arith, some))))
-      ∙ ap (λ ys. take at xs ++ ys) (after-front (by.round.n - i) (drop at xs) room) ∙ sym (take-add at w xs) in
-      let same : take (i * w) P ≡ take (i * w) xs = ap (take (i * w)) (stood-down i xs low high h).0 ∙ ap (λ (k : ℕ). take k (take at xs ++ Z)) some ∙ front ∙ ap (λ (k : ℕ). take k xs) (sym some) in
-      ap (map down_of) (sym same) ∙ fronts down_of (i * w) P (pass_up by.round.n w P) (sym (rises_keep down_of (λ x u. refl) w (by.round.n - 1) P))
-
-  -- if the passes leave the upward sets, and the downward labels of the layers before layer i, they need no more than the labels from there on
-  pub below-is : (i : ℕ) (xs : List (Node S V)) → 1 ≤ i → i ≤ by.round.n → by.round.n * by.width + 1 ≤ length xs → map up_of xs ≡ map up_of (relabelled by xs)
-      → map down_of (take (i * by.width) xs) ≡ map down_of (take (i * by.width) (relabelled by xs))
-      → StoodFirst (i - 1) xs × (pass_down by xs ≡ relabelled by xs)
+  -- if the upward sets stand too
+  risen-is : (xs : List (Node S V)) → map up_of xs ≡ map up_of (relabelled by xs) → pass_down by xs ≡ relabelled by xs
   unfolding relabelled
-  below-is i xs low high fit ups downs =
+  risen-is xs ups =
+      let P = pass_down by xs in
+      let k = by.round.n - 1 in
+      same-records P (pass_up by.round.n by.width P) (sym (rises_keep arcs_of (λ x u. refl) by.width k P)) (sym (rises_keep down_of (λ x u. refl) by.width k P)) (down_keeps up_of (λ x l. refl) xs ∙ ups)
+
+  pub below-stood : (i : ℕ) (xs : List (Node S V)) → fits by.round.n by.width (length xs) ≡ true → 1 ≤ i → i ≤ by.round.n → map up_of xs ≡ map up_of (relabelled by xs) → StoodFirst (i - 1) xs → below_steps by i xs ≡ relabelled by xs
+  unfolding below_steps
+  below-stood i xs fit low high ups h =
+      let r = stood-down i xs low high h in
+      let may : may_follow by i xs ≡ true = and_from _ _ (le-leb 1 i low) (and_from _ _ (le-leb i by.round.n high) (in_time-from (latest_finish (i - 1)) _ r.1)) in
+      cond-true (fits by.round.n by.width (length xs) && may_follow by i xs) _ _ (and_from _ _ fit may) ∙ sym r.0 ∙ risen-is xs ups
+
+  -- if the passes leave the upward sets, and the downward labels of the layers before layer i, these stand
+  pub stood-laid : (i : ℕ) (xs : List (Node S V)) → 1 ≤ i → i ≤ by.round.n → by.round.n * by.width + 1 ≤ length xs → map up_of xs ≡ map up_of (relabelled by xs)
+      → map down_of (take (i * by.width) xs) ≡ map down_of (take (i * by.width) (relabelled by xs)) → StoodFirst (i - 1) xs
+  unfolding pass_down
+  stood-laid i xs low high fit ups downs =
       let w = by.width in
       let n = by.round.n in
       let P = pass_down by xs in
-      let R = pass_up n w P in
-      let risen-is : P ≡ R =
-      same-records P R (sym (rises_keep arcs_of (λ x u. refl) w (n - 1) P)) (sym (rises_keep down_of (λ x u. refl) w (n - 1) P)) (down_keeps up_of (λ x l. refl) xs ∙ ups) in
       let stands : take (i * w) xs ≡ take (i * w) P =
-      same-records (take (i * w) xs) (take (i * w) P) (fronts arcs_of (i * w) xs P (sym (down_keeps arcs_of (λ x l. refl) xs))) (downs ∙ ap (λ ys. map down_of (take (i * w) ys)) (sym risen-is)) (fronts up_of (i * w) xs P (sym (down_keeps up_of (λ x l. refl) xs))) in
+      same-records (take (i * w) xs) (take (i * w) P) (fronts arcs_of (i * w) xs P (sym (down_keeps arcs_of (λ x l. refl) xs))) (downs ∙ ap (λ ys. map down_of (take (i * w) ys)) (sym (risen-is xs ups))) (fronts up_of (i * w) xs P (sym (down_keeps up_of (λ x l. refl) xs))) in
       let some : i * w ≡ suc (i - 1) * w = (let e : i ≡ suc (i - 1) = omega arith in ap (λ (k : ℕ). k * w) e) in
       let least : w ≤ i * w = omega (arith, layer-more i low) in
       let most : i * w ≤ n * w = mul-le-mul_right w high in
@@ -211,19 +204,16 @@ module _ {S V : Type 0} (by : Setting S V) where
       let long : length F ≡ w = first-long by.rule by.tally (take w xs) ∙ length-take-le w xs (omega arith) in
       let first : take w xs ≡ F =
       sym (take-take w (i * w) xs least) ∙ ap (take w) stands ∙ take-take w (i * w) P least
-      ∙ unfold pass_down in (after-front (n - 1) (F ++ drop w xs) (omega (arith, length-append F (drop w xs))) ∙ take_at F (drop w xs) w long) in
+      ∙ after-front (n - 1) (F ++ drop w xs) (omega (arith, length-append F (drop w xs))) ∙ take_at F (drop w xs) w long in
       let whole : P ≡ labelled_after by (n - 1) xs =
-      unfold pass_down in (ap (λ ys. labelled_after by (n - 1) (ys ++ drop w xs)) (sym first) ∙ ap (labelled_after by (n - 1)) (take-append-drop w xs)) in
-      ((sym first, stood-if (i - 1) (n - 1) xs (omega arith) (omega (arith, some)) (ap (λ ys. take (suc (i - 1) * w) ys) (sym whole) ∙ ap (λ (k : ℕ). take k P) (sym some) ∙ sym stands ∙ ap (λ (k : ℕ). take k xs) some)), risen-is)
+      ap (λ ys. labelled_after by (n - 1) (ys ++ drop w xs)) (sym first) ∙ ap (labelled_after by (n - 1)) (take-append-drop w xs) in
+      (sym first, stood-if (i - 1) (n - 1) xs (omega arith) (omega (arith, some)) (ap (λ ys. take (suc (i - 1) * w) ys) (sym whole) ∙ ap (λ (k : ℕ). take k P) (sym some) ∙ sym stands ∙ ap (λ (k : ℕ). take k xs) some))
 
   -- of arcs that a diagram may have
   pub below-laid : (i : ℕ) (Ls : Net) (xs : List (Node S V)) → fits by.round.n by.width (length xs) ≡ true → 1 ≤ i → i ≤ by.round.n → IsLawful by.round.n by.width Ls
       → arcs_read (take (by.round.n * by.width + 1) xs) ≡ laid_arcs by.width Ls → HasUps by Ls xs → HasDownsBefore by i Ls xs → below_steps by i xs ≡ records_with by xs Ls
-  unfolding below_steps
   below-laid i Ls xs fit low high p e ups downs =
       let room = (room-facts by.round.n by.width (length xs) fit).enough in
       let is : relabelled by xs ≡ records_with by xs Ls = relabelled-read by Ls xs p room e in
-      let q = below-is i xs low high room (ups ∙ ap (map up_of) (sym is)) (downs ∙ ap (λ ys. map down_of (take (i * by.width) ys)) (sym is)) in
-      let r = stood-down i xs low high q.0 in
-      let may : may_follow by i xs ≡ true = and_from _ _ (le-leb 1 i low) (and_from _ _ (le-leb i by.round.n high) (in_time-from (latest_finish (i - 1)) _ r.1)) in
-      cond-true (fits by.round.n by.width (length xs) && may_follow by i xs) _ _ (and_from _ _ fit may) ∙ sym r.0 ∙ q.1 ∙ is
+      let up = ups ∙ ap (map up_of) (sym is) in
+      below-stood i xs fit low high up (stood-laid i xs low high room up (downs ∙ ap (λ ys. map down_of (take (i * by.width) ys)) (sym is))) ∙ is
