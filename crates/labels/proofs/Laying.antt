@@ -9,18 +9,19 @@ use Rattle.layers.specs.declared.node.Arcs.{Arcs}
 use Rattle.layers.specs.declared.node.Node.{Node}
 use Rattle.layers.specs.declared.node.Down.{Down}
 use Rattle.layers.specs.declared.node.Up.{Up}
-use Rattle.layers.specs.Net.{table, Outs, Layer, Net, node, target, width}
-use Rattle.layers.specs.Flow.{arrivals_at, gather, next, read, cons_if_some, climbs_of, up}
+use Rattle.layers.specs.Net.{table, Layer, Net, node, target, width}
+use Rattle.layers.specs.Flow.{arrivals_at, gather, next, climbs_of, up}
 use Rattle.layers.specs.Lawful.{IsRanged, IsTied, IsRoomy, IsEven, IsLawful}
-use Rattle.layers.specs.Labels.{arrival_over, merge, first_label, first_labels, labels_next, climb, merge_up, no_up, ups}
-use Rattle.layers.specs.Records.{is_used, nodes_in, arcs_read, laid_arcs, arcs_at, padded_targets, record_of_place, labelled_from, labelled_records}
+use Rattle.layers.specs.Labels.{arrival_over, merge, first_label, first_labels, labels_next, climb, merge_up, no_up, ups, blank_label}
+use Rattle.layers.specs.Records.{is_used, nodes_in, arcs_read, laid_arcs, arcs_at, record_of_place, labelled_from, labelled_records}
 use Rattle.layers.proofs.Flows.{table_at, Among, ins-from}
-use Rattle.layers.proofs.Bridge.{table-long, labels_full, ups-full}
+use Rattle.layers.proofs.Bridge.{table-long, map-table, labels_full, ups-full}
 use Rattle.layers.specs.Calls.{records_with}
 use Rattle.layers.proofs.Proper.{RangedAll, tied-ranged}
-use Rattle.labels.specs.Passes.{with_up, blank_node, by_door, from_node, arrivals, gathered, labelled, next_layer, labelled_after, numbered, up_by, ups_of, gathered_up, risen, risen_from, cleared, first_layer, bare, pass_down, pass_up, relabelled}
+use Rattle.labels.specs.Passes.{with_down, with_up, blank_node, by_door, from_node, arrivals, gathered, labelled, next_layer, labelled_after, up_by, ups_of, gathered_up, risen, risen_from, cleared, first_layer, bare, pass_down, pass_up, relabelled}
 use Rattle.std.proofs.lemmas.Nat.{pow_pos}
-use Rattle.labels.proofs.Folds.{by-doors, folded_keeps}
+use Rattle.labels.proofs.Climbs.{Linked, linked, node-climbed, climbed-is, up_of}
+use Rattle.labels.proofs.Folds.{folded_keeps}
 use Rattle.labels.proofs.Scattered.{or_some}
 use Rattle.labels.proofs.Inward.{Standing, Narrow, arrivals-in, gathered-is}
 use Rattle.labels.proofs.Earlies.{first-long}
@@ -202,69 +203,16 @@ module _ {S V : Type 0} (by : Setting S V) where
       rw (take_at us Z by.width us-long, drop_at us Z by.width us-long) ((here, ih.0), ih.1 ∙ ap (past by.width k) (drop_at N D by.width n-long))
 
 -- ---- up
-gathered_up-is : (xs : List Up) → gathered_up xs ≡ or_no_up (gather merge_up xs)
-unfolding gathered_up gather
-gathered_up-is [] = refl
-gathered_up-is (x ∷ xs) = refl
-
-first_of : {X : Type 0} (k : ℕ) (xs : List X) (d : X) → k < length xs → take 1 (drop k xs) ≡ get_or xs k d ∷ []
-first_of k [] d h = absurd (omega arith)
-first_of zero (x ∷ xs) d h = refl
-first_of (suc k) (x ∷ xs) d h = first_of k xs d (omega arith)
-
-module _ {S V : Type 0} where
-  -- over one door: what climbs from the record with that number
-  abbrev climbing : List (Node S V) → List ℕ → ℕ → List Up
-  climbing vs to k = map (λ v. climb v.label.up (k + 1)) (numbered (get_or to k 0) vs)
-
-  -- the record with the number suc b has the upward sets that the net gives it
-  abbrev Linked : List (Option Up) → List (Node S V) → ℕ → Type 0
-  Linked us vs b = (v : Node S V) × (numbered (suc b) vs ≡ v ∷ []) × (get_or us b None ≡ Some v.label.up)
-
-  climb-at : (us : List (Option Up)) (vs : List (Node S V)) (t j : ℕ) (rest : List Up) → ((b : ℕ) → t ≡ suc b → Linked us vs b)
-      → map (λ v. climb v.label.up j) (numbered t vs) ++ rest ≡ cons_if_some climb j (read us t) rest
-  climb-at us vs zero j rest g = refl
-  climb-at us vs (suc b) j rest g = let v = g b refl in rw v.2 (ap (λ ns. map (λ (v : Node S V). climb v.label.up j) ns ++ rest) v.1)
-
-  climb-none : (vs : List (Node S V)) (to : List ℕ) (k : ℕ) → get_or to k 0 ≡ 0 → climbing vs to k ≡ []
-  climb-none vs to k e = ap (λ (t : ℕ). map (λ v. climb v.label.up (k + 1)) (numbered t vs)) e
-
-  doors-up : (us : List (Option Up)) (vs : List (Node S V)) (ts to : List ℕ) (a m : ℕ) → length ts ≤ m → ((i : ℕ) → i < m → get_or to (a + i) 0 ≡ get_or ts i 0) → ((i b : ℕ) → get_or ts i 0 ≡ suc b → Linked us vs b)
-      → flat_map (climbing vs to) (range_with_len a m) ≡ climbs_of climb us (suc a) ts
-  unfolding climbs_of
-  doors-up us vs ts to a m h e g =
-      by-doors (climbing vs to) (climbs_of climb us) ts a m h (λ j. refl)
-      (λ k i q ge lt. climb-none vs to k (ap (λ (k : ℕ). get_or to k 0) (sym q) ∙ e i lt ∙ get_or_past ts i 0 ge))
-      (λ k i rest q lt. rw (← q, e i (omega arith), q, add-one k) (climb-at us vs (get_or ts i 0) (suc k) (climbs_of climb us (suc (suc k)) rest) (λ b r. g i b r)))
-
-numbered-at : {X : Type 0} (b : ℕ) (vs : List X) (d : X) → b < length vs → numbered (suc b) vs ≡ get_or vs b d ∷ []
-numbered-at b vs d h =
-    let less : suc b - 1 ≡ b = omega arith in
-    ap (λ (q : Bool). cond q [] (take 1 (drop (suc b - 1) vs))) (ne_eqb (suc b) 0 (λ e. omega arith))
-    ∙ ap (λ (k : ℕ). take 1 (drop k vs)) less ∙ first_of b vs d h
-
-linked : {S V : Type 0} (us : List (Option Up)) (vs : List (Node S V)) (b : ℕ) (d : Node S V) (x : Up) → b < length vs → get_or us b None ≡ Some x → (get_or vs b d).label.up ≡ x → Linked us vs b
-linked us vs b d x h e q = (get_or vs b d, numbered-at b vs d h, e ∙ ap Some (sym q))
-
 module _ {S V : Type 0} (by : Setting S V) where
-  node-ups : (L : Layer) (Ls : Net) (labs : List (Option (Down S V))) (vs : List (Node S V)) (a : ℕ) → Standing by labs L → length (node L a) ≤ 16
-      → ((j b : ℕ) → target (node L a) j ≡ suc b → Linked (ups Ls) vs b)
+  node-ups : (L : Layer) (Ls : Net) (labs : List (Option (Down S V))) (vs : List (Node S V)) (a : ℕ) → Standing by labs L → length (node L a) ≤ 16 → ((j b : ℕ) → target (node L a) j ≡ suc b → Linked (ups Ls) (map up_of vs) b)
       → gathered_up (ups_of vs (record_of_place by L labs [] a)) ≡ or_no_up (get_or (ups (L ∷ Ls)) a None)
-  unfolding ups_of up_by ups up climbs_of gather gathered_up
+  unfolding ups_of ups up gathered_up
   node-ups L Ls labs vs a s h g =
-      let nd = node L a in
-      let f : Outs → Option Up = λ nd. gather merge_up (climbs_of climb (ups Ls) 1 nd) in
-      let U = map f L in
-      let climbs = flat_map (climbing vs (padded_targets nd)) (range_with_len 0 16) in
-      let flow : gathered_up climbs ≡ or_no_up (f nd) =
-      ap gathered_up (doors-up (ups Ls) vs nd (padded_targets nd) 0 16 h (λ i lt. ap (λ (k : ℕ). get_or (padded_targets nd) k 0) (zero-add i) ∙ table_at 16 i (λ k. get_or nd k 0) 0 lt) (λ i b e. g (suc i) b e))
-      ∙ gathered_up-is (climbs_of climb (ups Ls) 1 nd) in
-      ⊎_elim
-      (λ lt. let l = s a lt in rw (l.1, l.2) (flow ∙ ap or_no_up (sym (get_or-map f L a [] None lt))))
-      (λ ge.
-      let none : get_or U a None ≡ None = get_or_past U a None (omega (arith, length-map L f)) in
-      rw none (cond_both (eqb (or_blank by.rule by.tally (get_or labs a None)).lasts 0) [] climbs (λ ys. gathered_up ys ≡ no_up) (λ _. refl)
-      (λ _. flow ∙ ap (λ x. or_no_up (f x)) (get_or_past L a [] ge))))
+      let u = record_of_place by L labs [] a in
+      let flow = climbed-is vs u ∙ node-climbed L Ls (map up_of vs) a h g in
+      ⊎_elim (λ lt. let l = s a lt in rw (l.1, l.2) flow)
+      (λ ge. cond_both (eqb u.label.down.lasts 0) [] (flat_map (up_by vs u) (range_with_len 0 16)) (λ ys. gathered_up ys ≡ or_no_up (get_or (ups (L ∷ Ls)) a None))
+      (λ _. sym (ap or_no_up (get_or_past (ups (L ∷ Ls)) a None (omega (arith, length-map L (λ nd. gather merge_up (climbs_of climb (ups Ls) 1 nd))))))) (λ _. flow))
       (cases_lt a (length L))
 
   risen-block : (L : Layer) (labs : List (Option (Down S V))) (U : List (Option Up)) (us vs : List (Node S V)) → map bare us ≡ table by.width (record_of_place by L labs [])
@@ -285,7 +233,7 @@ module _ {S V : Type 0} (by : Setting S V) where
       let D = drop 1 (drop by.width ys) in
       rw half.1
       (ap (λ xs. xs ++ (E ++ D)) (risen-block L labs (ups (L ∷ [])) us E half.0 (λ a. node-ups L [] labs E a s (good.0 a) (λ j b t. let z : b ≡ 0 = omega (arith, tied a j b t) in
-      linked (ups []) E b (blank_node by.rule by.tally) no_up (omega (arith, z)) (ap (λ (i : ℕ). get_or {A = Option Up} (Some no_up ∷ []) i None) z) (ap (λ (i : ℕ). (get_or E i (blank_node by.rule by.tally)).label.up) z))))
+      linked (ups []) (map up_of E) b no_up no_up (omega (arith, z)) (ap (λ (i : ℕ). get_or {A = Option Up} (Some no_up ∷ []) i None) z) (ap (λ (i : ℕ). get_or (map up_of E) i no_up) z))))
       ∙ sym (append_assoc (table by.width (record_of_place by L labs (ups (L ∷ [])))) E D))
   up-laid zero labs L (M ∷ Ls) ys e good tied s half = absurd (omega arith)
   up-laid (suc k) labs L [] ys e good tied s half = absurd (omega arith)
@@ -304,8 +252,8 @@ module _ {S V : Type 0} (by : Setting S V) where
       let lt : b < length M = tied.0 a j b t in
       let room : b < by.width = omega (arith, good.3.1) in
       let x = ups-full M Ls tied.2 tied.3 b lt in
-      linked U VS b (blank_node by.rule by.tally) x.0 (omega (arith, table-long by.width (record_of_place by M labs' U))) x.1
-      (ap (λ (v : Node S V). v.label.up) (table_at by.width b (record_of_place by M labs' U) (blank_node by.rule by.tally) room) ∙ ap or_no_up x.1))))
+      linked U (map up_of VS) b x.0 no_up (omega (arith, length-map VS up_of, table-long by.width (record_of_place by M labs' U))) x.1
+      (ap (λ ys. get_or ys b no_up) (map-table up_of by.width (record_of_place by M labs' U)) ∙ table_at by.width b (λ k. or_no_up (get_or U k None)) no_up room ∙ ap or_no_up x.1))))
       ∙ sym (append_assoc (table by.width (record_of_place by L labs (ups (L ∷ M ∷ Ls)))) (VS ++ X) later))
 
   -- ---- both passes

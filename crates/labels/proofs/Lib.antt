@@ -1,9 +1,11 @@
 pub mod Below
+pub mod Climbs
 pub mod Earlies
 pub mod Folds
 pub mod Inward
 pub mod Laying
 pub mod Legs
+pub mod Lifts
 pub mod Overs
 pub mod RedirectNet
 pub mod Redirects

@@ -52,11 +52,12 @@ module _ {S V : Type 0} (by : Setting S V) (i : ℕ) (xs : List (Node S V)) wher
       let q = and_parts _ _ e in
       let a = and_parts _ _ q.1 in
       let b = and_parts _ _ a.1 in
-      let low = leb-true 1 i a.0 in
-      let high = leb-true i by.round.n b.0 in
+      let low : 1 ≤ i = leb-true 1 i a.0 in
+      let high : i ≤ by.round.n = leb-true i by.round.n b.0 in
+      let f : Roomed by.round.n by.width (length xs) = room-facts by.round.n by.width (length xs) q.0 in
       record {
         low = low;
         high = high;
-        enough = omega (arith, layers_in i by.round.n by.width low high, (room-facts by.round.n by.width (length xs) q.0).enough);
+        enough = omega (arith, layers_in i by.round.n by.width low high, f.enough);
         early = in_time-all (latest_finish (i - 1)) (part ((i - 1) * by.width) by.width xs) b.1;
       }
