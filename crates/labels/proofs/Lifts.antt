@@ -19,7 +19,8 @@ use Rattle.layers.proofs.Model.{or_no_up}
 use Rattle.labels.specs.Passes.{HasUps}
 use Rattle.labels.proofs.Below.{in-parts}
 use Rattle.labels.proofs.Climbs.{climbed, Linked, linked, node-climbed, up_of}
-use Rattle.labels.proofs.Laying.{arcs_of, Arranged, Good, good}
+use Rattle.labels.proofs.Laying.{arcs_of, Arranged, Good, good-net}
+use Rattle.layers.proofs.Proper.{tied-ranged}
 
 -- the upward sets of the first of these layers, w places to it
 abbrev pub up_row : ℕ → Net → List Up
@@ -104,7 +105,7 @@ module _ {S V : Type 0} (by : Setting S V) where
   unfolding records_with labelled_records
   lifted-has one Ls xs p arr h =
       let w = by.width in
-      let g = good by.round.n w Ls by.round.most p.even p.roomy p.tied in
+      let g = good-net by.round.n w Ls by.round.most p.even p.roomy (tied-ranged Ls p.tied) in
       let later = drop (by.round.n * w + 1) xs in
       let n : length Ls * w + 1 ≡ by.round.n * w + 1 = ap (λ (k : ℕ). k * w + 1) p.deep in
       same-ups w Ls xs (records_with by xs Ls) (lifted-rows w one Ls xs g p.tied arr (subst (λ (k : ℕ). Lifted w k xs) (sym p.deep) h)) (rows-laid (first_labels by.rule by.tally) Ls later)
@@ -113,5 +114,5 @@ module _ {S V : Type 0} (by : Setting S V) where
   pub laid-lifted : 1 ≤ by.width → (Ls : Net) (xs : List (Node S V)) → IsLawful by.round.n by.width Ls → Arranged by.width Ls (records_with by xs Ls) → Lifted by.width by.round.n (records_with by xs Ls)
   unfolding records_with labelled_records
   laid-lifted one Ls xs p arr =
-      let g = good by.round.n by.width Ls by.round.most p.even p.roomy p.tied in
+      let g = good-net by.round.n by.width Ls by.round.most p.even p.roomy (tied-ranged Ls p.tied) in
       subst (λ (k : ℕ). Lifted by.width k (records_with by xs Ls)) p.deep (rows-lifted by.width one Ls (records_with by xs Ls) g p.tied arr (rows-laid (first_labels by.rule by.tally) Ls (drop (by.round.n * by.width + 1) xs)))
