@@ -1,2 +1,3 @@
+mod Parts
 mod RefineWords
 mod Turns

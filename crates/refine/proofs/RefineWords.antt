@@ -1,5 +1,5 @@
 -- On the records of a diagram the steps of refine and settled come to their definitions.
-use Rattle.std.proofs.Common.{◌≡◌, ℕ, zero, suc, ◌+◌, ◌-◌, ◌*◌, ◌<◌, ◌≤◌, Bool, true, cond, eqb, List, ◌++◌, length, drop, sym, refl, ap, ◌∙◌, subst, ap₂, arith}
+use Rattle.std.proofs.Common.{◌≡◌, ℕ, zero, suc, ◌+◌, ◌-◌, ◌*◌, ◌<◌, ◌≤◌, Bool, true, cond, eqb, List, [], ◌++◌, map, length, get_or, drop, sym, refl, ap, ◌∙◌, subst, ap₂, arith}
 use Rattle.std.proofs.lemmas.List.{length-append, length-drop}
 use Rattle.std.proofs.lemmas.Bool.{cond_both}
 use Rattle.layers.specs.Lawful.{IsLawful}
@@ -10,18 +10,24 @@ use Rattle.layers.specs.Net.{Net, count_arcs}
 use Rattle.layers.specs.Tidy.{tidied_arcs}
 use Rattle.layers.specs.Labels.{is_barred, first_labels}
 use Rattle.layers.specs.Records.{labelled_records}
-use Rattle.layers.specs.Calls.{arcs, labels, kept_arcs, records_with, after_sweep, sweep_answer, parts_of_layer, refinement_from, after_sweeps, refinement}
+use Rattle.layers.specs.Calls.{arcs, labels, kept_arcs, records_with, after_sweep, sweep_answer, count_of, parts_of_layer, refinement_from, after_sweeps, refinement}
 use Rattle.layers.specs.Shape.{IsShaped, IsTimely}
 use Rattle.layers.proofs.Bridge.{laid-long, later-stays}
+use Rattle.layers.proofs.Standing.{arcs-X, at-X}
 use Rattle.layers.proofs.Proper.{proper-kept}
 use Rattle.layers.proofs.Shaped.{relaid-shaped}
-use Rattle.labels.specs.Passes.{fits, relabelled}
-use Rattle.labels.proofs.Laying.{relabelled-lawful}
+use Rattle.labels.specs.Passes.{fits, below_steps}
+use Rattle.labels.proofs.Below.{StoodFirst, below-stood}
+use Rattle.labels.proofs.Climbs.{up_of}
+use Rattle.labels.proofs.Laying.{Arranged, relabelled-lawful}
+use Rattle.labels.proofs.Lifts.{Lifted, lifted-has}
 use Rattle.labels.proofs.Rooms.{room-facts}
 use Rattle.filter.specs.Steps.{arc_count}
 use Rattle.filter.proofs.FilterWords.{proper, sweep-words, swept-shaped, swept-timely, shaped-count, fewer-words}
-use Rattle.split.specs.Steps.{layer_steps}
+use Rattle.split.specs.Steps.{node_count, layer_steps}
+use Rattle.split.proofs.ShapedNet.{known-shaped, count-at}
 use Rattle.split.proofs.LayerWords.{Done, layer-net}
+use Rattle.refine.proofs.Parts.{start-kept, layer-kept}
 use Rattle.refine.specs.Steps.{one_layer, some_layers, sweeps_out, refine_steps}
 use Rattle.layers.specs.Settings.{Setting}
 
@@ -57,16 +63,6 @@ module _ {S V : Type 0} (by : Setting S V) (self : (s : S) → by.rule.same s s 
   unfolding after_sweep records_with
   kept-later xs fit s = later-stays by (room-facts n by.width (length xs) fit).low (later xs) (left xs) (left-proper xs fit s).deep
 
-  layer-words : (i : ℕ) (xs : Recs) → fits n by.width (length xs) ≡ true → IsShaped n by.width xs → 1 ≤ i → i < n → one_layer by i xs ≡ parts i xs
-  unfolding one_layer records_with
-  layer-words i xs fit s lo hi =
-      let f = room-facts n by.width (length xs) fit in
-      let q = parts-done i xs fit s lo hi in
-      let zs = (layer_steps by i (after_sweep by xs)).1 in
-      ap (λ (ys : Recs). ((layer_steps by i ys).0, relabelled by (layer_steps by i ys).1)) (sweep-words by xs fit s)
-      ∙ ap₂ (λ (b : Bool) (ys : Recs). (b, ys)) q.answer
-      (relabelled-lawful by q.left.net zs q.left.well q.left.holds ∙ ap (λ (ys : Recs). labelled_records by q.left.net ++ ys) (q.tail ∙ kept-later xs fit s) ∙ sym q.left.is)
-
   -- records laid out anew have as many places
   relaid-long : (xs : Recs) (Ls : Net) → fits n by.width (length xs) ≡ true → length Ls ≡ n → length (records_with by xs Ls) ≡ length xs
   unfolding records_with labelled_records
@@ -77,6 +73,37 @@ module _ {S V : Type 0} (by : Setting S V) (self : (s : S) → by.rule.same s s 
 
   relaid-fits : (xs : Recs) (Ls : Net) → fits n by.width (length xs) ≡ true → length Ls ≡ n → fits n by.width (length (records_with by xs Ls)) ≡ true
   relaid-fits xs Ls fit deep = ap (fits n by.width) (relaid-long xs Ls fit deep) ∙ fit
+
+  -- what stands after the parts of the layer: upward sets, and the downward labels before it
+  parts-stand : (i : ℕ) (xs : Recs) → fits n by.width (length xs) ≡ true → IsShaped n by.width xs → 1 ≤ i → i < n
+      → let zs = (layer_steps by i (after_sweep by xs)).1 in Lifted by.width n zs × StoodFirst by (i - 1) zs
+  unfolding after_sweep records_with
+  parts-stand i xs fit s lo hi =
+      let f = room-facts n by.width (length xs) fit in
+      let X = after_sweep by xs in
+      let Ls = left xs in
+      let p = left-proper xs fit s in
+      let d = i - 1 in
+      let deep : suc d < n = omega arith in
+      let room : n * by.width + 1 ≤ length X = (room-facts n by.width (length X) (relaid-fits xs Ls fit p.deep)).enough in
+      let is : arcs n by.width X ≡ Ls = arcs-X by f.low (later xs) Ls p in
+      let k = known-shaped by X f.low room (swept-shaped by xs fit s) d deep in
+      let back : suc d ≡ i = omega arith in
+      let m : node_count (d * by.width + by.width) by.width X ≡ length (get_or Ls (suc d) []) = count-at n by.width X i lo hi ∙ ap (λ (j : ℕ). count_of by j X) (sym back) ∙ (at-X by f.low (later xs) (suc d) Ls p deep).2 in
+      layer-kept by i deep X (start-kept by d deep f.low Ls X _ p (subst (λ (Ks : Net). Arranged by.width Ks X) is k.arranged) (ap (λ (ys : Recs). labelled_records by Ls ++ ys) (kept-later xs fit s)) room m)
+
+  layer-words : (i : ℕ) (xs : Recs) → fits n by.width (length xs) ≡ true → IsShaped n by.width xs → 1 ≤ i → i < n → one_layer by i xs ≡ parts i xs
+  unfolding one_layer records_with
+  layer-words i xs fit s lo hi =
+      let q = parts-done i xs fit s lo hi in
+      let zs = (layer_steps by i (after_sweep by xs)).1 in
+      let h = parts-stand i xs fit s lo hi in
+      let laid = relabelled-lawful by q.left.net zs q.left.well q.left.holds in
+      let room : fits n by.width (length zs) ≡ true = ap (fits n by.width) q.long ∙ unfold after_sweep in relaid-fits xs (left xs) fit (left-proper xs fit s).deep in
+      let up = lifted-has by (room-facts n by.width (length xs) fit).low q.left.net zs q.left.well q.left.holds h.0 ∙ ap (map up_of) (sym laid) in
+      ap (λ (ys : Recs). ((layer_steps by i ys).0, below_steps by i (layer_steps by i ys).1)) (sweep-words by xs fit s)
+      ∙ ap₂ (λ (b : Bool) (ys : Recs). (b, ys)) q.answer
+      (below-stood by i zs room lo (omega arith) up h.1 ∙ laid ∙ ap (λ (ys : Recs). labelled_records by q.left.net ++ ys) (q.tail ∙ kept-later xs fit s) ∙ sym q.left.is)
 
   -- ---- all layers
   layers-words : (k i : ℕ) (xs : Recs) → fits n by.width (length xs) ≡ true → IsShaped n by.width xs → 1 ≤ i → i + k ≤ n

@@ -1,4 +1,4 @@
--- Refine and settled as the code does them, on any list: the parts of a layer are made on arcs, and labelled once.
+-- Refine and settled as the code does them, on any list: the parts of a layer are made on arcs, and then labelled as far as they alter labels.
 -- Nobody has to believe these steps: the facts at the end say, in the definitions of the calls, what they come to on the records of a diagram.
 use Rattle.std.specs.Prelude.{◌≡◌, ℕ, zero, suc, ◌-◌, Bool, true, if◌then◌else◌, ◌&&◌, List, length, ◌==◌}
 use Rattle.layers.specs.declared.node.Node.{Node}
@@ -7,15 +7,15 @@ use Rattle.layers.specs.declared.refined.Refined.TheVariants.{Whole, Full}
 use Rattle.layers.specs.Settings.{Setting}
 use Rattle.layers.specs.Calls.{refinement, is_settled}
 use Rattle.layers.specs.Shape.{IsShaped}
-use Rattle.labels.specs.Passes.{fits, relabelled}
+use Rattle.labels.specs.Passes.{fits, below_steps}
 use Rattle.filter.specs.Steps.{arc_count, sweep_steps, quiet_steps, Done}
 use Rattle.split.specs.Steps.{layer_steps, agreed_steps}
 
 module _ {S V : Type 0} (by : Setting S V) where
-  -- layer i: a sweep, the parts of the layer, and all labels anew; yes if the layer was full
+  -- layer i: a sweep, the parts of the layer, and the downward labels from it on anew; yes if the layer was full
   unfoldable pub one_layer : ℕ → List (Node S V) → Bool × List (Node S V)
-  unfolding sweep_steps layer_steps relabelled
-  one_layer i xs = let p = layer_steps by i (sweep_steps by xs) in (p.0, relabelled by p.1)
+  unfolding sweep_steps layer_steps below_steps
+  one_layer i xs = let p = layer_steps by i (sweep_steps by xs) in (p.0, below_steps by i p.1)
 
   -- k layers from i on, up to one that was full
   unfoldable pub some_layers : ℕ → ℕ → List (Node S V) → Refined × List (Node S V)

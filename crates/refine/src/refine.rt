@@ -7,7 +7,7 @@ ghost use Rattle.refine.specs.Answers.{IsInnerIfFull};
 ghost use Rattle.refine.specs.Steps.{one_layer, some_layers, sweeps_out, refine_steps, RefineDone};
 
 use filter::sweep::sweep;
-use labels::relabel::relabel;
+use labels::relabel::relabel_below;
 use labels::room::has_room;
 use layers::node::Node;
 use layers::refined::Refined;
@@ -17,7 +17,8 @@ use split::parting::part_layer;
 use tallies::tally::Tally;
 use tidying::count::count_arcs;
 
-/// One layer: a sweep, then all its parts on arcs alone, then all labels. Answers whether it was full.
+/// One layer: a sweep, then all its parts on arcs alone, then the labels that these alter: the downward ones from this layer
+/// on. Answers whether it was full.
 fn refine_layer<R: Rule, T: Tally>(
     by: &Setting<'_, R, T>,
     nodes: &mut [Node<R::State, T::Value>],
@@ -33,7 +34,7 @@ fn refine_layer<R: Rule, T: Tally>(
 {
     sweep(by, nodes);
     let full = part_layer(by, nodes, i);
-    relabel(by, nodes);
+    relabel_below(by, nodes, i);
     full
 }
 
