@@ -1,5 +1,6 @@
 -- On the records of a diagram the steps of sweep and cut come to their definitions.
-use Rattle.std.proofs.Common.{◌≡◌, ℕ, zero, suc, ◌+◌, ◌-◌, ◌*◌, ◌≤◌, Bool, true, List, [], ◌++◌, length, get_or, drop, Option, sym, refl, ap, ◌∙◌, subst, ap₂, arith}
+use Rattle.std.proofs.Common.{◌≡◌, ℕ, zero, suc, ◌+◌, ◌-◌, ◌*◌, ◌≤◌, Bool, true, cond, eqb, List, [], ◌++◌, length, get_or, drop, Option, sym, refl, ap, ◌∙◌, subst, ap₂, arith}
+use Rattle.std.proofs.lemmas.Bool.{cond_both}
 use Rattle.std.proofs.lemmas.List.{drop-drop}
 use Rattle.round.specs.declared.table.Round.{Round}
 use Rattle.layers.specs.Lawful.{IsLawful}
@@ -10,19 +11,20 @@ use Rattle.layers.specs.Records.{layers, arcs_of_layers, labelled_records}
 use Rattle.layers.specs.Settings.{Setting}
 use Rattle.layers.specs.declared.node.Down.{Down}
 use Rattle.layers.specs.declared.node.Up.{Up}
-use Rattle.layers.specs.Calls.{arcs, labels, kept_arcs, records_with, arcs_lost, after_sweep}
+use Rattle.layers.specs.Calls.{arcs, labels, kept_arcs, keeps_all_arcs, records_with, arcs_lost, after_sweep}
 use Rattle.layers.specs.Labels.{is_barred}
 use Rattle.layers.specs.Shape.{IsShaped, IsTimely}
+use Rattle.layers.proofs.Counts.{all-kept, kept-same}
 use Rattle.layers.proofs.Proper.{tied-ranged, RangedAll, Less, kept-less, proper-less}
 use Rattle.layers.proofs.Shaped.{shaped-proper, relaid-shaped, ended-one, relaid-timely}
-use Rattle.labels.specs.Passes.{fits, blank_node}
+use Rattle.labels.specs.Passes.{fits, blank_node, relabelled}
 use Rattle.labels.proofs.Laying.{Arranged, Good, relabelled-lawful}
 use Rattle.labels.proofs.Rooms.{room-facts}
 use Rattle.labels.proofs.Shaped_arranged.{shaped-arranged, good-net}
 use Rattle.tidying.specs.Tidied.{first_mark}
 use Rattle.tidying.specs.Tidied.{tidied as tidiedFlat}
 use Rattle.tidying.proofs.TidyNet.{Standing, tidied-arranged, tidied-tail}
-use Rattle.filter.specs.Steps.{arc_count, redone, filter_steps, sweep_steps}
+use Rattle.filter.specs.Steps.{Done, IsLabelled, arc_count, none_goes, redone, filter_steps, filter_labelled_steps, sweep_steps}
 use Rattle.filter.specs.Kept.{kept_from}
 use Rattle.filter.proofs.CountNet.{arc-count}
 use Rattle.filter.proofs.KeptNet.{EndedFrom, kept-arranged, kept-tail}
@@ -75,6 +77,20 @@ module _ {S V : Type 0} (r : Round) (W : ℕ) (xs : List (Node S V)) (fit : fits
     pub left-arranged : Arranged W Ms (kept_from goes W 0 r.n xs) × Standing W Ms (kept_from goes W 0 r.n xs)
     left-arranged = kept-arranged r.n goes W 0 r.n xs (shaped-arranged r W xs enough s) ranged (ended-from r.n W goes r.n xs (ended-one r.n W xs s.ended))
 
+    -- as many arcs stay exactly when none goes
+    pub none-words : none_goes goes r.n W xs ≡ keeps_all_arcs goes 0 D (labels r.n W xs)
+    unfolding none_goes
+    none-words = ap₂ eqb (arc-count W r.n Ms (kept_from goes W 0 r.n xs) deep-left good-left left-arranged.0) shaped-count ∙ kept-same goes 0 D (labels r.n W xs)
+
+    -- and then there is nothing to tidy
+    none-tidied : none_goes goes r.n W xs ≡ true → tidied_arcs Ms ≡ D
+    none-tidied e = ap tidied_arcs (all-kept goes 0 D (labels r.n W xs) (sym none-words ∙ e)) ∙ s.tidy
+
+-- the answer of a call that leaves the records ys
+pub fewer-words : {S V : Type 0} (r : Round) (W : ℕ) (xs ys : List (Node S V)) → fits r.n W (length xs) ≡ true → length ys ≡ length xs → IsShaped r.n W xs → IsShaped r.n W ys → arc_count r.n W xs - arc_count r.n W ys ≡ arcs_lost r.n W xs ys
+unfolding arcs_lost
+fewer-words r W xs ys fit long s t = ap₂ ◌-◌ (shaped-count r W xs fit s) (shaped-count r W ys (ap (fits r.n W) long ∙ fit) t)
+
 module _ {S V : Type 0} (by : Setting S V) (xs : List (Node S V)) (fit : fits by.round.n by.width (length xs) ≡ true) (s : IsShaped by.round.n by.width xs) (goes : Goes S V) where
   -- what a filter leaves, by its definition
   abbrev pub Defined : List (Node S V)
@@ -83,9 +99,9 @@ module _ {S V : Type 0} (by : Setting S V) (xs : List (Node S V)) (fit : fits by
   pub tidy-proper : IsLawful by.round.n by.width (tidied_arcs (Ms by.round by.width xs fit s goes))
   tidy-proper = proper-less by (wide by.round by.width xs fit s) (D by.round by.width xs fit s) (Ms by.round by.width xs fit s goes) (less by.round by.width xs fit s goes) (proper by.round by.width xs fit s)
 
-  pub filter-words : filter_steps by goes xs ≡ Defined
-  unfolding filter_steps redone records_with
-  filter-words =
+  some-words : redone by (kept_from goes by.width 0 by.round.n xs) ≡ Defined
+  unfolding redone records_with
+  some-words =
       let n = by.round.n in
       let W = by.width in
       let z = blank_node by.rule by.tally in
@@ -104,12 +120,37 @@ module _ {S V : Type 0} (by : Setting S V) (xs : List (Node S V)) (fit : fits by
       let later : drop (n * W + 1) zs ≡ drop (n * W + 1) xs = sym (drop-drop 1 (n * W) zs) ∙ ap (drop 1) (rest ∙ t.1) ∙ drop-drop 1 (n * W) xs in
       relabelled-lawful by (tidied_arcs M) zs tidy-proper arr ∙ ap (λ (ws : List (Node S V)). labelled_records by (tidied_arcs M) ++ ws) later
 
+  either-words : (zs : List (Node S V)) → zs ≡ records_with by xs (D by.round by.width xs fit s) → cond (none_goes goes by.round.n by.width xs) zs (redone by (kept_from goes by.width 0 by.round.n xs)) ≡ Defined
+  either-words zs same = cond_both (none_goes goes by.round.n by.width xs) zs _ (λ ws. ws ≡ Defined) (λ e. same ∙ ap (records_with by xs) (sym (none-tidied by.round by.width xs fit s goes e))) (λ e. some-words)
+
+  pub filter-words : filter_steps by goes xs ≡ Defined
+  unfolding filter_steps
+  filter-words =
+      let enough' = enough by.round by.width xs fit s in
+      either-words (relabelled by xs) (relabelled-lawful by (D by.round by.width xs fit s) xs (proper by.round by.width xs fit s) (shaped-arranged by.round by.width xs enough' s))
+
+  pub labelled-words : IsLabelled by xs → filter_labelled_steps by goes xs ≡ Defined
+  unfolding filter_labelled_steps
+  labelled-words same = either-words xs (sym same)
+
   -- what is left is a diagram's
   pub filter-shaped : IsShaped by.round.n by.width Defined
   filter-shaped = relaid-shaped by (wide by.round by.width xs fit s) xs (tidied_arcs (Ms by.round by.width xs fit s goes)) tidy-proper
 
   pub filter-timely : IsTimely by.round.n by.width Defined
   filter-timely = relaid-timely by xs (tidied_arcs (Ms by.round by.width xs fit s goes)) tidy-proper.deep
+
+  -- so a call that leaves it is done
+  pub filter-done : (ys : List (Node S V)) (m : ℕ) → length ys ≡ length xs → ys ≡ Defined → m ≡ arc_count by.round.n by.width xs - arc_count by.round.n by.width ys
+      → Done by.round.n by.width Defined ys (arcs_lost by.round.n by.width xs Defined) m
+  filter-done ys m long all count =
+      let t : IsShaped by.round.n by.width ys = subst (IsShaped by.round.n by.width) (sym all) filter-shaped in
+      record {
+        records = all;
+        answer = count ∙ fewer-words by.round by.width xs ys fit long s t ∙ ap (arcs_lost by.round.n by.width xs) all;
+        shaped = t;
+        timely = subst (IsTimely by.round.n by.width) (sym all) filter-timely;
+      }
 
 -- so of a sweep
 module _ {S V : Type 0} (by : Setting S V) (xs : List (Node S V)) (fit : fits by.round.n by.width (length xs) ≡ true) (s : IsShaped by.round.n by.width xs) where
@@ -124,8 +165,3 @@ module _ {S V : Type 0} (by : Setting S V) (xs : List (Node S V)) (fit : fits by
   pub swept-timely : IsTimely by.round.n by.width (after_sweep by xs)
   unfolding after_sweep
   swept-timely = filter-timely by xs fit s (is_barred by.round by.rule)
-
--- the answer of a call that leaves the records ys
-pub fewer-words : {S V : Type 0} (r : Round) (W : ℕ) (xs ys : List (Node S V)) → fits r.n W (length xs) ≡ true → length ys ≡ length xs → IsShaped r.n W xs → IsShaped r.n W ys → arc_count r.n W xs - arc_count r.n W ys ≡ arcs_lost r.n W xs ys
-unfolding arcs_lost
-fewer-words r W xs ys fit long s t = ap₂ ◌-◌ (shaped-count r W xs fit s) (shaped-count r W ys (ap (fits r.n W) long ∙ fit) t)

@@ -1,22 +1,24 @@
 -- A filter takes out arcs and adds none: none goes exactly if as many are left.
-use Rattle.std.proofs.Common.{◌≡◌, ℕ, zero, suc, ◌+◌, ◌-◌, ◌*◌, ◌<◌, ◌≤◌, ◌≢◌, Bool, true, false, eqb, List, [], ◌∷◌, ◌++◌, map, length, get_or, take, drop, Option, refl, ap, ◌∙◌, arith, take-append-drop, sym}
+use Rattle.std.proofs.Common.{◌≡◌, ℕ, zero, suc, ◌+◌, ◌-◌, ◌*◌, ◌<◌, ◌≤◌, ◌≢◌, Bool, true, false, eqb, List, [], ◌∷◌, ◌++◌, map, length, get_or, take, drop, Option, ◌⊎◌, inl, inr, refl, ap, ◌∙◌, arith, take-append-drop, sym}
 use Rattle.std.specs.Cmp.{both_ways}
 use Rattle.std.proofs.lemmas.Bool.{eqb-true, eqb-false, eq-eqb, ne_eqb}
+use Rattle.std.proofs.lemmas.Bool.Decides.{nat_tests}
 use Rattle.std.proofs.lemmas.List.{map-append, take_more}
 use Rattle.layers.specs.declared.node.Node.{Node}
 use Rattle.layers.specs.declared.node.Down.{Down}
 use Rattle.layers.specs.declared.node.Up.{Up}
-use Rattle.layers.specs.Net.{each_door, each_node, count_doors, count_layer}
+use Rattle.layers.specs.Net.{each_door, count_doors}
 use Rattle.layers.specs.Records.{nodes_in}
 use Rattle.layers.specs.Targets.{targets, with_targets, redirected}
-use Rattle.layers.proofs.Counts.{nodes-fewer}
 use Rattle.layers.proofs.Tied.{each_door-length}
 use Rattle.labels.specs.Passes.{part}
 use Rattle.tidying.specs.Counted.{arcs_of, arcs_within}
 use Rattle.tidying.proofs.InUse.{nodes-first}
 use Rattle.tidying.proofs.Targets.{arcs-append, arcs-cons, length-targets, targets_read}
 use Rattle.filter.specs.Kept.{after, kept_to, kept_node, kept_from}
-use Rattle.filter.specs.Steps.{arc_count}
+use Rattle.filter.specs.Steps.{arc_count, none_goes}
+use Rattle.filter.proofs.Doors.{left-or-none}
+use Rattle.filter.proofs.KeptNet.{kept-tail}
 use Rattle.filter.proofs.Layering.{kept-more}
 
 -- ---- sums that are the same
@@ -49,9 +51,22 @@ module _ {S V : Type 0} where
   unfolding arcs_of
   door-count y = refl
 
-doors-fewer : (f : ℕ → ℕ → ℕ) (ts : List ℕ) → count_doors (each_door f 1 ts) ≤ count_doors ts
-unfolding each_node count_layer
-doors-fewer f ts = omega (arith, nodes-fewer (λ a. f) 0 (ts ∷ []))
+doors-fewer : (f : ℕ → ℕ → ℕ) (j : ℕ) (ts : List ℕ) → count_doors (each_door f j ts) ≤ count_doors ts
+unfolding count_doors each_door
+doors-fewer f j [] = omega arith
+doors-fewer f j (zero ∷ ts) = doors-fewer f (suc j) ts
+doors-fewer f j (suc b ∷ ts) = grind (arith, doors-fewer f (suc j) ts)
+
+-- each arc goes or stays: if as many are left, all stay
+doors-same : (f : ℕ → ℕ → ℕ) → ((j b : ℕ) → (f j b ≡ 0) ⊎ (f j b ≡ suc b)) → (j : ℕ) (ts : List ℕ) → count_doors (each_door f j ts) ≡ count_doors ts → each_door f j ts ≡ ts
+unfolding count_doors each_door
+doors-same f one j [] e = refl
+doors-same f one j (zero ∷ ts) e = ap (λ ts. zero ∷ ts) (doors-same f one (suc j) ts e)
+doors-same f one j (suc b ∷ ts) e = elim (one j b) [
+  | inl gone ↦ absurd (let less = doors-fewer f (suc j) ts in omega (arith, less, e, ap (λ (t : ℕ). count_doors (t ∷ each_door f (suc j) ts)) gone))
+  | inr stays ↦ (let same = ap (λ (t : ℕ). count_doors (t ∷ each_door f (suc j) ts)) stays in
+      rw stays (ap (λ ts. suc b ∷ ts) (doors-same f one (suc j) ts (omega (arith, e, same)))))
+]
 
 -- ---- a filter
 module _ {S V : Type 0} (goes : ℕ → ℕ → ℕ → Option (Down S V) → Option Up → Bool) where
@@ -60,7 +75,16 @@ module _ {S V : Type 0} (goes : ℕ → ℕ → ℕ → Option (Down S V) → Op
   node-fewer i h vs u =
       let f = kept_to goes i h vs u in
       let y = with_targets u (each_door f 1 (targets u)) in
-      omega (arith, door-count y, ap count_doors (targets_read y (each_door-length f 1 (targets u) ∙ length-targets u)), door-count u, doors-fewer f (targets u))
+      omega (arith, door-count y, ap count_doors (targets_read y (each_door-length f 1 (targets u) ∙ length-targets u)), door-count u, doors-fewer f 1 (targets u))
+
+  -- a node that keeps all its arcs stays as it is
+  pub node-same : (i h : ℕ) (vs : List (Node S V)) (u : Node S V) → length u.arcs.to ≡ 16 → arcs_of (kept_node goes i h vs u) ≡ arcs_of u → kept_node goes i h vs u ≡ u
+  unfolding kept_node redirected
+  node-same i h vs u long e =
+      let f = kept_to goes i h vs u in
+      let y = with_targets u (each_door f 1 (targets u)) in
+      let read = ap count_doors (targets_read y (each_door-length f 1 (targets u) ∙ length-targets u)) in
+      ap (with_targets u) (doors-same f (λ j b. left-or-none goes i h vs u j (suc b)) 1 (targets u) (omega (arith, e, door-count y, read, door-count u)) ∙ targets_read u long)
 
   module _ (w i left : ℕ) (xs : List (Node S V)) where
     abbrev F : Node S V → Node S V
@@ -114,3 +138,12 @@ module _ {S V : Type 0} (goes : ℕ → ℕ → ℕ → Option (Down S V) → Op
 pub count-whole : {S V : Type 0} (n W : ℕ) (xs : List (Node S V)) → arcs_within xs ≡ arc_count n W xs + arcs_within (drop (n * W) xs)
 unfolding arc_count
 count-whole n W xs = ap arcs_within (sym (take-append-drop (n * W) xs)) ∙ arcs-append (take (n * W) xs) (drop (n * W) xs)
+
+-- none goes exactly when as many arcs are left in the whole list
+pub none-counted : {S V : Type 0} (goes : ℕ → ℕ → ℕ → Option (Down S V) → Option Up → Bool) (n W : ℕ) (xs : List (Node S V)) → n * W + 1 ≤ length xs → (ys : List (Node S V)) → ys ≡ kept_from goes W 0 n xs
+    → (gone : ℕ) → gone + arcs_within ys ≡ arcs_within xs → none_goes goes n W xs ≡ eqb gone 0
+unfolding none_goes
+none-counted goes n W xs enough ys is gone less =
+    let tail = (kept-tail n goes W 0 n xs (omega (arith, enough))).1 in
+    let zs = kept_from goes W 0 n xs in
+    sums-same (arc_count n W zs) (arc_count n W xs) 0 gone (omega (arith, ap arcs_within is, less, count-whole n W zs, count-whole n W xs, ap arcs_within tail)) ∙ grind (arith, nat_tests)

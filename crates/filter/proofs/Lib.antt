@@ -4,6 +4,5 @@ pub mod FilterWords
 mod Kept
 mod KeptNet
 mod Layering
-mod QuietWords
 mod Relabelled
 mod Timely

@@ -1,7 +1,7 @@
 -- Labelling anew leaves the arcs of any list as they are.
 use Rattle.std.proofs.Common.{◌≡◌, ℕ, zero, suc, ◌-◌, ◌*◌, ◌≤◌, Bool, Option, List, [], ◌∷◌, ◌++◌, map, length, get_or, take, drop, refl, sym, ap, ◌∙◌, ap₂, arith, take-append-drop}
 use Rattle.std.specs.List.{range_with_len}
-use Rattle.std.proofs.lemmas.List.{drop-map, get_or-map, length-map, map-append, same_lists}
+use Rattle.std.proofs.lemmas.List.{drop-map, take-map, get_or-map, length-map, map-append, same_lists}
 use Rattle.std.proofs.lemmas.List.FromFn.{get_or-map-range_with_len, length-map-range_with_len}
 use Rattle.layers.specs.declared.node.Arcs.{Arcs}
 use Rattle.layers.specs.declared.node.Down.{Down}
@@ -16,7 +16,7 @@ use Rattle.tidying.specs.Counted.{arcs_within}
 use Rattle.tidying.specs.Tidied.{tidied, first_mark}
 use Rattle.tidying.proofs.Steps.{tail-is}
 use Rattle.filter.specs.Kept.{kept_from}
-use Rattle.filter.specs.Steps.{redone, filter_steps}
+use Rattle.filter.specs.Steps.{redone}
 use Rattle.filter.proofs.KeptNet.{kept-tail}
 
 module _ {S V : Type 0} where
@@ -79,10 +79,13 @@ module _ {S V : Type 0} (by : Setting S V) where
   unfolding relabelled pass_down pass_up
   relabelled-same xs = risen-same by.width (by.round.n - 1) (pass_down by xs) ∙ after-same (by.round.n - 1) _ ∙ same-parts by.width xs _ _ (first-same (take by.width xs)) refl
 
+  pub relabelled-count : (m : ℕ) (xs : List (Node S V)) → arcs_within (take m (relabelled by xs)) ≡ arcs_within (take m xs)
+  relabelled-count m xs = count-same (take m (relabelled by xs)) (take m xs) (sym (take-map arcs_of m (relabelled by xs)) ∙ ap (take m) (relabelled-same xs) ∙ take-map arcs_of m xs)
+
   -- after the layers a filter alters nothing but the end's label
   pub filter-tail : (goes : ℕ → ℕ → ℕ → Option (Down S V) → Option Up → Bool) (xs : List (Node S V)) → by.round.n * by.width ≤ length xs
-      → arcs_within (drop (by.round.n * by.width) (filter_steps by goes xs)) ≡ arcs_within (drop (by.round.n * by.width) xs)
-  unfolding filter_steps redone
+      → arcs_within (drop (by.round.n * by.width) (redone by (kept_from goes by.width 0 by.round.n xs))) ≡ arcs_within (drop (by.round.n * by.width) xs)
+  unfolding redone
   filter-tail goes xs h =
       let n = by.round.n in
       let W = by.width in

@@ -1,6 +1,6 @@
 -- Sweep and cut as the code does them, on any list: arcs are taken out by the labels that stand, then the list is tidied and labelled anew.
 -- Nobody has to believe these steps: the facts at the end say, in the definitions of the calls, what they come to on the records of a diagram.
-use Rattle.std.specs.Prelude.{◌≡◌, ℕ, ◌*◌, Bool, true, ◌&&◌, List, [], ◌∷◌, length, take, Option, ◌==◌, nat_le}
+use Rattle.std.specs.Prelude.{◌≡◌, ℕ, ◌*◌, Bool, true, if◌then◌else◌, ◌&&◌, List, [], ◌∷◌, length, take, Option, ◌==◌, nat_le}
 use Rattle.round.specs.declared.table.Round.{Round}
 use Rattle.round.specs.Clock.{finish, latest_finish}
 use Rattle.rules.specs.Rules.{RuleSense}
@@ -9,7 +9,7 @@ use Rattle.layers.specs.declared.node.Down.{Down}
 use Rattle.layers.specs.declared.node.Up.{Up}
 use Rattle.layers.specs.Settings.{Setting}
 use Rattle.layers.specs.Labels.{leg, is_barred, is_above_ceiling}
-use Rattle.layers.specs.Calls.{arcs, labels, keeps_all_arcs, after_sweep, sweep_answer, after_cut, cut_answer}
+use Rattle.layers.specs.Calls.{arcs, labels, keeps_all_arcs, records_with, after_sweep, sweep_answer, after_cut, cut_answer}
 use Rattle.layers.specs.Shape.{IsShaped, IsTimely}
 use Rattle.labels.specs.Passes.{fits, blank_node, relabelled}
 use Rattle.tidying.specs.Counted.{arcs_within}
@@ -26,6 +26,11 @@ unfoldable pub arc_count : {S V : Type 0} → ℕ → ℕ → List (Node S V) �
 unfolding arcs_within
 arc_count n W xs = arcs_within (take (n * W) xs)
 
+-- no arc goes: as many are left
+unfoldable pub none_goes : {S V : Type 0} → (ℕ → ℕ → ℕ → Option (Down S V) → Option Up → Bool) → ℕ → ℕ → List (Node S V) → Bool
+unfolding arc_count kept_from
+none_goes goes n W xs = arc_count n W (kept_from goes W 0 n xs) == arc_count n W xs
+
 -- a call has left the records ys and answered m, as its definition says; and ys are again the records of a diagram
 pub record Done {S V A : Type 0} (n W : ℕ) (defined ys : List (Node S V)) (answered m : A) : Type 0 where
   pub records : ys ≡ defined
@@ -39,14 +44,23 @@ module _ {S V : Type 0} (by : Setting S V) where
   unfolding relabelled tidied
   redone ys = relabelled by (tidied by.width (blank_node by.rule by.tally) by.round.n first_mark ys)
 
-  -- a filter: which arcs go
+  -- a filter: which arcs go. If none goes, the list is labelled anew as it is
   unfoldable pub filter_steps : (ℕ → ℕ → ℕ → Option (Down S V) → Option Up → Bool) → List (Node S V) → List (Node S V)
-  unfolding redone kept_from
-  filter_steps goes xs = redone (kept_from goes by.width 0 by.round.n xs)
+  unfolding none_goes redone kept_from
+  filter_steps goes xs = if none_goes goes by.round.n by.width xs then relabelled by xs else redone (kept_from goes by.width 0 by.round.n xs)
+
+  -- of a list whose labels stand: if none goes, it stays as it is
+  unfoldable pub filter_labelled_steps : (ℕ → ℕ → ℕ → Option (Down S V) → Option Up → Bool) → List (Node S V) → List (Node S V)
+  unfolding none_goes redone kept_from
+  filter_labelled_steps goes xs = if none_goes goes by.round.n by.width xs then xs else redone (kept_from goes by.width 0 by.round.n xs)
 
   unfoldable pub sweep_steps : List (Node S V) → List (Node S V)
   unfolding filter_steps leg finish
   sweep_steps = filter_steps (is_barred by.round by.rule)
+
+  unfoldable pub sweep_labelled_steps : List (Node S V) → List (Node S V)
+  unfolding filter_labelled_steps leg finish
+  sweep_labelled_steps = filter_labelled_steps (is_barred by.round by.rule)
 
   unfoldable pub cut_steps : V → List (Node S V) → List (Node S V)
   unfolding filter_steps leg finish
@@ -58,16 +72,25 @@ module _ {S V : Type 0} (by : Setting S V) where
       fits by.round.n by.width (length xs) ≡ true → IsShaped by.round.n by.width xs
       → Done by.round.n by.width (after_sweep by xs) ys (sweep_answer by xs) m
 
+  -- the labels are those that this setting gives
+  abbrev pub IsLabelled : List (Node S V) → Type 0
+  IsLabelled xs = records_with by xs (arcs by.round.n by.width xs) ≡ xs
+
+  abbrev pub SweepLabelledDone : List (Node S V) → List (Node S V) → ℕ → Type 0
+  SweepLabelledDone xs ys m =
+      fits by.round.n by.width (length xs) ≡ true → IsShaped by.round.n by.width xs → IsLabelled xs
+      → Done by.round.n by.width (after_sweep by xs) ys (sweep_answer by xs) m
+
   abbrev pub CutDone : V → List (Node S V) → List (Node S V) → ℕ → Type 0
   CutDone c xs ys m =
       fits by.round.n by.width (length xs) ≡ true → IsShaped by.round.n by.width xs → IsTimely by.round.n by.width xs
       → Done by.round.n by.width (after_cut by c xs) ys (cut_answer by c xs) m
 
 module _ {S V : Type 0} (r : Round) (rule : RuleSense S) (W : ℕ) where
-  -- no arc would be taken out: as many are left
+  -- no arc would be taken out
   unfoldable pub quiet_steps : List (Node S V) → Bool
-  unfolding arc_count kept_from leg finish
-  quiet_steps xs = arc_count r.n W (kept_from (is_barred r rule) W 0 r.n xs) == arc_count r.n W xs
+  unfolding none_goes leg finish
+  quiet_steps = none_goes (is_barred r rule) r.n W
 
   -- on the records of a diagram: no arc is one that a sweep takes out
   abbrev pub QuietDone : List (Node S V) → Bool → Type 0

@@ -1,11 +1,11 @@
 //! What every filter does: arcs are taken out, then the list is tidied and labelled anew.
-ghost use Rattle.std.specs.Prelude.{◌≡◌, ◌+◌, ◌-◌, ◌*◌, ◌≤◌, true, length, take};
+ghost use Rattle.std.specs.Prelude.{◌≡◌, ◌+◌, ◌-◌, ◌*◌, ◌≤◌, ◌==◌, true, length, take};
 ghost use Rattle.std.specs.List.{AllByRecursion};
 ghost use Rattle.layers.specs.Settings.{lent_setting};
 ghost use Rattle.labels.specs.Passes.{fits};
 ghost use Rattle.tidying.specs.Counted.{arcs_within};
 ghost use Rattle.filter.specs.Kept.{HasLabel};
-ghost use Rattle.filter.specs.Steps.{arc_count, redone, filter_steps};
+ghost use Rattle.filter.specs.Steps.{arc_count, none_goes, redone, filter_steps, filter_labelled_steps};
 
 use crate::take::{Filter, take_from};
 use crate::test::Test;
@@ -32,7 +32,37 @@ fn redo<R: Rule, T: Tally>(by: &Setting<'_, R, T>, nodes: &mut [Node<R::State, T
     lost
 }
 
-/// Takes out each arc that goes by the test, tidies and labels anew, and answers how many arcs went.
+/// Takes out each arc that goes by the test, and answers how many arcs went. If any goes, tidies and labels anew; if none, the
+/// list stays as it is.
+pub(crate) fn filter_labelled<R: Rule, T: Tally, F: Test<State = R::State, Value = T::Value>>(
+    by: &Setting<'_, R, T>,
+    test: &F,
+    nodes: &mut [Node<R::State, T::Value>],
+) -> usize
+    requires room { fits by.now.round.now.n by.now.width (length nodes.old) ≡ true }
+    requires fits { AllByRecursion (HasLabel (F.fits test.now))
+        (take (by.now.round.now.n * by.now.width) nodes.old) }
+    ensures steps { let by = lent_setting by.now (R.sense by.now.rule.now)
+        (T.sense by.now.tally.now) in
+        nodes.new ≡ filter_labelled_steps by (F.goes test.now by.round) nodes.old }
+    ensures none { let r = by.now.round.now in
+        (result == 0) ≡ none_goes (F.goes test.now r) r.n by.now.width nodes.old }
+    ensures counted { result ≡ arc_count by.now.round.now.n by.now.width nodes.old -
+        arc_count by.now.round.now.n by.now.width nodes.new }
+{
+    let filter = Filter {
+        round: by.round,
+        width: by.width,
+        test,
+    };
+    let gone = take_from(&filter, 0, by.round.n, nodes);
+    if gone == 0 {
+        return 0;
+    }
+    gone + redo(by, nodes)
+}
+
+/// The same, but labels anew in any case.
 pub(crate) fn filter<R: Rule, T: Tally, F: Test<State = R::State, Value = T::Value>>(
     by: &Setting<'_, R, T>,
     test: &F,
@@ -47,11 +77,9 @@ pub(crate) fn filter<R: Rule, T: Tally, F: Test<State = R::State, Value = T::Val
     ensures counted { result ≡ arc_count by.now.round.now.n by.now.width nodes.old -
         arc_count by.now.round.now.n by.now.width nodes.new }
 {
-    let filter = Filter {
-        round: by.round,
-        width: by.width,
-        test,
-    };
-    let gone = take_from(&filter, 0, by.round.n, nodes);
-    gone + redo(by, nodes)
+    let gone = filter_labelled(by, test, nodes);
+    if gone == 0 {
+        relabel(by, nodes);
+    }
+    gone
 }

@@ -5,9 +5,9 @@ ghost use Rattle.layers.specs.Settings.{lent_setting};
 ghost use Rattle.layers.specs.Labels.{leg, arrival_finish, is_barred};
 ghost use Rattle.labels.specs.Passes.{fits};
 ghost use Rattle.filter.specs.Kept.{few};
-ghost use Rattle.filter.specs.Steps.{arc_count, sweep_steps, SweepDone};
+ghost use Rattle.filter.specs.Steps.{arc_count, sweep_steps, sweep_labelled_steps, SweepDone, SweepLabelledDone};
 
-use crate::redo::filter;
+use crate::redo::{filter, filter_labelled};
 use crate::test::{Arc, Test};
 use doors::{DoorSet, contains};
 use labels::room::has_room;
@@ -87,4 +87,30 @@ pub fn sweep<R: Rule, T: Tally>(
         values: PhantomData,
     };
     filter(by, &tests, nodes)
+}
+
+/// The same of records whose labels are those that this setting gives: if no arc goes, there is nothing to tidy and to label.
+pub fn sweep_labelled<R: Rule, T: Tally>(
+    by: &Setting<'_, R, T>,
+    nodes: &mut [Node<R::State, T::Value>],
+) -> usize
+    ensures steps { let by = lent_setting by.now (R.sense by.now.rule.now)
+        (T.sense by.now.tally.now) in
+        nodes.new ≡ (if fits by.round.n by.width (length nodes.old)
+        then sweep_labelled_steps by nodes.old else nodes.old) }
+    ensures counted { let n = by.now.round.now.n in
+        result ≡ (if fits n by.now.width (length nodes.old)
+        then arc_count n by.now.width nodes.old - arc_count n by.now.width nodes.new else 0) }
+    ensures words { let by = lent_setting by.now (R.sense by.now.rule.now)
+        (T.sense by.now.tally.now) in
+        SweepLabelledDone by nodes.old nodes.new result }
+{
+    if !has_room(by.round, by.width, nodes.len()) {
+        return 0;
+    }
+    let tests = SixTests {
+        rule: by.rule,
+        values: PhantomData,
+    };
+    filter_labelled(by, &tests, nodes)
 }

@@ -2,7 +2,7 @@
 ghost use Rattle.std.specs.Prelude.{◌≡◌, ◌+◌, ◌-◌, ◌*◌, ◌<◌, ◌≤◌, map, length, take, slice_index};
 ghost use Rattle.std.specs.List.{AllByRecursion};
 ghost use Rattle.layers.specs.Labels.{leg};
-ghost use Rattle.layers.specs.Targets.{at_door};
+ghost use Rattle.layers.specs.Targets.{at_door, with_targets};
 ghost use Rattle.tidying.specs.Counted.{arcs_of, arcs_within};
 ghost use Rattle.filter.specs.Kept.{HasLabel, after, kept_to, kept_node, kept_from};
 
@@ -10,7 +10,7 @@ use crate::test::{Arc, Test};
 use labels::leg::legs;
 use layers::node::Node;
 use round::table::Round;
-use tidying::count::count_nodes;
+use tidying::count::{count_nodes, count_of};
 
 /// A filter: the round and the width of the diagram, and the test.
 #[derive(Drop)]
@@ -37,6 +37,7 @@ fn door_left<F: Test>(
     u: &Node<F::State, F::Value>,
     legs: &[u16; 16],
     k: usize,
+    to: u8,
 ) -> u8
     requires layer_bound { at.now.layer ≤ 16 }
     requires left_bound { at.now.left ≤ 16 }
@@ -44,10 +45,8 @@ fn door_left<F: Test>(
     requires is_leg { slice_index legs.now k ≡ leg at.now.round.now u.now.label.down.lasts (k + 1) }
     requires fits { F.fits at.now.test.now u.now.label.down }
     ensures { let goes = F.goes at.now.test.now at.now.round.now in
-        result ≡ at_door (kept_to goes at.now.layer at.now.left at.now.next.now u.now) (k + 1)
-        (slice_index u.now.arcs.to k) }
+        result ≡ at_door (kept_to goes at.now.layer at.now.left at.now.next.now u.now) (k + 1) to }
 {
-    let to = u.arcs.to[k];
     let t = to as usize;
     if t == 0 || t > at.next.len() {
         return 0;
@@ -67,6 +66,26 @@ fn door_left<F: Test>(
     }
 }
 
+/// What is left of the targets of u.
+fn targets_left<F: Test>(
+    at: &Step<'_, F, F::State, F::Value>,
+    u: &Node<F::State, F::Value>,
+) -> [u8; 16]
+    requires layer_bound { at.now.layer ≤ 16 }
+    requires left_bound { at.now.left ≤ 16 }
+    requires fits { F.fits at.now.test.now u.now.label.down }
+    ensures left { let goes = F.goes at.now.test.now at.now.round.now in
+        with_targets u.now result ≡ kept_node goes at.now.layer at.now.left at.now.next.now u.now }
+    ensures sixteen { length u.now.arcs.to ≡ 16 }
+{
+    let legs = legs(at.round, u.label.down.lasts);
+    let mut to = u.arcs.to;
+    for (k, t) in to.iter_mut().enumerate() {
+        *t = door_left(at, u, &legs, k, *t);
+    }
+    to
+}
+
 /// Takes out the arcs of u that go, and answers how many.
 pub(crate) fn thin_node<F: Test>(
     at: &Step<'_, F, F::State, F::Value>,
@@ -78,20 +97,12 @@ pub(crate) fn thin_node<F: Test>(
     ensures left { let goes = F.goes at.now.test.now at.now.round.now in
         u.new ≡ kept_node goes at.now.layer at.now.left at.now.next.now u.old }
     ensures gone { result + arcs_of u.new ≡ arcs_of u.old }
+    ensures none { result ≡ 0 → u.new ≡ u.old }
     ensures few { result ≤ 16 }
 {
-    let legs = legs(at.round, u.label.down.lasts);
-    let mut to = [0u8; 16];
-    let mut gone = 0;
-    for k in 0..16 {
-        let left = door_left(at, u, &legs, k);
-        to[k] = left;
-        if left != u.arcs.to[k] {
-            gone += 1;
-        }
-    }
-    u.arcs.to = to;
-    gone
+    let before = count_of(u);
+    u.arcs.to = targets_left(at, u);
+    before - count_of(u)
 }
 
 /// Takes out the arcs of the nodes us of a layer that go, and answers how many.
@@ -106,6 +117,7 @@ fn thin_nodes<F: Test>(
     ensures left { let goes = F.goes at.now.test.now at.now.round.now in
         us.new ≡ map (kept_node goes at.now.layer at.now.left at.now.next.now) us.old }
     ensures gone { result + arcs_within us.new ≡ arcs_within us.old }
+    ensures none { result ≡ 0 → us.new ≡ us.old }
     ensures few { result ≤ 16 * length us.old }
 {
     let mut gone = 0;
@@ -137,6 +149,7 @@ pub(crate) fn take_from<F: Test>(
     ensures left { let goes = F.goes by.now.test.now by.now.round.now in
         nodes.new ≡ kept_from goes by.now.width layer left nodes.old }
     ensures gone { result + arcs_within nodes.new ≡ arcs_within nodes.old }
+    ensures none { result ≡ 0 → nodes.new ≡ nodes.old }
     ensures few { result ≤ 16 * (left * by.now.width) }
 {
     if left == 0 {

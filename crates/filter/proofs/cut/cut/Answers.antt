@@ -1,12 +1,11 @@
-use Rattle.std.proofs.Common.{◌≡◌, ◌*◌, Bool, true, false, ◌&&◌, length, take, sym, ap, ◌∙◌, subst}
+use Rattle.std.proofs.Common.{◌≡◌, ◌*◌, Bool, true, false, ◌&&◌, length, take, sym, ◌∙◌}
 use Rattle.std.proofs.lemmas.Bool.{cond-true, cond-false, and_parts, and_from, both_ways}
 use Rattle.layers.specs.Settings.{lent_setting}
-use Rattle.layers.specs.Shape.{IsShaped, IsTimely}
 use Rattle.layers.specs.Labels.{is_above_ceiling}
-use Rattle.layers.specs.Calls.{after_cut, arcs_lost}
+use Rattle.layers.specs.Calls.{after_cut}
 use Rattle.labels.specs.Passes.{fits}
 use Rattle.filter.specs.Steps.{timely, cut_steps}
-use Rattle.filter.proofs.FilterWords.{filter-words, filter-shaped, filter-timely, fewer-words}
+use Rattle.filter.proofs.FilterWords.{filter-words, filter-done}
 use Rattle.filter.proofs.Timely.{timely-all, timely-from}
 use Rattle.filter.proofs.cut.cut.Goals as goal
 
@@ -43,17 +42,8 @@ returns g c =
     let ys = c.filter.new.nodes in
     let q : Bool = fits n W (length xs) && timely (take (n * W) xs) in
     let on : q ≡ true = sym c.if-not-may_cut.ensures in
-    let long : length ys ≡ length xs = c.filter.auto.nodes in
     record {
       steps = c.filter.ensures.steps ∙ sym (cond-true q _ _ on);
       counted = c.filter.ensures.counted ∙ sym (cond-true q _ _ on);
-      words = λ fit s timely.
-          let all : ys ≡ after_cut by v xs = c.filter.ensures.steps ∙ filter-words by xs fit s goes in
-          let t : IsShaped n W ys = subst (IsShaped n W) (sym all) (filter-shaped by xs fit s goes) in
-          record {
-            records = all;
-            answer = c.filter.ensures.counted ∙ fewer-words by.round W xs ys fit long s t ∙ ap (arcs_lost n W xs) all;
-            shaped = t;
-            timely = subst (IsTimely n W) (sym all) (filter-timely by xs fit s goes);
-          };
+      words = λ fit s timely. filter-done by xs fit s goes ys c.filter.result c.filter.auto.nodes (c.filter.ensures.steps ∙ filter-words by xs fit s goes) c.filter.ensures.counted;
     }

@@ -1,29 +1,33 @@
-use Rattle.std.proofs.Common.{◌*◌, length, drop, ap, ◌∙◌, arith}
+use Rattle.std.proofs.Common.{◌≡◌, ◌*◌, true, false, length, take, sym, ap, ◌∙◌, arith}
+use Rattle.std.proofs.lemmas.Bool.{cond-true, cond-false, eq-eqb, ne_eqb}
 use Rattle.layers.specs.Settings.{lent_setting}
-use Rattle.labels.proofs.Rooms.{room-facts}
-use Rattle.filter.specs.Steps.{redone, filter_steps}
+use Rattle.labels.specs.Passes.{fits, relabelled}
 use Rattle.tidying.specs.Counted.{arcs_within}
-use Rattle.filter.proofs.Kept.{count-whole}
-use Rattle.filter.proofs.Relabelled.{filter-tail}
+use Rattle.filter.specs.Steps.{arc_count, none_goes, filter_steps, filter_labelled_steps}
+use Rattle.filter.proofs.Relabelled.{relabelled-count}
 use Rattle.filter.proofs.redo.filter.Goals as goal
 
-pub take_from-gone-requires : goal.take_from-gone-requires
-take_from-gone-requires g c =
-    let f = room-facts c.args.by.now.round.now.n c.args.by.now.width (length c.args.nodes.now) c.requires.room in
-    record { layer_bound = omega arith; width_in_bounds = omega (arith, f.enough); width_bound = f.high; fits = c.requires.fits }
-
-pub returns : goal.returns
-unfolding filter_steps
-returns g c =
+pub returns-then-gone-eq0 : goal.returns-then-gone-eq0
+unfolding filter_steps filter_labelled_steps arc_count
+returns-then-gone-eq0 g c =
     let by = lent_setting c.args.by.now (g.R.Rule.sense c.args.by.now.rule.now) (g.T.Tally.sense c.args.by.now.tally.now) in
     let n = by.round.n in
     let W = by.width in
     let xs = c.args.nodes.now in
-    let ys = c.take_from-gone.new.nodes in
-    let zs = c.redo.new.nodes in
-    let steps = c.redo.ensures.records ∙ ap (redone by) c.take_from-gone.ensures.left in
-    let tail = ap (λ ws. arcs_within (drop (n * W) ws)) steps ∙ filter-tail by (g.F.Test.goes c.args.test.now by.round) xs (omega (arith, (room-facts n W (length xs) c.requires.room).enough)) in
+    let ys = c.filter_labelled-gone.new.nodes in
+    let q = none_goes (g.F.Test.goes c.args.test.now by.round) n W xs in
+    let yes : q ≡ true = sym c.filter_labelled-gone.ensures.none ∙ eq-eqb _ 0 c.if-gone-eq0.true in
+    let room : fits n W (length ys) ≡ true = ap (fits n W) c.filter_labelled-gone.auto.nodes ∙ c.requires.room in
+    let is = c.relabel.ensures.passes ∙ cond-true (fits n W (length ys)) _ _ room ∙ ap (relabelled by) (c.filter_labelled-gone.ensures.steps ∙ cond-true q _ _ yes) in
     record {
-      steps = steps;
-      counted = omega (arith, count-whole n W xs, count-whole n W zs, c.take_from-gone.ensures.gone, c.redo.ensures.lost, tail);
+      steps = is ∙ sym (cond-true q _ _ yes);
+      counted = omega (arith, c.if-gone-eq0.true, relabelled-count by (n * W) xs, ap (λ zs. arcs_within (take (n * W) zs)) is);
     }
+
+pub returns-else-gone-eq0 : goal.returns-else-gone-eq0
+unfolding filter_steps filter_labelled_steps
+returns-else-gone-eq0 g c =
+    let by = lent_setting c.args.by.now (g.R.Rule.sense c.args.by.now.rule.now) (g.T.Tally.sense c.args.by.now.tally.now) in
+    let q = none_goes (g.F.Test.goes c.args.test.now by.round) by.round.n by.width c.args.nodes.now in
+    let no' : q ≡ false = sym c.filter_labelled-gone.ensures.none ∙ ne_eqb _ 0 c.if-gone-eq0.false in
+    record { steps = c.filter_labelled-gone.ensures.steps ∙ cond-false q _ _ no' ∙ sym (cond-false q _ _ no'); counted = c.filter_labelled-gone.ensures.counted }

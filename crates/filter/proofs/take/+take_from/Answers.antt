@@ -1,5 +1,5 @@
 use Rattle.std.specs.List.{AllByRecursion as All}
-use Rattle.std.proofs.Common.{◌*◌, subst, ◌≡◌, ℕ, suc, ◌-◌, ◌<◌, ◌≤◌, List, ◌++◌, map, length, take, drop, sym, ap, ◌∙◌, ap₂, add-one, arith}
+use Rattle.std.proofs.Common.{◌*◌, subst, ◌≡◌, ℕ, suc, ◌-◌, ◌<◌, ◌≤◌, List, ◌++◌, map, length, take, drop, sym, ap, ◌∙◌, ap₂, add-one, arith, take-append-drop}
 use Rattle.std.proofs.lemmas.List.{length-take, length-take-le}
 use Rattle.layers.specs.declared.node.Node.{Node}
 use Rattle.labels.proofs.Rests.{one_more, one-fits, rest-fits}
@@ -79,3 +79,10 @@ pub returns-clause-few : goal.returns-clause-few
 returns-clause-few g t c =
     let short = length-take c.count_nodes-many.result c.split_at_mut-us.result.0.now in
     omega (arith, short, one_more c.args.left c.args.by.now.width c.if-left-eq0.false, c.thin_nodes-here.ensures.few, c.split_at_mut-us.ensures.front_len, c.take_from-later.ensures.few)
+
+pub returns-clause-none : goal.returns-clause-none
+returns-clause-none g t c = λ none.
+    let parts = c.split_at_mut-us.ensures in
+    let k = c.count_nodes-many.result in
+    let row = c.split_at_mut-us.result.0.now in
+    rw (c.thin_nodes-here.ensures.none (omega (arith, none)), c.take_from-later.ensures.none (omega (arith, none)), take-append-drop k row, parts.front, parts.back) (take-append-drop c.args.by.now.width c.args.nodes.now)
