@@ -1,7 +1,7 @@
 -- On the records of a diagram the steps of refine and settled come to their definitions.
-use Rattle.std.proofs.Common.{◌≡◌, ℕ, zero, suc, ◌+◌, ◌-◌, ◌*◌, ◌<◌, ◌≤◌, Bool, true, cond, eqb, List, [], ◌++◌, map, length, get_or, drop, sym, refl, ap, ◌∙◌, subst, ap₂, arith}
+use Rattle.std.proofs.Common.{◌≡◌, ℕ, zero, suc, ◌+◌, ◌-◌, ◌*◌, ◌<◌, ◌≤◌, Bool, true, false, cond, eqb, ltb, List, [], ◌++◌, map, length, get_or, drop, add-zero, sym, refl, ap, ◌∙◌, subst, ap₂, arith}
 use Rattle.std.proofs.lemmas.List.{length-append, length-drop}
-use Rattle.std.proofs.lemmas.Bool.{cond_both}
+use Rattle.std.proofs.lemmas.Bool.{cond_both, true≢false}
 use Rattle.layers.specs.Lawful.{IsLawful}
 use Rattle.layers.specs.declared.node.Node.{Node}
 use Rattle.layers.specs.declared.refined.Refined.{Refined}
@@ -22,13 +22,13 @@ use Rattle.labels.proofs.Climbs.{up_of}
 use Rattle.labels.proofs.Laying.{Arranged, relabelled-lawful}
 use Rattle.labels.proofs.Lifts.{Lifted, lifted-has}
 use Rattle.labels.proofs.Rooms.{room-facts}
-use Rattle.filter.specs.Steps.{arc_count}
-use Rattle.filter.proofs.FilterWords.{proper, sweep-words, swept-shaped, swept-timely, shaped-count, fewer-words}
+use Rattle.filter.specs.Steps.{IsLabelled, arc_count, sweep_labelled_steps}
+use Rattle.filter.proofs.FilterWords.{proper, labelled-words, sweep-words, swept-shaped, swept-timely, shaped-count, fewer-words}
 use Rattle.split.specs.Steps.{node_count, layer_steps}
 use Rattle.split.proofs.ShapedNet.{known-shaped, count-at}
 use Rattle.split.proofs.LayerWords.{Done, layer-net}
 use Rattle.refine.proofs.Parts.{start-kept, layer-kept}
-use Rattle.refine.specs.Steps.{one_layer, some_layers, sweeps_out, refine_steps}
+use Rattle.refine.specs.Steps.{one_sweep, one_layer, some_layers, sweeps_out, refine_steps}
 use Rattle.layers.specs.Settings.{Setting}
 
 module _ {S V : Type 0} (by : Setting S V) (self : (s : S) → by.rule.same s s ≡ true) where
@@ -47,6 +47,22 @@ module _ {S V : Type 0} (by : Setting S V) (self : (s : S) → by.rule.same s s 
 
   abbrev later : Recs → Recs
   later xs = drop (n * by.width + 1) xs
+
+  -- a sweep is that of its definition, if the labels stand where they are said to be known
+  abbrev Known : Bool → Recs → Type 0
+  Known b xs = b ≡ true → IsLabelled by xs
+
+  once-words : (known : Bool) (xs : Recs) → fits n by.width (length xs) ≡ true → IsShaped n by.width xs → Known known xs → one_sweep by known xs ≡ after_sweep by xs
+  unfolding one_sweep sweep_labelled_steps after_sweep
+  once-words true xs fit s h = labelled-words by xs fit s (is_barred by.round by.rule) (h refl)
+  once-words false xs fit s h = sweep-words by xs fit s
+
+  -- records laid out anew are labelled
+  relaid-labelled : (xs : Recs) (Ls : Net) → fits n by.width (length xs) ≡ true → IsLawful n by.width Ls → IsLabelled by (records_with by xs Ls)
+  unfolding records_with
+  relaid-labelled xs Ls fit p =
+      let f = room-facts n by.width (length xs) fit in
+      rw (arcs-X by f.low (later xs) Ls p) (ap (λ (ys : Recs). labelled_records by Ls ++ ys) (later-stays by f.low (later xs) Ls p.deep))
 
   -- refining layer i, after a sweep of xs
   abbrev parts : ℕ → Recs → Bool × Recs
@@ -92,37 +108,40 @@ module _ {S V : Type 0} (by : Setting S V) (self : (s : S) → by.rule.same s s 
       let m : node_count (d * by.width + by.width) by.width X ≡ length (get_or Ls (suc d) []) = count-at n by.width X i lo hi ∙ ap (λ (j : ℕ). count_of by j X) (sym back) ∙ (at-X by f.low (later xs) (suc d) Ls p deep).2 in
       layer-kept by i deep X (start-kept by d deep f.low Ls X _ p (subst (λ (Ks : Net). Arranged by.width Ks X) is k.arranged) (ap (λ (ys : Recs). labelled_records by Ls ++ ys) (kept-later xs fit s)) room m)
 
-  layer-words : (i : ℕ) (xs : Recs) → fits n by.width (length xs) ≡ true → IsShaped n by.width xs → 1 ≤ i → i < n → one_layer by i xs ≡ parts i xs
+  layer-words : (i : ℕ) (xs : Recs) → fits n by.width (length xs) ≡ true → IsShaped n by.width xs → Known (ltb 1 i) xs → 1 ≤ i → i < n → one_layer by i xs ≡ parts i xs
   unfolding one_layer records_with
-  layer-words i xs fit s lo hi =
+  layer-words i xs fit s h' lo hi =
       let q = parts-done i xs fit s lo hi in
       let zs = (layer_steps by i (after_sweep by xs)).1 in
       let h = parts-stand i xs fit s lo hi in
       let laid = relabelled-lawful by q.left.net zs q.left.well q.left.holds in
       let room : fits n by.width (length zs) ≡ true = ap (fits n by.width) q.long ∙ unfold after_sweep in relaid-fits xs (left xs) fit (left-proper xs fit s).deep in
       let up = lifted-has by (room-facts n by.width (length xs) fit).low q.left.net zs q.left.well q.left.holds h.0 ∙ ap (map up_of) (sym laid) in
-      ap (λ (ys : Recs). ((layer_steps by i ys).0, below_steps by i (layer_steps by i ys).1)) (sweep-words by xs fit s)
+      ap (λ (ys : Recs). ((layer_steps by i ys).0, below_steps by i (layer_steps by i ys).1)) (once-words (ltb 1 i) xs fit s h')
       ∙ ap₂ (λ (b : Bool) (ys : Recs). (b, ys)) q.answer
       (below-stood by i zs room lo (omega arith) up h.1 ∙ laid ∙ ap (λ (ys : Recs). labelled_records by q.left.net ++ ys) (q.tail ∙ kept-later xs fit s) ∙ sym q.left.is)
 
   -- ---- all layers
-  layers-words : (k i : ℕ) (xs : Recs) → fits n by.width (length xs) ≡ true → IsShaped n by.width xs → 1 ≤ i → i + k ≤ n
+  layers-words : (k i : ℕ) (xs : Recs) → fits n by.width (length xs) ≡ true → IsShaped n by.width xs → Known (ltb 1 i) xs → 1 ≤ i → i + k ≤ n
       → (some_layers by k i xs ≡ refinement_from by k i xs) × IsShaped n by.width (refinement_from by k i xs).1 × (fits n by.width (length (refinement_from by k i xs).1) ≡ true)
+      × Known (ltb 1 (i + k)) (refinement_from by k i xs).1
   unfolding some_layers refinement_from
-  layers-words zero i xs fit s lo hi = (refl, s, fit)
-  layers-words (suc k) i xs fit s lo hi =
+  layers-words zero i xs fit s h lo hi = (refl, s, fit, λ e. h (ap (ltb 1) (sym (add-zero i)) ∙ e))
+  layers-words (suc k) i xs fit s h lo hi =
       let q = parts-done i xs fit s lo (omega arith) in
       let Y = (parts i xs).1 in
       let is : Y ≡ records_with by xs q.left.net = unfold records_with in q.left.is in
       let sY : IsShaped n by.width Y = rw is (relaid-shaped by (room-facts n by.width (length xs) fit).low xs q.left.net q.left.well) in
       let fY : fits n by.width (length Y) ≡ true = rw is (relaid-fits xs q.left.net fit q.left.well.deep) in
-      let ih = layers-words k (suc i) Y fY sY (omega arith) (omega arith) in
+      let lY : IsLabelled by Y = rw is (relaid-labelled xs q.left.net fit q.left.well) in
+      let ih = layers-words k (suc i) Y fY sY (λ e. lY) (omega arith) (omega arith) in
       let G : Bool × Recs → Refined × Recs = λ p. cond p.0 (Full i, p.1) (some_layers by k (suc i) p.1) in
-      let Good : Refined × Recs → Type 0 = λ z. IsShaped n by.width z.1 × (fits n by.width (length z.1) ≡ true) in
-      let good = cond_both (parts i xs).0 (Full i, Y) (refinement_from by k (suc i) Y) Good (λ _. (sY, fY)) (λ _. (ih.1, ih.2)) in (
-        ap G (layer-words i xs fit s lo (omega arith)) ∙ ap (λ (z : Refined × Recs). cond (parts i xs).0 (Full i, Y) z) ih.0,
+      let Good : Refined × Recs → Type 0 = λ z. IsShaped n by.width z.1 × (fits n by.width (length z.1) ≡ true) × Known (ltb 1 (i + suc k)) z.1 in
+      let good = cond_both (parts i xs).0 (Full i, Y) (refinement_from by k (suc i) Y) Good (λ _. (sY, fY, λ e. lY)) (λ _. (ih.1, ih.2, λ e. ih.3 (ap (ltb 1) (omega arith) ∙ e))) in (
+        ap G (layer-words i xs fit s h lo (omega arith)) ∙ ap (λ (z : Refined × Recs). cond (parts i xs).0 (Full i, Y) z) ih.0,
         good.0,
         good.1,
+        good.2,
       )
 
   -- ---- sweeps until nothing goes
@@ -134,16 +153,21 @@ module _ {S V : Type 0} (by : Setting S V) (self : (s : S) → by.rule.same s s 
   unfolding after_sweep
   swept-long xs fit s = relaid-long xs (left xs) fit (left-proper xs fit s).deep
 
-  out-words : (k : ℕ) (xs : Recs) → fits n by.width (length xs) ≡ true → IsShaped n by.width xs → (sweeps_out by k xs ≡ after_sweeps by k xs) × IsShaped n by.width (after_sweeps by k xs)
+  swept-labelled : (xs : Recs) → fits n by.width (length xs) ≡ true → IsShaped n by.width xs → IsLabelled by (after_sweep by xs)
+  unfolding after_sweep
+  swept-labelled xs fit s = relaid-labelled xs (left xs) fit (left-proper xs fit s)
+
+  out-words : (known : Bool) (k : ℕ) (xs : Recs) → fits n by.width (length xs) ≡ true → IsShaped n by.width xs → Known known xs
+      → (sweeps_out by known k xs ≡ after_sweeps by k xs) × IsShaped n by.width (after_sweeps by k xs)
   unfolding sweeps_out after_sweeps
-  out-words zero xs fit s = (refl, s)
-  out-words (suc k) xs fit s =
+  out-words known zero xs fit s h = (refl, s)
+  out-words known (suc k) xs fit s h =
       let Y = after_sweep by xs in
       let sY = swept-shaped by xs fit s in
-      let ih = out-words k Y (swept-fits xs fit s) sY in
-      let is = sweep-words by xs fit s in
+      let ih = out-words true k Y (swept-fits xs fit s) sY (λ e. swept-labelled xs fit s) in
+      let is = once-words known xs fit s h in
       let few : arc_count n by.width xs - arc_count n by.width Y ≡ sweep_answer by xs = fewer-words by.round by.width xs Y fit (swept-long xs fit s) s sY in (
-        ap (λ (ys : Recs). cond (eqb (arc_count n by.width xs - arc_count n by.width ys) 0) ys (sweeps_out by k ys)) is
+        ap (λ (ys : Recs). cond (eqb (arc_count n by.width xs - arc_count n by.width ys) 0) ys (sweeps_out by true k ys)) is
             ∙ ap₂ (λ (m : ℕ) (zs : Recs). cond (eqb m 0) Y zs) few ih.0,
         cond_both (eqb (sweep_answer by xs) 0) Y (after_sweeps by k Y) (IsShaped n by.width) (λ _. sY) (λ _. ih.1),
       )
@@ -168,21 +192,23 @@ module _ {S V : Type 0} (by : Setting S V) (self : (s : S) → by.rule.same s s 
     abbrev p : Refined × Recs
     p = refinement_from by (n - 1) 1 xs
 
-    all-layers : (some_layers by (n - 1) 1 xs ≡ p) × IsShaped n by.width p.1 × (fits n by.width (length p.1) ≡ true)
-    all-layers = layers-words (n - 1) 1 xs fit s (omega arith) (omega (arith, by.round.one))
+    all-layers : (some_layers by (n - 1) 1 xs ≡ p) × IsShaped n by.width p.1 × (fits n by.width (length p.1) ≡ true) × Known (ltb 1 n) p.1
+    all-layers =
+        let a = layers-words (n - 1) 1 xs fit s (λ e. absurd (true≢false (sym e))) (omega arith) (omega (arith, by.round.one)) in
+        (a.0, a.1, a.2, λ e. a.3 (ap (ltb 1) (omega (arith, by.round.one)) ∙ e))
 
     pub refine-words : refine_steps by xs ≡ refinement by xs
     unfolding refine_steps refinement
     refine-words =
         let a = all-layers in
-        let G : Refined × Recs → Refined × Recs = λ p. (p.0, sweeps_out by (suc (arc_count n by.width p.1)) p.1) in
+        let G : Refined × Recs → Refined × Recs = λ p. (p.0, sweeps_out by (ltb 1 n) (suc (arc_count n by.width p.1)) p.1) in
         ap G a.0
-        ∙ ap (λ (m : ℕ). (p.0, sweeps_out by (suc m) p.1)) (shaped-count by.round by.width p.1 a.2 a.1)
-        ∙ ap (λ (ys : Recs). (p.0, ys)) (out-words (suc (count_arcs (arcs n by.width p.1))) p.1 a.2 a.1).0
+        ∙ ap (λ (m : ℕ). (p.0, sweeps_out by (ltb 1 n) (suc m) p.1)) (shaped-count by.round by.width p.1 a.2 a.1)
+        ∙ ap (λ (ys : Recs). (p.0, ys)) (out-words (ltb 1 n) (suc (count_arcs (arcs n by.width p.1))) p.1 a.2 a.1 a.3).0
 
     pub refined-shaped : IsShaped n by.width (refinement by xs).1
     unfolding refinement
-    refined-shaped = let a = all-layers in (out-words (suc (count_arcs (arcs n by.width p.1))) p.1 a.2 a.1).1
+    refined-shaped = let a = all-layers in (out-words (ltb 1 n) (suc (count_arcs (arcs n by.width p.1))) p.1 a.2 a.1 a.3).1
 
     pub refined-timely : IsTimely n by.width (refinement by xs).1
     unfolding refinement

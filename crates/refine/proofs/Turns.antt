@@ -4,8 +4,8 @@ use Rattle.std.proofs.lemmas.Bool.{cond-true, cond-false, eq-eqb, ne_eqb}
 use Rattle.layers.specs.declared.node.Node.{Node}
 use Rattle.layers.specs.declared.refined.Refined.{Refined}
 use Rattle.layers.specs.declared.refined.Refined.TheVariants.{Whole, Full}
-use Rattle.filter.specs.Steps.{arc_count, sweep_steps}
-use Rattle.refine.specs.Steps.{one_layer, some_layers, sweeps_out}
+use Rattle.filter.specs.Steps.{arc_count}
+use Rattle.refine.specs.Steps.{one_sweep, one_layer, some_layers, sweeps_out}
 use Rattle.layers.specs.Settings.{Setting}
 
 module _ {S V : Type 0} (by : Setting S V) where
@@ -28,23 +28,23 @@ module _ {S V : Type 0} (by : Setting S V) where
   unfolding some_layers
   layers-none k i xs e = ap (λ (m : ℕ). some_layers by m i xs) e
 
-  sweeps-more : (k j : ℕ) (xs : List (Node S V)) → k ≡ suc j → sweeps_out by k xs ≡ cond (eqb (arc_count by.round.n by.width xs - arc_count by.round.n by.width (sweep_steps by xs)) 0) (sweep_steps by xs) (sweeps_out by j (sweep_steps by xs))
+  sweeps-more : (known : Bool) (k j : ℕ) (xs : List (Node S V)) → k ≡ suc j → sweeps_out by known k xs ≡ cond (eqb (arc_count by.round.n by.width xs - arc_count by.round.n by.width (one_sweep by known xs)) 0) (one_sweep by known xs) (sweeps_out by true j (one_sweep by known xs))
   unfolding sweeps_out
-  sweeps-more k j xs e = ap (λ (m : ℕ). sweeps_out by m xs) e
+  sweeps-more known k j xs e = ap (λ (m : ℕ). sweeps_out by known m xs) e
 
   -- a sweep that took out m arcs
-  took : (xs ys : List (Node S V)) (m : ℕ) → ys ≡ sweep_steps by xs → m ≡ arc_count by.round.n by.width xs - arc_count by.round.n by.width ys → arc_count by.round.n by.width xs - arc_count by.round.n by.width (sweep_steps by xs) ≡ m
-  took xs ys m is count = ap (λ (zs : List (Node S V)). arc_count by.round.n by.width xs - arc_count by.round.n by.width zs) (sym is) ∙ sym count
+  took : (known : Bool) (xs ys : List (Node S V)) (m : ℕ) → ys ≡ one_sweep by known xs → m ≡ arc_count by.round.n by.width xs - arc_count by.round.n by.width ys → arc_count by.round.n by.width xs - arc_count by.round.n by.width (one_sweep by known xs) ≡ m
+  took known xs ys m is count = ap (λ (zs : List (Node S V)). arc_count by.round.n by.width xs - arc_count by.round.n by.width zs) (sym is) ∙ sym count
 
-  pub sweeps-done : (k j : ℕ) (xs ys : List (Node S V)) (m : ℕ) → k ≡ suc j → ys ≡ sweep_steps by xs → m ≡ arc_count by.round.n by.width xs - arc_count by.round.n by.width ys → m ≡ 0 → ys ≡ sweeps_out by k xs
-  sweeps-done k j xs ys m e is count none =
-      is ∙ sym (sweeps-more k j xs e ∙ cond-true (eqb (arc_count by.round.n by.width xs - arc_count by.round.n by.width (sweep_steps by xs)) 0) _ _ (eq-eqb _ 0 (took xs ys m is count ∙ none)))
+  pub sweeps-done : (known : Bool) (k j : ℕ) (xs ys : List (Node S V)) (m : ℕ) → k ≡ suc j → ys ≡ one_sweep by known xs → m ≡ arc_count by.round.n by.width xs - arc_count by.round.n by.width ys → m ≡ 0 → ys ≡ sweeps_out by known k xs
+  sweeps-done known k j xs ys m e is count none =
+      is ∙ sym (sweeps-more known k j xs e ∙ cond-true (eqb (arc_count by.round.n by.width xs - arc_count by.round.n by.width (one_sweep by known xs)) 0) _ _ (eq-eqb _ 0 (took known xs ys m is count ∙ none)))
 
-  pub sweeps-next : (k j : ℕ) (xs ys : List (Node S V)) (m : ℕ) → k ≡ suc j → ys ≡ sweep_steps by xs → m ≡ arc_count by.round.n by.width xs - arc_count by.round.n by.width ys → (m ≡ 0 → ⊥) → sweeps_out by j ys ≡ sweeps_out by k xs
-  sweeps-next k j xs ys m e is count some =
-      ap (sweeps_out by j) is
-      ∙ sym (sweeps-more k j xs e ∙ cond-false (eqb (arc_count by.round.n by.width xs - arc_count by.round.n by.width (sweep_steps by xs)) 0) _ _ (ne_eqb _ 0 (λ z. some (sym (took xs ys m is count) ∙ z))))
+  pub sweeps-next : (known : Bool) (k j : ℕ) (xs ys : List (Node S V)) (m : ℕ) → k ≡ suc j → ys ≡ one_sweep by known xs → m ≡ arc_count by.round.n by.width xs - arc_count by.round.n by.width ys → (m ≡ 0 → ⊥) → sweeps_out by true j ys ≡ sweeps_out by known k xs
+  sweeps-next known k j xs ys m e is count some =
+      ap (sweeps_out by true j) is
+      ∙ sym (sweeps-more known k j xs e ∙ cond-false (eqb (arc_count by.round.n by.width xs - arc_count by.round.n by.width (one_sweep by known xs)) 0) _ _ (ne_eqb _ 0 (λ z. some (sym (took known xs ys m is count) ∙ z))))
 
-  pub sweeps-none : (k : ℕ) (xs : List (Node S V)) → k ≡ 0 → sweeps_out by k xs ≡ xs
+  pub sweeps-none : (known : Bool) (k : ℕ) (xs : List (Node S V)) → k ≡ 0 → sweeps_out by known k xs ≡ xs
   unfolding sweeps_out
-  sweeps-none k xs e = ap (λ (m : ℕ). sweeps_out by m xs) e
+  sweeps-none known k xs e = ap (λ (m : ℕ). sweeps_out by known m xs) e

@@ -1,12 +1,12 @@
 //! Refine: from layer to layer a sweep and all parts, then sweeps until nothing is left to take out.
-ghost use Rattle.std.specs.Prelude.{◌≡◌, suc, ◌+◌, ◌-◌, ◌*◌, ◌<◌, ◌≤◌, true, length, if◌then◌else◌};
+ghost use Rattle.std.specs.Prelude.{◌≡◌, suc, ◌+◌, ◌-◌, ◌*◌, ◌<◌, ◌≤◌, true, length, nat_lt, if◌then◌else◌};
 ghost use Rattle.layers.specs.Settings.{lent_setting};
 ghost use Rattle.labels.specs.Passes.{fits};
 ghost use Rattle.filter.specs.Steps.{arc_count};
 ghost use Rattle.refine.specs.Answers.{IsInnerIfFull};
-ghost use Rattle.refine.specs.Steps.{one_layer, some_layers, sweeps_out, refine_steps, RefineDone};
+ghost use Rattle.refine.specs.Steps.{one_sweep, one_layer, some_layers, sweeps_out, refine_steps, RefineDone};
 
-use filter::sweep::sweep;
+use filter::sweep::{sweep, sweep_labelled};
 use labels::relabel::relabel_below;
 use labels::room::has_room;
 use layers::node::Node;
@@ -16,6 +16,27 @@ use rules::rule::Rule;
 use split::parting::part_layer;
 use tallies::tally::Tally;
 use tidying::count::count_arcs;
+
+/// A sweep; `known` says that the labels are known to be those of this setting.
+#[tactic(auto, unfolding(crate::specs::Steps::one_sweep))]
+fn sweep_once<R: Rule, T: Tally>(
+    by: &Setting<'_, R, T>,
+    nodes: &mut [Node<R::State, T::Value>],
+    known: bool,
+) -> usize
+    requires { fits by.now.round.now.n by.now.width (length nodes.old) ≡ true }
+    ensures records { let by = lent_setting by.now (R.sense by.now.rule.now)
+        (T.sense by.now.tally.now) in
+        nodes.new ≡ one_sweep by known nodes.old }
+    ensures counted { let n = by.now.round.now.n in
+        result ≡ arc_count n by.now.width nodes.old - arc_count n by.now.width nodes.new }
+{
+    if known {
+        sweep_labelled(by, nodes)
+    } else {
+        sweep(by, nodes)
+    }
+}
 
 /// One layer: a sweep, then all its parts on arcs alone, then the labels that these alter: the downward ones from this layer
 /// on. Answers whether it was full.
@@ -32,7 +53,7 @@ fn refine_layer<R: Rule, T: Tally>(
         (T.sense by.now.tally.now) in
         nodes.new ≡ (one_layer by i nodes.old).1 }
 {
-    sweep(by, nodes);
+    sweep_once(by, nodes, i > 1);
     let full = part_layer(by, nodes, i);
     relabel_below(by, nodes, i);
     full
@@ -59,17 +80,21 @@ fn refine_layers<R: Rule, T: Tally>(
     Refined::Whole
 }
 
-/// Sweeps until one takes out nothing: each but the last takes out an arc.
+/// Sweeps until one takes out nothing: each but the last takes out an arc. The labels are known once a layer is refined, or
+/// a sweep is made.
 fn sweep_out<R: Rule, T: Tally>(by: &Setting<'_, R, T>, nodes: &mut [Node<R::State, T::Value>])
     requires { fits by.now.round.now.n by.now.width (length nodes.old) ≡ true }
     ensures { let by = lent_setting by.now (R.sense by.now.rule.now) (T.sense by.now.tally.now) in
-        nodes.new ≡ sweeps_out by (suc (arc_count by.round.n by.width nodes.old)) nodes.old }
+        nodes.new ≡ sweeps_out by (nat_lt 1 by.round.n)
+        (suc (arc_count by.round.n by.width nodes.old)) nodes.old }
 {
     let most = count_arcs(by.round, nodes, by.width);
+    let mut known = by.round.n > 1;
     for turn in 0..=most {
-        if sweep(by, nodes) == 0 {
+        if sweep_once(by, nodes, known) == 0 {
             return;
         }
+        known = true;
     }
 }
 

@@ -1,4 +1,5 @@
 use Rattle.std.proofs.Common.{◌≡◌, suc, ◌-◌, true, List, length, sym, ap, ◌∙◌, subst}
+use Rattle.std.specs.Prelude.{nat_lt}
 use Rattle.layers.specs.Settings.{lent_setting}
 use Rattle.std.proofs.lemmas.Bool.{cond-true}
 use Rattle.layers.specs.declared.node.Node.{Node}
@@ -21,7 +22,7 @@ returns g c =
     let yes : fits by.round.n by.width (length xs) ≡ true = sym c.if-not-has_room.ensures in
     let p = some_layers by (by.round.n - 1) 1 xs in
     let left : c.refine_layers-answer.new.nodes ≡ p.1 = c.refine_layers-answer.ensures.records in
-    let is : ys ≡ (refine_steps by xs).1 = c.sweep_out.ensures ∙ ap (λ (zs : List (Node g.row.R-State.Denot g.row.T-Value.Denot)). sweeps_out by (suc (arc_count by.round.n by.width zs)) zs) left in
+    let is : ys ≡ (refine_steps by xs).1 = c.sweep_out.ensures ∙ ap (λ (zs : List (Node g.row.R-State.Denot g.row.T-Value.Denot)). sweeps_out by (nat_lt 1 by.round.n) (suc (arc_count by.round.n by.width zs)) zs) left in
     let said : c.refine_layers-answer.result ≡ (refine_steps by xs).0 = c.refine_layers-answer.ensures.answer in
     record {
       steps = is ∙ sym (cond-true (fits by.round.n by.width (length xs)) _ _ yes);
