@@ -1,7 +1,6 @@
 -- A filter takes out arcs and adds none: none goes exactly if as many are left.
 use Rattle.std.proofs.Common.{◌≡◌, ℕ, zero, suc, ◌+◌, ◌-◌, ◌*◌, ◌<◌, ◌≤◌, ◌≢◌, Bool, true, false, eqb, List, [], ◌∷◌, ◌++◌, map, length, get_or, take, drop, Option, ◌⊎◌, inl, inr, refl, ap, ◌∙◌, arith, take-append-drop, sym}
-use Rattle.std.specs.Cmp.{both_ways}
-use Rattle.std.proofs.lemmas.Bool.{eqb-true, eqb-false, eq-eqb, ne_eqb}
+use Rattle.std.proofs.lemmas.Bool.{eqb-true, eqb-false}
 use Rattle.std.proofs.lemmas.Bool.Decides.{nat_tests}
 use Rattle.std.proofs.lemmas.List.{map-append, take_more}
 use Rattle.layers.specs.declared.node.Node.{Node}
@@ -22,10 +21,10 @@ use Rattle.filter.proofs.Layering.{kept-more}
 
 -- ---- sums that are the same
 pub sums-same : (a b x y : ℕ) → a + y ≡ b + x → eqb a b ≡ eqb x y
-sums-same a b x y e = both_ways (eqb a b) (eqb x y) (λ h. eq-eqb x y (let z = eqb-true a b h in omega arith)) (λ h. eq-eqb a b (let z = eqb-true x y h in omega arith))
+sums-same a b x y e = grind (arith, nat_tests)
 
 pub sums-less : (x y : ℕ) → x < y → false ≡ eqb x y
-sums-less x y lt = sym (ne_eqb x y (λ e. absurd (omega arith)))
+sums-less x y lt = grind (arith, nat_tests)
 
 -- ---- nodes
 module _ {S V : Type 0} where

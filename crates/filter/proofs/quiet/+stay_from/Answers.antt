@@ -1,5 +1,4 @@
-use Rattle.std.specs.List.{AllByRecursion as All}
-use Rattle.std.proofs.Common.{subst, ℕ, eqb, ◌-◌, ◌*◌, List, map, length, take, sym, refl, ap, ◌∙◌, ap₂, add-one, arith}
+use Rattle.std.proofs.Common.{ℕ, eqb, ◌-◌, List, map, length, sym, refl, ap, ◌∙◌, ap₂, add-one, arith}
 use Rattle.std.proofs.lemmas.Bool.{eq-eqb}
 use Rattle.layers.specs.declared.node.Node.{Node}
 use Rattle.layers.specs.Records.{nodes_in}
@@ -7,21 +6,18 @@ use Rattle.labels.proofs.Rests.{rest-fits}
 use Rattle.tidying.specs.Counted.{arcs_within}
 use Rattle.filter.specs.Kept.{HasLabel, kept_node, kept_from}
 use Rattle.filter.proofs.Kept.{stay-more, stay-less}
-use Rattle.filter.proofs.Layering.{all-layers, all-first}
+use Rattle.filter.proofs.Layering.{fits_here, fits_later}
 use Rattle.filter.proofs.quiet.+stay_from.Goals as goal
 
 pub nodes_stay-requires-clause-fits : goal.nodes_stay-requires-clause-fits
 nodes_stay-requires-clause-fits g t c =
-    let P = HasLabel (g.F.Test.fits c.args.by.now.test.now) in
-    all-first P c.count_nodes-many.result c.split_at.result.0.now
-    (subst (All P) (sym c.split_at.ensures.front) (all-layers P c.args.by.now.width c.args.left c.args.nodes.now c.if-left-eq0.false c.requires.fits).0)
+    fits_here (HasLabel (g.F.Test.fits c.args.by.now.test.now)) c.args.by.now.width c.args.left _ c.args.nodes.now _ c.if-left-eq0.false c.split_at.ensures.front c.requires.fits
 
 pub stay_from-requires : goal.stay_from-requires
 stay_from-requires g t c κs within =
     let ne = c.if-left-eq0.false in
-    let P = HasLabel (g.F.Test.fits c.args.by.now.test.now) in
     let rest = rest-fits c.args.left c.args.by.now.width (length c.args.nodes.now) ne c.requires.width_in_bounds in
-    let later = subst (λ (us : List (Node g.row.F-State.Denot g.row.F-Value.Denot)). All P (take ((c.args.left - 1) * c.args.by.now.width) us)) (sym c.split_at.ensures.back) (all-layers P c.args.by.now.width c.args.left c.args.nodes.now ne c.requires.fits).1 in
+    let later = fits_later (HasLabel (g.F.Test.fits c.args.by.now.test.now)) c.args.by.now.width c.args.left c.args.nodes.now _ ne c.split_at.ensures.back c.requires.fits in
     (omega arith, (within.0, (within.1.0, (within.1.1, (omega (arith, c.requires.layer_bound), (omega (arith, rest, c.split_at.ensures.back_len), later))))))
 
 pub returns-then-left-eq0 : goal.returns-then-left-eq0

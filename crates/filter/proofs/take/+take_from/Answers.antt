@@ -1,5 +1,4 @@
-use Rattle.std.specs.List.{AllByRecursion as All}
-use Rattle.std.proofs.Common.{◌*◌, subst, ◌≡◌, ℕ, suc, ◌-◌, List, ◌++◌, map, length, take, drop, sym, ap, ◌∙◌, ap₂, add-one, arith, take-append-drop}
+use Rattle.std.proofs.Common.{◌≡◌, ℕ, suc, ◌-◌, List, ◌++◌, map, length, take, drop, sym, ap, ◌∙◌, ap₂, add-one, arith, take-append-drop}
 use Rattle.std.proofs.lemmas.List.{length-take}
 use Rattle.layers.specs.declared.node.Node.{Node}
 use Rattle.labels.proofs.Rests.{rest-fits}
@@ -7,7 +6,7 @@ use Rattle.tidying.specs.InUse.{on_nodes}
 use Rattle.tidying.proofs.InUse.{pass-done}
 use Rattle.tidying.proofs.Targets.{layer-less}
 use Rattle.filter.specs.Kept.{HasLabel, kept_node, kept_from}
-use Rattle.filter.proofs.Layering.{few_records, kept-more, all-layers, all-first}
+use Rattle.filter.proofs.Layering.{few_records, kept-more, fits_here, fits_later}
 use Rattle.filter.proofs.take.+take_from.Goals as goal
 
 pub returns-then-left-eq0-clause-left : goal.returns-then-left-eq0-clause-left
@@ -18,16 +17,13 @@ returns-then-left-eq0-clause-left g t c =
 
 pub thin_nodes-here-requires-clause-fits : goal.thin_nodes-here-requires-clause-fits
 thin_nodes-here-requires-clause-fits g t c =
-    let P = HasLabel (g.F.Test.fits c.args.by.now.test.now) in
-    all-first P c.count_nodes-many.result c.split_at_mut-us.result.0.now
-    (subst (All P) (sym c.split_at_mut-us.ensures.front) (all-layers P c.args.by.now.width c.args.left c.args.nodes.now c.if-left-eq0.false c.requires.fits).0)
+    fits_here (HasLabel (g.F.Test.fits c.args.by.now.test.now)) c.args.by.now.width c.args.left _ c.args.nodes.now _ c.if-left-eq0.false c.split_at_mut-us.ensures.front c.requires.fits
 
 pub take_from-later-requires : goal.take_from-later-requires
 take_from-later-requires g t c κs within =
     let ne = c.if-left-eq0.false in
-    let P = HasLabel (g.F.Test.fits c.args.by.now.test.now) in
     let rest = rest-fits c.args.left c.args.by.now.width (length c.args.nodes.now) ne c.requires.width_in_bounds in
-    let later = subst (λ (us : List (Node g.row.F-State.Denot g.row.F-Value.Denot)). All P (take ((c.args.left - 1) * c.args.by.now.width) us)) (sym c.split_at_mut-us.ensures.back) (all-layers P c.args.by.now.width c.args.left c.args.nodes.now ne c.requires.fits).1 in
+    let later = fits_later (HasLabel (g.F.Test.fits c.args.by.now.test.now)) c.args.by.now.width c.args.left c.args.nodes.now _ ne c.split_at_mut-us.ensures.back c.requires.fits in
     (omega arith, (within.0, (within.1.0, (within.1.1, (omega (arith, c.requires.layer_bound), (omega (arith, rest, c.split_at_mut-us.ensures.back_len), (c.requires.width_bound, later)))))))
 
 pub returns-clause-left : goal.returns-clause-left
