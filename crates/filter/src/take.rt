@@ -20,8 +20,8 @@ pub(crate) struct Filter<'a, F> {
     pub(crate) test: &'a F,
 }
 
-/// A layer that is filtered: the round and the test, the layer's number, how many layers of arcs there are from it to the end, and
-/// the records after it.
+/// A layer that is filtered: the round and the test, the layer's number, how many layers of arcs
+/// there are from it to the end, and the records after it.
 #[derive(Drop)]
 pub(crate) struct Step<'a, F, S, V> {
     pub(crate) round: &'a Round,
@@ -31,7 +31,8 @@ pub(crate) struct Step<'a, F, S, V> {
     pub(crate) next: &'a [Node<S, V>],
 }
 
-/// What is left of u's arc by the door k + 1, where `legs` are those of u; one that leads past the list goes.
+/// What is left of u's arc by the door k + 1, where `legs` are those of u; one that leads past the
+/// list goes.
 fn door_left<F: Test>(
     at: &Step<'_, F, F::State, F::Value>,
     u: &Node<F::State, F::Value>,
