@@ -1,5 +1,5 @@
 -- One arc of a filtered layer.
-use Rattle.std.proofs.Common.{◌≡◌, ℕ, zero, suc, ◌+◌, ◌-◌, ◌<◌, ◌≤◌, Bool, cond, List, length, get_or, Some, None, Option, ◌≢◌, ◌⊎◌, inl, inr, ltb, sym, refl, ap, ◌∙◌, arith}
+use Rattle.std.proofs.Common.{◌≡◌, ℕ, zero, suc, ◌-◌, ◌<◌, ◌≤◌, Bool, cond, List, length, get_or, Some, None, Option, ◌⊎◌, inl, inr, ltb, sym, refl, ap, ◌∙◌, arith}
 use Rattle.std.proofs.lemmas.Bool.{cond_both, lt-ltb}
 use Rattle.std.proofs.lemmas.Bool.Decides.{nat_tests}
 use Rattle.std.proofs.lemmas.List.{get_or-map}
@@ -8,7 +8,6 @@ use Rattle.layers.specs.declared.node.Down.{Down}
 use Rattle.layers.specs.declared.node.Up.{Up}
 use Rattle.layers.specs.Records.{ups_in}
 use Rattle.layers.specs.Targets.{at_door}
-use Rattle.tidying.proofs.Targets.{one_if}
 use Rattle.filter.specs.Kept.{kept_to}
 
 module _ {S V : Type 0} (goes : ℕ → ℕ → ℕ → Option (Down S V) → Option Up → Bool) (i h : ℕ) (vs : List (Node S V)) (u : Node S V) (j : ℕ) where
@@ -35,9 +34,3 @@ module _ {S V : Type 0} (goes : ℕ → ℕ → ℕ → Option (Down S V) → Op
   unfolding kept_to
   left-or-none zero = inl refl
   left-or-none (suc b) = cond_both (ltb b (length vs)) _ 0 (λ s. (s ≡ 0) ⊎ (s ≡ suc b)) (λ e. cond_both (goes i h j (Some u.label.down) (get_or (ups_in vs) b None)) 0 (suc b) (λ s. (s ≡ 0) ⊎ (s ≡ suc b)) (λ g. inl refl) (λ g. inr refl)) (λ e. inl refl)
-
--- so an arc that does not stay is one less
-pub one-less : (s t : ℕ) → (s ≡ 0) ⊎ (s ≡ t) → s ≢ t → one_if s + 1 ≡ one_if t
-one-less s t (inr e) ne = absurd (ne e)
-one-less s zero (inl e) ne = absurd (ne e)
-one-less s (suc b) (inl e) ne = grind (arith, nat_tests)

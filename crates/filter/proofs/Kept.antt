@@ -1,7 +1,6 @@
 -- A filter takes out arcs and adds none: none goes exactly if as many are left.
 use Rattle.std.proofs.Common.{◌≡◌, ℕ, zero, suc, ◌+◌, ◌-◌, ◌*◌, ◌<◌, ◌≤◌, ◌≢◌, Bool, true, false, eqb, List, [], ◌∷◌, ◌++◌, map, length, get_or, take, drop, Option, ◌⊎◌, inl, inr, refl, ap, ◌∙◌, arith, take-append-drop, sym}
-use Rattle.std.specs.Cmp.{both_ways}
-use Rattle.std.proofs.lemmas.Bool.{eqb-true, eqb-false, eq-eqb, ne_eqb}
+use Rattle.std.proofs.lemmas.Bool.{eqb-true, eqb-false}
 use Rattle.std.proofs.lemmas.Bool.Decides.{nat_tests}
 use Rattle.std.proofs.lemmas.List.{map-append, take_more}
 use Rattle.layers.specs.declared.node.Node.{Node}
@@ -11,11 +10,10 @@ use Rattle.layers.specs.Net.{each_door, count_doors}
 use Rattle.layers.specs.Records.{nodes_in}
 use Rattle.layers.specs.Targets.{targets, with_targets, redirected}
 use Rattle.layers.proofs.Tied.{each_door-length}
-use Rattle.labels.specs.Passes.{part}
 use Rattle.tidying.specs.Counted.{arcs_of, arcs_within}
 use Rattle.tidying.proofs.InUse.{nodes-first}
 use Rattle.tidying.proofs.Targets.{arcs-append, arcs-cons, length-targets, targets_read}
-use Rattle.filter.specs.Kept.{after, kept_to, kept_node, kept_from}
+use Rattle.filter.specs.Kept.{kept_to, kept_node, kept_from}
 use Rattle.filter.specs.Steps.{arc_count, none_goes}
 use Rattle.filter.proofs.Doors.{left-or-none}
 use Rattle.filter.proofs.KeptNet.{kept-tail}
@@ -23,10 +21,10 @@ use Rattle.filter.proofs.Layering.{kept-more}
 
 -- ---- sums that are the same
 pub sums-same : (a b x y : ℕ) → a + y ≡ b + x → eqb a b ≡ eqb x y
-sums-same a b x y e = both_ways (eqb a b) (eqb x y) (λ h. eq-eqb x y (let z = eqb-true a b h in omega arith)) (λ h. eq-eqb a b (let z = eqb-true x y h in omega arith))
+sums-same a b x y e = grind (arith, nat_tests)
 
 pub sums-less : (x y : ℕ) → x < y → false ≡ eqb x y
-sums-less x y lt = sym (ne_eqb x y (λ e. absurd (omega arith)))
+sums-less x y lt = grind (arith, nat_tests)
 
 -- ---- nodes
 module _ {S V : Type 0} where
@@ -88,7 +86,7 @@ module _ {S V : Type 0} (goes : ℕ → ℕ → ℕ → Option (Down S V) → Op
 
   module _ (w i left : ℕ) (xs : List (Node S V)) where
     abbrev F : Node S V → Node S V
-    F = kept_node goes i left (part w (after w (left - 1)) xs)
+    F = kept_node goes i left (drop w xs)
 
     abbrev N : List (Node S V)
     N = nodes_in (take w xs)
@@ -112,7 +110,7 @@ module _ {S V : Type 0} (goes : ℕ → ℕ → ℕ → Option (Down S V) → Op
   kept-fewer w i (suc k) xs =
       let n : suc k - 1 ≡ k = omega arith in
       let later : arcs_within (kept_from goes w (suc i) (suc k - 1) (drop w xs)) ≤ arcs_within (drop w xs) = rw n (kept-fewer w (suc i) k (drop w xs)) in
-      omega (arith, whole-parts w i (suc k) xs, kept-parts w i (suc k) xs (omega arith), mapped-fewer (F w i (suc k) xs) (node-fewer i (suc k) (part w (after w (suc k - 1)) xs)) (N w i (suc k) xs), later)
+      omega (arith, whole-parts w i (suc k) xs, kept-parts w i (suc k) xs (omega arith), mapped-fewer (F w i (suc k) xs) (node-fewer i (suc k) (drop w xs)) (N w i (suc k) xs), later)
 
   module _ (w i left : ℕ) (xs : List (Node S V)) (ne : left ≢ 0) where
     abbrev later : List (Node S V)
@@ -130,7 +128,7 @@ module _ {S V : Type 0} (goes : ℕ → ℕ → ℕ → Option (Down S V) → Op
           whole-parts w i left xs,
           kept-parts w i left xs ne,
           kept-fewer w (suc i) (left - 1) (drop w xs),
-          mapped-fewer (F w i left xs) (node-fewer i left (part w (after w (left - 1)) xs)) (N w i left xs),
+          mapped-fewer (F w i left xs) (node-fewer i left (drop w xs)) (N w i left xs),
           eqb-false (arcs_within (map (F w i left xs) (N w i left xs))) (arcs_within (N w i left xs)) (sym here),
         ))
 

@@ -1,7 +1,7 @@
 -- Taking out arcs on the flat list comes to taking them out of the net.
 use Rattle.std.proofs.Common.{◌≡◌, ℕ, zero, suc, ◌+◌, ◌*◌, ◌<◌, ◌≤◌, Bool, cond, List, [], ◌∷◌, ◌++◌, map, length, get_or, take, drop, Some, None, Option, sym, refl, ap, ◌∙◌, subst, ap₂, suc-mul, arith, take-append-drop}
 use Rattle.std.proofs.lemmas.Bool.{lt-ltb}
-use Rattle.std.proofs.lemmas.List.{get_or-drop, get_or-map, get_or_past, length-map, map-append, take_at, drop_at, drop-drop, length-append, length-drop, length-take-le}
+use Rattle.std.proofs.lemmas.List.{get_or-drop, get_or-map, get_or_past, length-map, map-append, take_at, drop_at, drop-drop, length-append, length-drop, length-take, get_or-take, length-take-le}
 use Rattle.layers.specs.declared.node.Arcs.{Arcs}
 use Rattle.layers.specs.declared.node.Down.{Down}
 use Rattle.layers.specs.declared.node.Node.{Node}
@@ -13,13 +13,12 @@ use Rattle.layers.specs.Calls.{kept_arcs, labels_in}
 use Rattle.layers.proofs.Shaped.{standing-at, standing-short, drawn-deep}
 use Rattle.layers.proofs.Proper.{RangedAll}
 use Rattle.layers.proofs.Tied.{redirect-length}
-use Rattle.labels.specs.Passes.{part}
 use Rattle.labels.proofs.Laying.{Arranged, arcs_of}
 use Rattle.labels.proofs.RedirectNet.{redirect-arranged, arranged-long, arcs-arranged, redirected-arcs, targets-is}
 use Rattle.tidying.specs.InUse.{on_nodes}
 use Rattle.tidying.proofs.InUse.{nodes-first, mapped-long, mapped-nodes}
 use Rattle.tidying.proofs.TidyNet.{Standing}
-use Rattle.filter.specs.Kept.{after, kept_to, kept_node, kept_from}
+use Rattle.filter.specs.Kept.{kept_to, kept_node, kept_from}
 
 module _ {S V : Type 0} (n : ℕ) where
   arcs-many : (N : List (Node S V)) → length (arcs_in n N) ≡ length N
@@ -30,10 +29,12 @@ down-there : {S V : Type 0} (us : List (Node S V)) (a : ℕ) (d : Node S V) → 
 down-there {S} {V} us a d h =
     get_or-map (λ (x : Node S V). Some x.label.down) (nodes_in us) a d None h ∙ ap (λ (x : Node S V). Some x.label.down) (standing-at us a d h)
 
-up-there : {S V : Type 0} (vs : List (Node S V)) (b : ℕ) (d : Node S V) → b < length (nodes_in vs) → get_or (ups_in vs) b None ≡ get_or (ups_in (nodes_in vs)) b None
-up-there {S} {V} vs b d h =
-    get_or-map (λ (x : Node S V). Some x.label.up) vs b d None (omega (arith, standing-short vs))
-    ∙ sym (get_or-map (λ (x : Node S V). Some x.label.up) (nodes_in vs) b d None h ∙ ap (λ (x : Node S V). Some x.label.up) (standing-at vs b d h))
+up-there : {S V : Type 0} (m : ℕ) (vs : List (Node S V)) (b : ℕ) (d : Node S V) → b < length (nodes_in (take m vs)) → (b < length vs) × (get_or (ups_in vs) b None ≡ get_or (ups_in (nodes_in (take m vs))) b None)
+up-there {S} {V} m vs b d h =
+    let up : Node S V → Option Up = λ x. Some x.label.up in
+    let us = take m vs in
+    let lt : (b < length vs) × (b < m) = (omega (arith, standing-short us, length-take m vs), omega (arith, standing-short us, length-take m vs)) in
+    (lt.0, get_or-map up vs b d None lt.0 ∙ ap up (sym (standing-at us b d h ∙ get_or-take m vs b d lt.1)) ∙ sym (get_or-map up (nodes_in us) b d None h))
 
 -- ---- one layer
 module _ {S V : Type 0} (n : ℕ) (goes : ℕ → ℕ → ℕ → Option (Down S V) → Option Up → Bool) (W : ℕ) where
@@ -67,17 +68,17 @@ module _ {S V : Type 0} (n : ℕ) (goes : ℕ → ℕ → ℕ → Option (Down S
       ∙ sym (map-append arcs_of (map f N) (map f q))
       ∙ ap (map arcs_of) (sym (map-append f N q) ∙ ap (map f) (ap (λ ys. ys ++ q) (sym (nodes-first us)) ∙ take-append-drop (length N) us))
 
-  kept_row : (i h : ℕ) (us vs : List (Node S V)) → length (arcs_in n (nodes_in us)) ≤ W → map arcs_of us ≡ table W (arcs_at (arcs_in n (nodes_in us)))
-      → ((a j b : ℕ) → target (node (arcs_in n (nodes_in us)) a) j ≡ suc b → b < length (nodes_in vs))
-      → map arcs_of (on_nodes (map (kept_node goes i h vs)) us) ≡ table W (arcs_at (redirect (Left i h us vs) (arcs_in n (nodes_in us))))
+  kept_row : (i h m : ℕ) (us vs : List (Node S V)) → length (arcs_in n (nodes_in us)) ≤ W → map arcs_of us ≡ table W (arcs_at (arcs_in n (nodes_in us)))
+      → ((a j b : ℕ) → target (node (arcs_in n (nodes_in us)) a) j ≡ suc b → b < length (nodes_in (take m vs)))
+      → map arcs_of (on_nodes (map (kept_node goes i h vs)) us) ≡ table W (arcs_at (redirect (Left i h us (take m vs)) (arcs_in n (nodes_in us))))
   unfolding kept_node kept_to
-  kept_row i h us vs fits e g =
+  kept_row i h m us vs fits e g =
       unused-kept i h us vs e
-      ∙ redirect-arranged W (arcs_in n (nodes_in us)) us (kept_to goes i h vs) (Left i h us vs) fits e
-      (λ d a j b k t. let lt = g a j b t in
-      rw (lt-ltb b (length vs) (omega (arith, standing-short vs)))
+      ∙ redirect-arranged W (arcs_in n (nodes_in us)) us (kept_to goes i h vs) (Left i h us (take m vs)) fits e
+      (λ d a j b k t. let there = up-there m vs b d (g a j b t) in
+      rw (lt-ltb b (length vs) there.0)
       (ap₂ (λ (x : Option (Down S V)) (y : Option Up). cond (goes i h j x y) 0 (suc b))
-      (sym (down-there us a d (omega (arith, arcs-many n (nodes_in us))))) (up-there vs b d lt)))
+      (sym (down-there us a d (omega (arith, arcs-many n (nodes_in us))))) there.1))
 
   -- ---- all layers
   pub front-row : (X Y : List (Node S V)) (L : Layer) → map arcs_of X ≡ table W (arcs_at L) → (take W (X ++ Y) ≡ X) × (drop W (X ++ Y) ≡ Y)
@@ -113,23 +114,23 @@ module _ {S V : Type 0} (n : ℕ) (goes : ℕ → ℕ → ℕ → Option (Down S
   kept-arranged i zero xs e g s = (e, tt)
   kept-arranged i (suc zero) xs e g s =
       let us = take W xs in
-      let vs = take 1 (drop W xs) in
+      let vs = drop W xs in
       let L = arcs_in n (nodes_in us) in
-      let row = kept_row i 1 us vs (row-short us L e.0) e.0 (λ a j b t. let z = s a j b t in let y = g.0 a j b t in omega arith) in
+      let row = kept_row i 1 1 us vs (row-short us L e.0) e.0 (λ a j b t. let z = s a j b t in let y = g.0 a j b t in omega arith) in
       let f = front-row (on_nodes (map (kept_node goes i 1 vs)) us) (drop W xs) _ row in
-      ((ap (map arcs_of) f.0 ∙ row, subst (Arranged W []) (sym f.1) e.1), (row-stands i 1 us vs _ (Left i 1 us vs) f.0, tt))
+      ((ap (map arcs_of) f.0 ∙ row, subst (Arranged W []) (sym f.1) e.1), (row-stands i 1 us vs _ (Left i 1 us (take 1 vs)) f.0, tt))
   kept-arranged i (suc (suc k)) xs e g s =
       let us = take W xs in
-      let vs = take W (drop W xs) in
+      let vs = drop W xs in
       let L = arcs_in n (nodes_in us) in
-      let row = kept_row i (suc (suc k)) us vs (row-short us L e.0) e.0 (λ a j b t. let y = g.0 a j b t in omega (arith, row-wide k (drop W xs))) in
+      let row = kept_row i (suc (suc k)) W us vs (row-short us L e.0) e.0 (λ a j b t. let y = g.0 a j b t in omega (arith, row-wide k (drop W xs))) in
       let rest = kept_from goes W (suc i) (suc k) (drop W xs) in
       let f = front-row (on_nodes (map (kept_node goes i (suc (suc k)) vs)) us) rest _ row in
       let later = kept-arranged (suc i) (suc k) (drop W xs) e.1 g.1 s in
       let deep = length (arcs_of_layers n (layers W (suc k) (drop W xs))) in
       let h : suc (suc k) ≡ suc deep = ap suc (sym (drawn-deep n W (suc k) (drop W xs))) in (
-        (ap (map arcs_of) f.0 ∙ row ∙ ap (λ (h : ℕ). table W (arcs_at (redirect (Left i h us vs) L))) h, subst (Arranged W (Filtered (suc i) (suc k) (drop W xs))) (sym f.1) later.0),
-        (row-stands i (suc (suc k)) us vs _ (Left i (suc deep) us vs) f.0, subst (Standing W (Filtered (suc i) (suc k) (drop W xs))) (sym f.1) later.1),
+        (ap (map arcs_of) f.0 ∙ row ∙ ap (λ (h : ℕ). table W (arcs_at (redirect (Left i h us (take W vs)) L))) h, subst (Arranged W (Filtered (suc i) (suc k) (drop W xs))) (sym f.1) later.0),
+        (row-stands i (suc (suc k)) us vs _ (Left i (suc deep) us (take W vs)) f.0, subst (Standing W (Filtered (suc i) (suc k) (drop W xs))) (sym f.1) later.1),
       )
 
   -- what follows the layers stays
@@ -138,7 +139,7 @@ module _ {S V : Type 0} (n : ℕ) (goes : ℕ → ℕ → ℕ → Option (Down S
   kept-tail i zero xs h = (refl, refl)
   kept-tail i (suc k) xs h =
       let us = take W xs in
-      let f = kept_node goes i (suc k) (part W (after W k) xs) in
+      let f = kept_node goes i (suc k) (drop W xs) in
       let row = on_nodes (map f) us in
       let rest = kept_from goes W (suc i) k (drop W xs) in
       let e : suc k * W ≡ W + k * W = omega (arith, suc-mul k W) in

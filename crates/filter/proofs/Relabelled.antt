@@ -1,8 +1,9 @@
 -- Labelling anew leaves the arcs of any list as they are.
 use Rattle.std.proofs.Common.{◌≡◌, ℕ, zero, suc, ◌-◌, ◌*◌, ◌≤◌, Bool, Option, List, [], ◌∷◌, ◌++◌, map, length, get_or, take, drop, refl, sym, ap, ◌∙◌, ap₂, arith, take-append-drop}
 use Rattle.std.specs.List.{range_with_len}
-use Rattle.std.proofs.lemmas.List.{drop-map, take-map, get_or-map, length-map, map-append, same_lists}
-use Rattle.std.proofs.lemmas.List.FromFn.{get_or-map-range_with_len, length-map-range_with_len}
+use Rattle.std.proofs.lemmas.List.{drop-map, take-map, map-append}
+use Rattle.std.proofs.lemmas.List.FromFn.{fill_by_all}
+use Rattle.std.proofs.lemmas.Simd.{map-map}
 use Rattle.layers.specs.declared.node.Arcs.{Arcs}
 use Rattle.layers.specs.declared.node.Down.{Down}
 use Rattle.layers.specs.declared.node.Node.{Node}
@@ -13,7 +14,7 @@ use Rattle.layers.specs.Targets.{targets}
 use Rattle.labels.proofs.Laying.{arcs_of}
 use Rattle.labels.specs.Passes.{blank_node, labelled, next_layer, labelled_after, first_layer, pass_down, risen, risen_from, pass_up, relabelled}
 use Rattle.tidying.specs.Counted.{arcs_within}
-use Rattle.tidying.specs.Tidied.{tidied, first_mark}
+use Rattle.tidying.specs.Tidied.{first_mark}
 use Rattle.tidying.proofs.Steps.{tail-is}
 use Rattle.filter.specs.Kept.{kept_from}
 use Rattle.filter.specs.Steps.{redone}
@@ -23,46 +24,28 @@ module _ {S V : Type 0} where
   abbrev Same : List (Node S V) → List (Node S V) → Type 0
   Same xs ys = map arcs_of xs ≡ map arcs_of ys
 
-  same-each : (f : Node S V → Node S V) → ((x : Node S V) → (f x).arcs ≡ x.arcs) → (xs : List (Node S V)) → Same (map f xs) xs
-  same-each f e [] = refl
-  same-each f e (x ∷ xs) = ap₂ (λ (a : Arcs) (ps : List Arcs). a ∷ ps) (e x) (same-each f e xs)
-
   same-parts : (k : ℕ) (xs A B : List (Node S V)) → Same A (take k xs) → Same B (drop k xs) → Same (A ++ B) xs
   same-parts k xs A B p q = map-append arcs_of A B ∙ ap₂ (λ (ps qs : List Arcs). ps ++ qs) p q ∙ sym (map-append arcs_of (take k xs) (drop k xs)) ∙ ap (map arcs_of) (take-append-drop k xs)
 
   risen-same : (w k : ℕ) (xs : List (Node S V)) → Same (risen_from w k xs) xs
   unfolding risen_from risen
-  risen-same w zero xs =
-      let ys = drop w xs in
-      same-parts w xs _ _ (same-each (risen _) (λ x. refl) (take w xs)) (same-parts 1 ys _ _ (same-each _ (λ x. refl) (take 1 ys)) refl)
-  risen-same w (suc k) xs = same-parts w xs _ _ (same-each (risen _) (λ x. refl) (take w xs)) (risen-same w k (drop w xs))
-
-  drop-same : (m : ℕ) (xs ys : List (Node S V)) → Same xs ys → Same (drop m xs) (drop m ys)
-  drop-same m xs ys e = sym (drop-map arcs_of m xs) ∙ ap (drop m) e ∙ drop-map arcs_of m ys
+  risen-same w zero xs = let ys = drop w xs in same-parts w xs _ _ (map-map arcs_of (risen _) (take w xs)) (same-parts 1 ys _ _ (map-map arcs_of _ (take 1 ys)) refl)
+  risen-same w (suc k) xs = same-parts w xs _ _ (map-map arcs_of (risen _) (take w xs)) (risen-same w k (drop w xs))
 
   -- the counts too
-  counted-by : (xs : List (Node S V)) → arcs_within xs ≡ count_layer (map (λ (a : Arcs). map (λ k. get_or a.to k 0) (range_with_len 0 16)) (map arcs_of xs))
-  unfolding arcs_within targets
-  counted-by xs = ap count_layer (go xs)
-    where
-      go : (xs : List (Node S V)) → map targets xs ≡ map (λ (a : Arcs). map (λ k. get_or a.to k 0) (range_with_len 0 16)) (map arcs_of xs)
-      go [] = refl
-      go (x ∷ xs) = ap (λ (ls : List (List ℕ)). targets x ∷ ls) (go xs)
-
   pub count-same : (xs ys : List (Node S V)) → Same xs ys → arcs_within xs ≡ arcs_within ys
-  count-same xs ys e = counted-by xs ∙ ap (λ (ps : List Arcs). count_layer (map (λ (a : Arcs). map (λ k. get_or a.to k 0) (range_with_len 0 16)) ps)) e ∙ sym (counted-by ys)
+  unfolding arcs_within targets
+  count-same xs ys e =
+      let ts : Arcs → List ℕ = λ a. map (λ k. get_or a.to k 0) (range_with_len 0 16) in
+      ap count_layer (sym (map-map ts arcs_of xs) ∙ ap (map ts) e ∙ map-map ts arcs_of ys)
 
 module _ {S V : Type 0} (by : Setting S V) where
   next-same : (us vs : List (Node S V)) → Same (next_layer by us vs) vs
   unfolding next_layer labelled
   next-same us vs =
-      let f = labelled by us vs in
       let z = blank_node by.rule by.tally in
-      let ys = map f (range_with_len 0 (length vs)) in
-      let long = length-map-range_with_len f 0 (length vs) in
-      same_lists (map arcs_of ys) (map arcs_of vs) (length-map ys arcs_of ∙ long ∙ sym (length-map vs arcs_of)) (λ k d lt.
-      let lt' = length-map ys arcs_of in
-      get_or-map arcs_of ys k z d (omega arith) ∙ ap arcs_of (get_or-map-range_with_len f 0 (length vs) k k z (omega arith) (omega arith)) ∙ sym (get_or-map arcs_of vs k z d (omega arith)))
+      map-map arcs_of (labelled by us vs) (range_with_len 0 (length vs)) ∙ sym (map-map arcs_of (λ k. get_or vs k z) (range_with_len 0 (length vs)))
+      ∙ ap (map arcs_of) (sym (fill_by_all (λ k. get_or vs k z) vs (length vs) z refl (λ k lt. refl)))
 
   after-same : (k : ℕ) (xs : List (Node S V)) → Same (labelled_after by k xs) xs
   unfolding labelled_after
@@ -73,14 +56,18 @@ module _ {S V : Type 0} (by : Setting S V) where
 
   first-same : (us : List (Node S V)) → Same (first_layer by.rule by.tally us) us
   first-same [] = refl
-  first-same (u ∷ us) = ap (λ (ps : List Arcs). u.arcs ∷ ps) (same-each _ (λ x. refl) us)
+  first-same (u ∷ us) = ap (λ (ps : List Arcs). u.arcs ∷ ps) (map-map arcs_of _ us)
 
-  pub relabelled-same : (xs : List (Node S V)) → Same (relabelled by xs) xs
+  relabelled-same : (xs : List (Node S V)) → Same (relabelled by xs) xs
   unfolding relabelled pass_down pass_up
   relabelled-same xs = risen-same by.width (by.round.n - 1) (pass_down by xs) ∙ after-same (by.round.n - 1) _ ∙ same-parts by.width xs _ _ (first-same (take by.width xs)) refl
 
+  -- of the first m records, and of those after them, too
   pub relabelled-count : (m : ℕ) (xs : List (Node S V)) → arcs_within (take m (relabelled by xs)) ≡ arcs_within (take m xs)
-  relabelled-count m xs = count-same (take m (relabelled by xs)) (take m xs) (sym (take-map arcs_of m (relabelled by xs)) ∙ ap (take m) (relabelled-same xs) ∙ take-map arcs_of m xs)
+  relabelled-count m xs = count-same _ _ (sym (take-map arcs_of m (relabelled by xs)) ∙ ap (take m) (relabelled-same xs) ∙ take-map arcs_of m xs)
+
+  pub relabelled-rest : (m : ℕ) (xs : List (Node S V)) → arcs_within (drop m (relabelled by xs)) ≡ arcs_within (drop m xs)
+  relabelled-rest m xs = count-same _ _ (sym (drop-map arcs_of m (relabelled by xs)) ∙ ap (drop m) (relabelled-same xs) ∙ drop-map arcs_of m xs)
 
   -- after the layers a filter alters nothing but the end's label
   pub filter-tail : (goes : ℕ → ℕ → ℕ → Option (Down S V) → Option Up → Bool) (xs : List (Node S V)) → by.round.n * by.width ≤ length xs
@@ -89,9 +76,5 @@ module _ {S V : Type 0} (by : Setting S V) where
   filter-tail goes xs h =
       let n = by.round.n in
       let W = by.width in
-      let z = blank_node by.rule by.tally in
       let kept = kept-tail n goes W 0 n xs h in
-      let ys = kept_from goes W 0 n xs in
-      let zs = tidied W z n first_mark ys in
-      count-same (drop (n * W) (relabelled by zs)) (drop (n * W) zs) (drop-same (n * W) (relabelled by zs) zs (relabelled-same zs))
-      ∙ ap arcs_within (tail-is W z n first_mark ys (omega (arith, kept.0)) ∙ kept.1)
+      relabelled-rest (n * W) _ ∙ ap arcs_within (tail-is W (blank_node by.rule by.tally) n first_mark (kept_from goes W 0 n xs) (omega (arith, kept.0)) ∙ kept.1)

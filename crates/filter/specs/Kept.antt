@@ -7,13 +7,7 @@ use Rattle.layers.specs.declared.node.Up.{Up}
 use Rattle.layers.specs.Labels.{bit_of}
 use Rattle.layers.specs.Records.{ups_in}
 use Rattle.layers.specs.Targets.{redirected}
-use Rattle.labels.specs.Passes.{part}
 use Rattle.tidying.specs.InUse.{on_nodes}
-
--- how many records follow a layer, with k layers of arcs after it: after the last there is the end alone
-abbrev pub after : ℕ → ℕ → ℕ
-after w zero = 1
-after w (suc k) = w
 
 -- the set with j has fewer doors than there are to be
 abbrev pub few : ℕ → ℕ → ℕ → Bool
@@ -24,8 +18,8 @@ abbrev pub HasLabel : {S V : Type 0} → (Down S V → Type 0) → Node S V → 
 HasLabel P u = P u.label.down
 
 module _ {S V : Type 0} (goes : ℕ → ℕ → ℕ → Option (Down S V) → Option Up → Bool) where
-  -- what becomes of the arc by door j to place b, from u in layer i, with h layers of arcs from there on, where vs is the layer after it;
-  -- an arc that leads out of that layer goes
+  -- what becomes of the arc by door j to place b, from u in layer i, with h layers of arcs from there on, where vs is what follows the layer;
+  -- an arc that leads past the list goes
   unfoldable pub kept_to : ℕ → ℕ → List (Node S V) → Node S V → ℕ → ℕ → ℕ
   kept_to i h vs u j b =
       if nat_lt b (length vs) then (if goes i h j (Some u.label.down) (slice_index_or (ups_in vs) b None) then 0 else suc b) else 0
@@ -38,4 +32,4 @@ module _ {S V : Type 0} (goes : ℕ → ℕ → ℕ → Option (Down S V) → Op
   unfoldable pub kept_from : ℕ → ℕ → ℕ → List (Node S V) → List (Node S V)
   unfolding kept_node
   kept_from w i zero xs = xs
-  kept_from w i (suc k) xs = on_nodes (map (kept_node i (suc k) (part w (after w k) xs))) (take w xs) ++ kept_from w (suc i) k (drop w xs)
+  kept_from w i (suc k) xs = on_nodes (map (kept_node i (suc k) (drop w xs))) (take w xs) ++ kept_from w (suc i) k (drop w xs)

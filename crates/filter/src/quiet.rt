@@ -7,7 +7,7 @@ ghost use Rattle.filter.specs.Kept.{HasLabel, kept_node, kept_from};
 ghost use Rattle.filter.specs.Steps.{quiet_steps, QuietDone};
 
 use crate::sweep::SixTests;
-use crate::take::{Filter, Step, next_count, thin_node};
+use crate::take::{Filter, Step, thin_node};
 use crate::test::Test;
 use labels::room::has_room;
 use layers::node::Node;
@@ -38,6 +38,7 @@ fn nodes_stay<F: Test>(
 }
 
 /// The same from a layer on, with `left` layers of arcs from it to the end.
+#[tactic(auto, using(labels::proofs::Rests::one_more, labels::proofs::Rests::front_long))]
 fn stay_from<F: Test>(
     by: &Filter<'_, F>,
     layer: usize,
@@ -55,15 +56,13 @@ fn stay_from<F: Test>(
     if left == 0 {
         return true;
     }
-    let m = next_count(by.width, left - 1);
     let (us, rest) = nodes.split_at(by.width);
-    let next = &rest[..m];
     let at = Step {
         round: by.round,
         test: by.test,
         layer,
         left,
-        next,
+        next: rest,
     };
     let many = count_nodes(us);
     nodes_stay(&at, &us[..many]) && stay_from(by, layer + 1, left - 1, rest)

@@ -32,8 +32,8 @@ fn redo<R: Rule, T: Tally>(by: &Setting<'_, R, T>, nodes: &mut [Node<R::State, T
     lost
 }
 
-/// Takes out each arc that goes by the test, and answers how many arcs went. If any goes, tidies and labels anew; if none, the
-/// list stays as it is.
+/// Takes out each arc that goes by the test, and answers how many arcs went. If any goes, tidies
+/// and labels anew; if none, the list stays as it is.
 pub(crate) fn filter_labelled<R: Rule, T: Tally, F: Test<State = R::State, Value = T::Value>>(
     by: &Setting<'_, R, T>,
     test: &F,

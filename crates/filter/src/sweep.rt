@@ -89,7 +89,8 @@ pub fn sweep<R: Rule, T: Tally>(
     filter(by, &tests, nodes)
 }
 
-/// The same of records whose labels are those that this setting gives: if no arc goes, there is nothing to tidy and to label.
+/// The same of records whose labels are those that this setting gives: if no arc goes, there is
+/// nothing to tidy and to label, and the list stays as it is.
 pub fn sweep_labelled<R: Rule, T: Tally>(
     by: &Setting<'_, R, T>,
     nodes: &mut [Node<R::State, T::Value>],

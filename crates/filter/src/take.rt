@@ -4,7 +4,7 @@ ghost use Rattle.std.specs.List.{AllByRecursion};
 ghost use Rattle.layers.specs.Labels.{leg};
 ghost use Rattle.layers.specs.Targets.{at_door, with_targets};
 ghost use Rattle.tidying.specs.Counted.{arcs_of, arcs_within};
-ghost use Rattle.filter.specs.Kept.{HasLabel, after, kept_to, kept_node, kept_from};
+ghost use Rattle.filter.specs.Kept.{HasLabel, kept_to, kept_node, kept_from};
 
 use crate::test::{Arc, Test};
 use labels::leg::legs;
@@ -20,8 +20,8 @@ pub(crate) struct Filter<'a, F> {
     pub(crate) test: &'a F,
 }
 
-/// A layer that is filtered: the round and the test, the layer's number, how many layers of arcs there are from it to the end, and
-/// the layer after it.
+/// A layer that is filtered: the round and the test, the layer's number, how many layers of arcs
+/// there are from it to the end, and the records after it.
 #[derive(Drop)]
 pub(crate) struct Step<'a, F, S, V> {
     pub(crate) round: &'a Round,
@@ -31,7 +31,8 @@ pub(crate) struct Step<'a, F, S, V> {
     pub(crate) next: &'a [Node<S, V>],
 }
 
-/// What is left of u's arc by the door k + 1, where `legs` are those of u; one that leads out of the next layer goes.
+/// What is left of u's arc by the door k + 1, where `legs` are those of u; one that leads past the
+/// list goes.
 fn door_left<F: Test>(
     at: &Step<'_, F, F::State, F::Value>,
     u: &Node<F::State, F::Value>,
@@ -127,14 +128,8 @@ fn thin_nodes<F: Test>(
     gone
 }
 
-/// How many records follow a layer of w, with `later` layers of arcs after it: after the last there is the end alone.
-pub(crate) fn next_count(w: usize, later: usize) -> usize
-    ensures { result ≡ after w later }
-{
-    if later == 0 { 1 } else { w }
-}
-
 /// Takes out each arc that goes, from a layer on, with `left` layers of arcs from it to the end, and answers how many.
+#[tactic(auto, using(labels::proofs::Rests::one_more, labels::proofs::Rests::front_long))]
 pub(crate) fn take_from<F: Test>(
     by: &Filter<'_, F>,
     layer: usize,
@@ -155,15 +150,13 @@ pub(crate) fn take_from<F: Test>(
     if left == 0 {
         return 0;
     }
-    let m = next_count(by.width, left - 1);
     let (us, rest) = nodes.split_at_mut(by.width);
-    let next = &rest[..m];
     let at = Step {
         round: by.round,
         test: by.test,
         layer,
         left,
-        next,
+        next: rest,
     };
     let many = count_nodes(us);
     let here = thin_nodes(&at, &mut us[..many]);

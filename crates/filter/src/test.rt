@@ -8,8 +8,8 @@ ghost use Rattle.round.specs.declared.table.Round.{Round as ARound};
 use layers::node::{Down, Up};
 use round::table::Round;
 
-/// An arc, apart from its ends' labels: the number of its layer, how many layers of arcs there are from there to the end, its door,
-/// and the leg to that door.
+/// An arc, apart from its ends' labels: the number of its layer, how many layers of arcs there are
+/// from there to the end, its door, and the leg to that door.
 #[derive(Drop)]
 pub(crate) struct Arc<'a> {
     pub(crate) round: &'a Round,
@@ -25,9 +25,10 @@ pub(crate) trait Test {
 
     type Value: Copy;
 
-    // which arcs go: told from the round, the layer, the layers of arcs from it to the end, the door, and the labels of source and
-    // target
-    ghost goes: { Self → ARound → ℕ → ℕ → ℕ → Option (ADown Self.State Self.Value) → Option AUp → Bool };
+    // which arcs go: told from the round, the layer, the layers of arcs from it to the end, the
+    // door, and the labels of source and target
+    ghost goes: { Self → ARound → ℕ → ℕ → ℕ → Option (ADown Self.State Self.Value) → Option AUp
+        → Bool };
 
     // what the label of a source is for the test to be asked
     ghost fits: { Self → ADown Self.State Self.Value → Type 0 };

@@ -12,11 +12,7 @@ doors-renewed : (new : List ℕ) → get_or new 0 0 ≡ 0 → (ts : List ℕ) �
 unfolding count_doors
 doors-renewed new none [] = omega arith
 doors-renewed new none (zero ∷ ts) = rw none (doors-renewed new none ts)
-doors-renewed new none (suc b ∷ ts) = more (get_or new (suc b) 0) (doors-renewed new none ts)
-  where
-    more : (t : ℕ) → count_doors (map (λ t. get_or new t 0) ts) ≤ count_doors ts → count_doors (t ∷ map (λ t. get_or new t 0) ts) ≤ suc (count_doors ts)
-    more zero h = omega arith
-    more (suc t) h = omega arith
+doors-renewed new none (suc b ∷ ts) = grind (arith, doors-renewed new none ts)
 
 pub renewed_fewer : {S V : Type 0} (new : List ℕ) (x : Node S V) → get_or new 0 0 ≡ 0 → arcs_of (with_targets x (map (λ t. get_or new t 0) (targets x))) ≤ arcs_of x
 unfolding arcs_of

@@ -1,5 +1,5 @@
 -- Lists read with the element that stands past their end
-use Rattle.std.proofs.Common.{◌≡◌, ℕ, zero, suc, List, [], ◌∷◌, ◌++◌, ◌+◌, ◌-◌, ◌*◌, ◌≢◌, ◌⊎◌, map, get_or, replicate, refl, sym, inl, inr, suc-mul, arith}
+use Rattle.std.proofs.Common.{◌≡◌, ℕ, zero, suc, List, [], ◌∷◌, ◌++◌, ◌⊎◌, map, get_or, replicate, refl, sym, inl, inr}
 
 pub get_or-blank : {X : Type 0} (n i : ℕ) (z : X) → get_or (replicate n z) i z ≡ z
 get_or-blank zero i z = refl
@@ -19,8 +19,3 @@ get_or-mapped f (x ∷ xs) (suc i) d e h = get_or-mapped f xs i d e h
 pub zero-or-suc : (n : ℕ) → (n ≡ 0) ⊎ ((m : ℕ) × (n ≡ suc m))
 zero-or-suc zero = inl refl
 zero-or-suc (suc m) = inr (m, refl)
-
--- one layer more
-pub one_more : (left w : ℕ) → left ≢ 0 → left * w ≡ (left - 1) * w + w
-one_more zero w ne = absurd (ne refl)
-one_more (suc n) w ne = let e : suc n - 1 ≡ n = omega arith in rw e (omega (arith, suc-mul n w))

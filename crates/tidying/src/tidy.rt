@@ -63,6 +63,28 @@ fn renew<S: Copy, V: Copy>(x: &mut Node<S, V>, new: &[u8; 256]) -> usize
     before - count_of(x)
 }
 
+/// A node that is reached is renewed, another goes blank. Answers how many arcs went.
+#[tactic(auto, unfolding(crate::specs::Tidied::renewed))]
+fn renew_if<S: Copy, V: Copy>(
+    x: &mut Node<S, V>,
+    reached: bool,
+    new: &[u8; 256],
+    blank: Node<S, V>,
+) -> usize
+    requires none { slice_index new.now 0 ≡ 0 }
+    requires bare { arcs_of blank ≡ 0 }
+    ensures renewed { x.new ≡ renewed blank reached new.now x.old }
+    ensures lost { result + arcs_of x.new ≡ arcs_of x.old }
+    ensures few { result ≤ 16 }
+{
+    if reached {
+        return renew(x, new);
+    }
+    let lost = count_of(x);
+    *x = blank;
+    lost
+}
+
 /// Renews the nodes that are reached; the others go blank. Answers how many arcs went.
 #[tactic(auto, unfolding(crate::specs::Tidied::renewals))]
 fn renew_layer<S: Copy, V: Copy>(
@@ -80,12 +102,7 @@ fn renew_layer<S: Copy, V: Copy>(
 {
     let mut lost = 0;
     for (a, x) in us.iter_mut().enumerate() {
-        if from[a + 1] {
-            lost += renew(x, new);
-        } else {
-            lost += count_of(x);
-            *x = blank;
-        }
+        lost += renew_if(x, from[a + 1], new, blank);
     }
     lost
 }
@@ -172,7 +189,7 @@ fn tidy_nodes<S: Copy, V: Copy>(
 }
 
 /// Tidies `left` layers of `w` records, the marked nodes of the first being reached.
-#[tactic(auto, using(crate::proofs::Lists::one_more), unfolding(crate::specs::Tidied::tidied, crate::specs::Tidied::numbers))]
+#[tactic(auto, using(labels::proofs::Rests::one_more), unfolding(crate::specs::Tidied::tidied, crate::specs::Tidied::numbers))]
 fn tidy_from<S: Copy, V: Copy>(
     nodes: &mut [Node<S, V>],
     w: usize,

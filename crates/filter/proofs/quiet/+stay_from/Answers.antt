@@ -1,38 +1,23 @@
-use Rattle.std.specs.List.{AllByRecursion as All}
-use Rattle.std.proofs.Common.{subst, ◌≡◌, ℕ, eqb, ◌-◌, ◌*◌, ◌<◌, ◌≤◌, List, map, length, take, drop, sym, refl, ap, ◌∙◌, ap₂, add-one, arith}
-use Rattle.std.proofs.lemmas.List.{length-take-le}
+use Rattle.std.proofs.Common.{ℕ, eqb, ◌-◌, List, map, length, sym, refl, ap, ◌∙◌, ap₂, add-one, arith}
 use Rattle.std.proofs.lemmas.Bool.{eq-eqb}
 use Rattle.layers.specs.declared.node.Node.{Node}
 use Rattle.layers.specs.Records.{nodes_in}
-use Rattle.labels.proofs.Rests.{one-fits, rest-fits}
+use Rattle.labels.proofs.Rests.{rest-fits}
 use Rattle.tidying.specs.Counted.{arcs_within}
-use Rattle.filter.specs.Kept.{HasLabel, after, kept_node, kept_from}
+use Rattle.filter.specs.Kept.{HasLabel, kept_node, kept_from}
 use Rattle.filter.proofs.Kept.{stay-more, stay-less}
-use Rattle.filter.proofs.Layering.{next-there, all-layers, all-first}
+use Rattle.filter.proofs.Layering.{fits_here, fits_later}
 use Rattle.filter.proofs.quiet.+stay_from.Goals as goal
-
-pub split_at-requires : goal.split_at-requires
-split_at-requires g t c = let h : c.args.by.now.width < length c.args.nodes.now = one-fits c.args.left c.args.by.now.width _ c.if-left-eq0.false c.requires.width_in_bounds in omega arith
-
-pub slice_bounds-next-end : goal.slice_bounds-next-end
-slice_bounds-next-end g t c =
-    let there = next-there c.args.by.now.width c.args.left (length c.args.nodes.now) c.if-left-eq0.false c.requires.width_in_bounds in
-    let vs = c.split_at.result.1.now in
-    let fits : c.next_count-m.result ≤ length vs = omega (arith, there, c.next_count-m.ensures, c.split_at.ensures.back_len) in
-    sym (length-take-le c.next_count-m.result vs fits)
 
 pub nodes_stay-requires-clause-fits : goal.nodes_stay-requires-clause-fits
 nodes_stay-requires-clause-fits g t c =
-    let P = HasLabel (g.F.Test.fits c.args.by.now.test.now) in
-    all-first P c.count_nodes-many.result c.split_at.result.0.now
-    (subst (All P) (sym c.split_at.ensures.front) (all-layers P c.args.by.now.width c.args.left c.args.nodes.now c.if-left-eq0.false c.requires.fits).0)
+    fits_here (HasLabel (g.F.Test.fits c.args.by.now.test.now)) c.args.by.now.width c.args.left _ c.args.nodes.now _ c.if-left-eq0.false c.split_at.ensures.front c.requires.fits
 
 pub stay_from-requires : goal.stay_from-requires
 stay_from-requires g t c κs within =
     let ne = c.if-left-eq0.false in
-    let P = HasLabel (g.F.Test.fits c.args.by.now.test.now) in
     let rest = rest-fits c.args.left c.args.by.now.width (length c.args.nodes.now) ne c.requires.width_in_bounds in
-    let later = subst (λ (us : List (Node g.row.F-State.Denot g.row.F-Value.Denot)). All P (take ((c.args.left - 1) * c.args.by.now.width) us)) (sym c.split_at.ensures.back) (all-layers P c.args.by.now.width c.args.left c.args.nodes.now ne c.requires.fits).1 in
+    let later = fits_later (HasLabel (g.F.Test.fits c.args.by.now.test.now)) c.args.by.now.width c.args.left c.args.nodes.now _ ne c.split_at.ensures.back c.requires.fits in
     (omega arith, (within.0, (within.1.0, (within.1.1, (omega (arith, c.requires.layer_bound), (omega (arith, rest, c.split_at.ensures.back_len), later))))))
 
 pub returns-then-left-eq0 : goal.returns-then-left-eq0
@@ -49,11 +34,9 @@ returns-then-nodes_stay g t c =
     let i = c.args.layer in
     let left = c.args.left - 1 in
     let parts = c.split_at.ensures in
-    let nexts : take c.next_count-m.result c.split_at.result.1.now ≡ take (after w left) (drop w xs) =
-    ap₂ (λ (m : ℕ) (vs : List (Node g.row.F-State.Denot g.row.F-Value.Denot)). take m vs) c.next_count-m.ensures parts.back in
     let nodes = c.count_nodes-many.ensures.first ∙ ap nodes_in parts.front in
     stay-more goes w i c.args.left xs c.if-left-eq0.false c.stay_from.result
-    (c.if-nodes_stay.ensures ∙ ap₂ (λ (vs us : List (Node g.row.F-State.Denot g.row.F-Value.Denot)). eqb (arcs_within (map (kept_node goes i c.args.left vs) us)) (arcs_within us)) nexts nodes)
+    (c.if-nodes_stay.ensures ∙ ap₂ (λ (vs us : List (Node g.row.F-State.Denot g.row.F-Value.Denot)). eqb (arcs_within (map (kept_node goes i c.args.left vs) us)) (arcs_within us)) parts.back nodes)
     (c.stay_from.ensures ∙ ap₂ (λ (k : ℕ) (us : List (Node g.row.F-State.Denot g.row.F-Value.Denot)). eqb (arcs_within (kept_from goes w k left us)) (arcs_within us)) (add-one i) parts.back)
 
 pub returns-else-nodes_stay : goal.returns-else-nodes_stay
@@ -63,8 +46,6 @@ returns-else-nodes_stay g t c =
     let w = c.args.by.now.width in
     let i = c.args.layer in
     let parts = c.split_at.ensures in
-    let nexts : take c.next_count-m.result c.split_at.result.1.now ≡ take (after w (c.args.left - 1)) (drop w xs) =
-    ap₂ (λ (m : ℕ) (vs : List (Node g.row.F-State.Denot g.row.F-Value.Denot)). take m vs) c.next_count-m.ensures parts.back in
     let nodes = c.count_nodes-many.ensures.first ∙ ap nodes_in parts.front in
     c.if-nodes_stay.false ∙ stay-less goes w i c.args.left xs c.if-left-eq0.false
-    (c.if-nodes_stay.ensures ∙ ap₂ (λ (vs us : List (Node g.row.F-State.Denot g.row.F-Value.Denot)). eqb (arcs_within (map (kept_node goes i c.args.left vs) us)) (arcs_within us)) nexts nodes)
+    (c.if-nodes_stay.ensures ∙ ap₂ (λ (vs us : List (Node g.row.F-State.Denot g.row.F-Value.Denot)). eqb (arcs_within (map (kept_node goes i c.args.left vs) us)) (arcs_within us)) parts.back nodes)

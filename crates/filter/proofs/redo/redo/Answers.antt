@@ -1,12 +1,12 @@
-use Rattle.std.proofs.Common.{◌≡◌, true, map, length, ap, ◌∙◌, arith}
+use Rattle.std.proofs.Common.{◌≡◌, true, length, ap, ◌∙◌, arith}
 use Rattle.std.proofs.lemmas.Bool.{cond-true}
 use Rattle.layers.specs.Settings.{lent_setting}
 use Rattle.layers.specs.declared.node.Node.{Node}
 use Rattle.labels.specs.Passes.{fits, blank_node, relabelled}
-use Rattle.labels.proofs.Laying.{arcs_of}
+use Rattle.tidying.specs.Counted.{arcs_within}
 use Rattle.tidying.specs.Tidied.{bare_node, tidied, first_mark}
 use Rattle.filter.specs.Steps.{redone}
-use Rattle.filter.proofs.Relabelled.{count-same, relabelled-same}
+use Rattle.filter.proofs.Relabelled.{relabelled-rest}
 use Rattle.filter.proofs.redo.redo.Goals as goal
 
 pub returns : goal.returns
@@ -23,6 +23,6 @@ returns g c =
     let labelled = c.relabel.ensures.passes ∙ cond-true (fits n W (length ys)) _ _ room in
     record {
       records = labelled ∙ ap (relabelled by) is;
-      lost = omega (arith, c.tidy-lost.ensures.lost, count-same c.relabel.new.nodes ys (ap (map arcs_of) labelled ∙ relabelled-same by ys));
+      lost = omega (arith, c.tidy-lost.ensures.lost, ap arcs_within labelled ∙ relabelled-rest by 0 ys);
       few = c.tidy-lost.ensures.few;
     }

@@ -1,13 +1,12 @@
-use Rattle.std.specs.List.{AllByRecursion as All}
-use Rattle.std.proofs.Common.{◌*◌, subst, ◌≡◌, ℕ, suc, ◌-◌, ◌<◌, ◌≤◌, List, ◌++◌, map, length, take, drop, sym, ap, ◌∙◌, ap₂, add-one, arith, take-append-drop}
-use Rattle.std.proofs.lemmas.List.{length-take, length-take-le}
+use Rattle.std.proofs.Common.{◌≡◌, ℕ, suc, ◌-◌, List, ◌++◌, map, length, take, drop, sym, ap, ◌∙◌, ap₂, add-one, arith, take-append-drop}
+use Rattle.std.proofs.lemmas.List.{length-take}
 use Rattle.layers.specs.declared.node.Node.{Node}
-use Rattle.labels.proofs.Rests.{one_more, one-fits, rest-fits}
+use Rattle.labels.proofs.Rests.{rest-fits}
 use Rattle.tidying.specs.InUse.{on_nodes}
 use Rattle.tidying.proofs.InUse.{pass-done}
 use Rattle.tidying.proofs.Targets.{layer-less}
-use Rattle.filter.specs.Kept.{HasLabel, after, kept_node, kept_from}
-use Rattle.filter.proofs.Layering.{few-records, kept-more, next-there, all-layers, all-first}
+use Rattle.filter.specs.Kept.{HasLabel, kept_node, kept_from}
+use Rattle.filter.proofs.Layering.{few_records, kept-more, fits_here, fits_later}
 use Rattle.filter.proofs.take.+take_from.Goals as goal
 
 pub returns-then-left-eq0-clause-left : goal.returns-then-left-eq0-clause-left
@@ -16,33 +15,15 @@ returns-then-left-eq0-clause-left g t c =
     let none : c.args.left ≡ 0 = c.if-left-eq0.true in
     sym (ap (λ (n : ℕ). kept_from (g.F.Test.goes c.args.by.now.test.now c.args.by.now.round.now) c.args.by.now.width c.args.layer n c.args.nodes.now) none)
 
-pub split_at_mut-us-requires : goal.split_at_mut-us-requires
-split_at_mut-us-requires g t c = let h : c.args.by.now.width < length c.args.nodes.now = one-fits c.args.left c.args.by.now.width _ c.if-left-eq0.false c.requires.width_in_bounds in omega arith
-
-pub slice_bounds-next-end : goal.slice_bounds-next-end
-slice_bounds-next-end g t c =
-    let there = next-there c.args.by.now.width c.args.left (length c.args.nodes.now) c.if-left-eq0.false c.requires.width_in_bounds in
-    omega (arith, there, c.next_count-m.ensures, c.split_at_mut-us.ensures.back_len)
-
-pub slice_bounds-next-end-2 : goal.slice_bounds-next-end-2
-slice_bounds-next-end-2 g t c =
-    let there = next-there c.args.by.now.width c.args.left (length c.args.nodes.now) c.if-left-eq0.false c.requires.width_in_bounds in
-    let vs = c.split_at_mut-us.result.1.now in
-    let fits : c.next_count-m.result ≤ length vs = omega (arith, there, c.next_count-m.ensures, c.split_at_mut-us.ensures.back_len) in
-    sym (length-take-le c.next_count-m.result vs fits)
-
 pub thin_nodes-here-requires-clause-fits : goal.thin_nodes-here-requires-clause-fits
 thin_nodes-here-requires-clause-fits g t c =
-    let P = HasLabel (g.F.Test.fits c.args.by.now.test.now) in
-    all-first P c.count_nodes-many.result c.split_at_mut-us.result.0.now
-    (subst (All P) (sym c.split_at_mut-us.ensures.front) (all-layers P c.args.by.now.width c.args.left c.args.nodes.now c.if-left-eq0.false c.requires.fits).0)
+    fits_here (HasLabel (g.F.Test.fits c.args.by.now.test.now)) c.args.by.now.width c.args.left _ c.args.nodes.now _ c.if-left-eq0.false c.split_at_mut-us.ensures.front c.requires.fits
 
 pub take_from-later-requires : goal.take_from-later-requires
 take_from-later-requires g t c κs within =
     let ne = c.if-left-eq0.false in
-    let P = HasLabel (g.F.Test.fits c.args.by.now.test.now) in
     let rest = rest-fits c.args.left c.args.by.now.width (length c.args.nodes.now) ne c.requires.width_in_bounds in
-    let later = subst (λ (us : List (Node g.row.F-State.Denot g.row.F-Value.Denot)). All P (take ((c.args.left - 1) * c.args.by.now.width) us)) (sym c.split_at_mut-us.ensures.back) (all-layers P c.args.by.now.width c.args.left c.args.nodes.now ne c.requires.fits).1 in
+    let later = fits_later (HasLabel (g.F.Test.fits c.args.by.now.test.now)) c.args.by.now.width c.args.left c.args.nodes.now _ ne c.split_at_mut-us.ensures.back c.requires.fits in
     (omega arith, (within.0, (within.1.0, (within.1.1, (omega (arith, c.requires.layer_bound), (omega (arith, rest, c.split_at_mut-us.ensures.back_len), (c.requires.width_bound, later)))))))
 
 pub returns-clause-left : goal.returns-clause-left
@@ -53,14 +34,12 @@ returns-clause-left g t c =
     let i = c.args.layer in
     let left = c.args.left - 1 in
     let parts = c.split_at_mut-us.ensures in
-    let nexts : take c.next_count-m.result c.split_at_mut-us.result.1.now ≡ take (after w left) (drop w xs) =
-    ap₂ (λ (m : ℕ) (vs : List (Node g.row.F-State.Denot g.row.F-Value.Denot)). take m vs) c.next_count-m.ensures parts.back in
     let row = c.split_at_mut-us.result.0.now in
     let k = c.count_nodes-many.result in
-    let f = map (kept_node goes i c.args.left (take (after w left) (drop w xs))) in
+    let f = map (kept_node goes i c.args.left (drop w xs)) in
     let here : c.thin_nodes-here.new.us ++ drop k row ≡ on_nodes f (take w xs) =
     pass-done f (take w xs) row c.thin_nodes-here.new.us k parts.front c.count_nodes-many.ensures.many c.count_nodes-many.ensures.first
-    (c.thin_nodes-here.ensures.left ∙ ap (λ (vs : List (Node g.row.F-State.Denot g.row.F-Value.Denot)). map (kept_node goes i c.args.left vs) (take k row)) nexts) in
+    (c.thin_nodes-here.ensures.left ∙ ap (λ (vs : List (Node g.row.F-State.Denot g.row.F-Value.Denot)). map (kept_node goes i c.args.left vs) (take k row)) parts.back) in
     let rest : c.take_from-later.new.nodes ≡ kept_from goes w (suc i) left (drop w xs) =
     c.take_from-later.ensures.left ∙ ap₂ (λ (k : ℕ) (us : List (Node g.row.F-State.Denot g.row.F-Value.Denot)). kept_from goes w k left us) (add-one i) parts.back in
     ap₂ (λ (us vs : List (Node g.row.F-State.Denot g.row.F-Value.Denot)). us ++ vs) here rest ∙ sym (kept-more goes w i c.args.left xs c.if-left-eq0.false)
@@ -68,17 +47,12 @@ returns-clause-left g t c =
 pub overflow_add-result : goal.overflow_add-result
 overflow_add-result g t c =
     let short = length-take c.count_nodes-many.result c.split_at_mut-us.result.0.now in
-    omega (arith, short, few-records (c.args.left - 1) c.args.by.now.width (omega (arith, c.requires.layer_bound)) c.requires.width_bound, c.thin_nodes-here.ensures.few, c.split_at_mut-us.ensures.front_len, c.take_from-later.ensures.few)
+    omega (arith, short, few_records (c.args.left - 1) c.args.by.now.width (omega (arith, c.requires.layer_bound)) c.requires.width_bound, c.thin_nodes-here.ensures.few, c.split_at_mut-us.ensures.front_len, c.take_from-later.ensures.few)
 
 pub returns-clause-gone : goal.returns-clause-gone
 returns-clause-gone g t c =
     let parts = c.split_at_mut-us.ensures in
     layer-less c.args.by.now.width c.count_nodes-many.result _ _ c.args.nodes.now c.split_at_mut-us.result.0.now c.split_at_mut-us.result.1.now c.thin_nodes-here.new.us c.take_from-later.new.nodes parts.front parts.back c.thin_nodes-here.ensures.gone c.take_from-later.ensures.gone
-
-pub returns-clause-few : goal.returns-clause-few
-returns-clause-few g t c =
-    let short = length-take c.count_nodes-many.result c.split_at_mut-us.result.0.now in
-    omega (arith, short, one_more c.args.left c.args.by.now.width c.if-left-eq0.false, c.thin_nodes-here.ensures.few, c.split_at_mut-us.ensures.front_len, c.take_from-later.ensures.few)
 
 pub returns-clause-none : goal.returns-clause-none
 returns-clause-none g t c = λ none.

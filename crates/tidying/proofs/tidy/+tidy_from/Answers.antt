@@ -1,6 +1,6 @@
 use Rattle.std.proofs.Common.{◌≡◌, ◌++◌, ◌-◌, get_or, drop, take, ap, ◌∙◌, arith}
 use Rattle.std.proofs.lemmas.List.{length-take}
-use Rattle.tidying.proofs.Lists.{one_more}
+use Rattle.labels.proofs.Rests.{one_more}
 use Rattle.tidying.proofs.Renewed.{numbers-zero}
 use Rattle.tidying.proofs.Targets.{bare-from, layer-less}
 use Rattle.tidying.proofs.Steps.{Step, numbers-step, tidied-step}

@@ -1,5 +1,8 @@
-use Rattle.std.proofs.Common.{◌≡◌, ◌++◌, map, get_or, take, drop}
+use Rattle.std.proofs.Common.{◌≡◌, ℕ, ◌<◌, ◌≤◌, get_or}
 use Rattle.tidying.proofs.tidy.renew.Given as goal
 
 abbrev pub invariant-loop-t : goal.invariant-loop-t
-invariant-loop-t g l = l.t-items ≡ map (λ t. get_or l.new t 0) (take l.t-index l.x.arcs.to) ++ drop l.t-index l.x.arcs.to
+invariant-loop-t g l = record {
+  done : (m : ℕ) → m < l.t-index → get_or l.t-items m 0 ≡ get_or l.new (get_or l.x.arcs.to m 0) 0;
+  rest : (m : ℕ) → l.t-index ≤ m → get_or l.t-items m 0 ≡ get_or l.x.arcs.to m 0;
+}
