@@ -1,5 +1,5 @@
 -- The two passes over records with the arcs of a net leave the net laid out with its labels.
-use Rattle.std.proofs.Common.{◌≡◌, ℕ, zero, suc, ◌+◌, ◌-◌, ◌*◌, ◌<◌, ◌≤◌, Bool, true, false, cond, eqb, List, [], ◌∷◌, ◌++◌, map, length, get_or, take, drop, Some, None, fold, Option, sym, refl, ap, ◌∙◌, subst, ap₂, inl, ⊎_elim, append_assoc, suc-mul, zero-add, zero-mul, add-one, arith}
+use Rattle.std.proofs.Common.{◌≡◌, ℕ, zero, suc, ◌+◌, ◌-◌, ◌*◌, ◌<◌, ◌≤◌, Bool, true, false, cond, eqb, List, [], ◌∷◌, ◌++◌, map, length, get_or, take, drop, Some, None, fold, Option, sym, refl, ap, ◌∙◌, subst, ap₂, inl, ⊎_elim, append_assoc, suc-mul, zero-mul, add-one, arith}
 use Rattle.std.specs.List.{range_with_len, flat_map}
 use Rattle.std.proofs.lemmas.List.FromFn.{get_or-map-range_with_len, length-map-range_with_len}
 use Rattle.std.proofs.Math.Seq.{take-add}
@@ -12,13 +12,13 @@ use Rattle.layers.specs.declared.node.Up.{Up}
 use Rattle.layers.specs.Net.{table, Layer, Net, node, target, width}
 use Rattle.layers.specs.Flow.{arrivals_at, gather, next, climbs_of, up}
 use Rattle.layers.specs.Lawful.{IsRanged, IsTied, IsRoomy, IsEven, IsLawful}
-use Rattle.layers.specs.Labels.{arrival_over, merge, first_label, first_labels, labels_next, climb, merge_up, no_up, ups, blank_label}
+use Rattle.layers.specs.Labels.{arrival_over, merge, first_label, first_labels, labels_next, climb, merge_up, no_up, ups}
 use Rattle.layers.specs.Records.{is_used, nodes_in, arcs_read, laid_arcs, arcs_at, record_of_place, labelled_from, labelled_records}
 use Rattle.layers.proofs.Flows.{table_at, Among, ins-from}
 use Rattle.layers.proofs.Bridge.{table-long, map-table, labels_full, ups-full}
 use Rattle.layers.specs.Calls.{records_with}
 use Rattle.layers.proofs.Proper.{RangedAll, tied-ranged}
-use Rattle.labels.specs.Passes.{with_down, with_up, blank_node, by_door, from_node, arrivals, gathered, labelled, next_layer, labelled_after, up_by, ups_of, gathered_up, risen, risen_from, cleared, first_layer, bare, pass_down, pass_up, relabelled}
+use Rattle.labels.specs.Passes.{with_up, blank_node, by_door, from_node, arrivals, gathered, labelled, next_layer, labelled_after, up_by, ups_of, gathered_up, risen, risen_from, cleared, first_layer, bare, pass_down, pass_up, relabelled}
 use Rattle.std.proofs.lemmas.Nat.{pow_pos}
 use Rattle.labels.proofs.Climbs.{Linked, linked, node-climbed, climbed-is, up_of}
 use Rattle.labels.proofs.Folds.{folded_keeps}

@@ -1,5 +1,5 @@
 -- The least drives so far, and what is no leg
-use Rattle.std.proofs.Common.{◌≡◌, ℕ, ◌+◌, ◌≤◌, ◌≢◌, min, Bool, true, false, cond, not, ◌&&◌, eqb, Some, None, Option, unwrap_or, ap, ◌∙◌, arith}
+use Rattle.std.proofs.Common.{◌≡◌, ℕ, ◌+◌, ◌≤◌, ◌≢◌, min, Bool, true, false, cond, not, ◌&&◌, eqb, Some, None, Option, unwrap_or, refl, ap, ◌∙◌, arith}
 use Rattle.std.specs.List.{range_with_len}
 use Rattle.round.specs.declared.table.Round.{Round}
 use Rattle.round.specs.Clock.{drive}
@@ -24,14 +24,13 @@ unfolding leg
 leg-most r m j = nearest-most r m j (r.n + 1)
 
 -- ---- 1000 for no drive
-far-step : (o : Option ℕ) (e : Bool) (d : ℕ) → d ≤ 999 → unwrap_or o 0 ≤ 999 → unwrap_or (cond (not e) (nearest o d) o) 1000 ≡ min (unwrap_or o 1000) (cond e 1000 d)
-far-step None true d h p = omega arith
+far-step : (o : Option ℕ) (e : Bool) (d : ℕ) → d ≤ 999 → unwrap_or o 0 ≤ 999 → unwrap_or (cond (not e) (nearest o d) o) 1000 ≡ cond e (unwrap_or o 1000) (min (unwrap_or o 1000) d)
+far-step o true d h p = refl
 far-step None false d h p = omega arith
-far-step (Some a) true d h p = omega arith
 far-step (Some a) false d h p = omega arith
 
 pub nearest_with : (r : Round) (m j i : ℕ) → has m i ≡ true
-    → unwrap_or (nearest_of r m j (i + 1)) 1000 ≡ min (unwrap_or (nearest_of r m j i) 1000) (cond (eqb i j) 1000 (drive r i j))
+    → unwrap_or (nearest_of r m j (i + 1)) 1000 ≡ cond (eqb i j) (unwrap_or (nearest_of r m j i) 1000) (min (unwrap_or (nearest_of r m j i) 1000) (drive r i j))
 unfolding leg_step
 nearest_with r m j i h =
     ap (λ o. unwrap_or o 1000) (folded_counting (leg_step r m j) None i)

@@ -33,14 +33,29 @@ pub fn leg_from(round: &Round, lasts: DoorSet, j: usize) -> u32
 /// More than any drive.
 const FAR: u16 = 1000;
 
-/// The drives from place i, where they are less; there is none from a door to itself.
-fn nearer_from(row: &[u16; 17], i: usize, best: &mut [u16; 16])
+/// The drives of the row, where they are less.
+fn lower(row: &[u16; 17], best: &mut [u16; 16])
     ensures { (k : ℕ) → k < 16 → slice_index best.new k
-        ≡ min (slice_index best.old k) (if i == k + 1 then 1000 else slice_index row.now (k + 1)) }
+        ≡ min (slice_index best.old k) (slice_index row.now (k + 1)) }
 {
     for k in 0..16 {
-        let drive = if i == k + 1 { FAR } else { row[k + 1] };
-        best[k] = best[k].min(drive);
+        best[k] = best[k].min(row[k + 1]);
+    }
+}
+
+/// The drives from place i, where they are less; there is none from a door to itself.
+fn nearer_from(row: &[u16; 17], i: usize, best: &mut [u16; 16])
+    requires { i ≤ 16 }
+    ensures { (k : ℕ) → k < 16 → slice_index best.new k
+        ≡ (if i == k + 1 then slice_index best.old k
+        else min (slice_index best.old k) (slice_index row.now (k + 1))) }
+{
+    if i == 0 {
+        lower(row, best);
+    } else {
+        let own = best[i - 1];
+        lower(row, best);
+        best[i - 1] = own;
     }
 }
 
