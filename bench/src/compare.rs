@@ -17,7 +17,7 @@ pub enum Call {
 
 impl Call {
     /// A call that mostly names what is there.
-    fn by_chance(c: &mut Chance, n: usize, d: &Diagram) -> Call {
+    pub fn by_chance(c: &mut Chance, n: usize, d: &Diagram) -> Call {
         let layer = if c.one_in(20) { c.within(0, n as i64 + 1) as usize } else { c.within(1, (n as i64 - 1).max(1)) as usize };
         let nodes = if layer <= n { d.nodes_in(layer) as i64 } else { 3 };
         let spare = i64::from(c.one_in(10));
@@ -93,8 +93,7 @@ fn by_chance(c: &mut Chance, round: &Round, width: usize) -> (Vec<Call>, Vec<u32
     (calls, sheet)
 }
 
-fn round_by_chance(c: &mut Chance) -> Round {
-    let n = c.within(1, 16) as usize;
+pub fn round_by_chance(c: &mut Chance, n: usize) -> Round {
     if c.one_in(5) {
         return Round::wild(c, n);
     }
@@ -185,7 +184,8 @@ pub fn compare(rounds: usize) -> ExitCode {
     let mut seen = Seen::default();
     let mut differ = usize::from(!refusals());
     for k in 0..rounds {
-        let round = round_by_chance(&mut c);
+        let n = c.within(1, 16) as usize;
+        let round = round_by_chance(&mut c, n);
         let width = width_by_chance(&mut c);
         let (calls, expected) = by_chance(&mut c, &round, width);
         let text = round.text();

@@ -130,6 +130,8 @@ const NO_ARC: InArc = InArc { source: 0, door: 0, brings: BLANK.down };
 pub struct Diagram<'r> {
     round: &'r Round,
     width: usize,
+    /// whether the labels may be those of another rule and tally
+    stale: bool,
     arcs: usize,
     count: [usize; 17],
     nodes: Box<[[Node; 128]; 17]>,
@@ -143,6 +145,7 @@ impl<'r> Diagram<'r> {
         let mut d = Diagram {
             round,
             width,
+            stale: false,
             arcs: 0,
             count: [0; 17],
             nodes: Box::new([[BLANK; 128]; 17]),
@@ -161,12 +164,34 @@ impl<'r> Diagram<'r> {
             self.nodes[i][0] = Node { outs: if i < n { (2 << n) - 2 } else { 0 }, ..BLANK };
         }
         self.arcs = n * n;
+        self.begin();
+        self.relabel_down(0);
+        self.relabel_up();
+    }
+
+    /// The label of the first node.
+    fn begin(&mut self) {
         let first = &mut self.nodes[0][0].down;
         first.lasts = 1;
         first.low = self.round.load;
         first.high = self.round.load;
-        self.relabel_down(0);
-        self.relabel_up();
+    }
+
+    /// From here on calls are lent the rule and tally of this round, whose clock is that of the round before.
+    pub fn lend(&mut self, round: &'r Round) {
+        self.round = round;
+        self.stale = true;
+    }
+
+    /// The downward labels after layer `from`, or all where they may be another rule's.
+    fn relabel(&mut self, from: usize) {
+        if self.stale {
+            self.begin();
+            self.relabel_down(0);
+            self.stale = false;
+        } else {
+            self.relabel_down(from);
+        }
     }
 
     /// The downward labels of the layers after layer `from`.
@@ -241,12 +266,13 @@ impl<'r> Diagram<'r> {
                 self.nodes[i][a].outs &= !gone;
             }
         }
-        if !any {
-            return 0;
+        if any {
+            self.tidy();
         }
-        self.tidy();
-        self.relabel_down(0);
-        self.relabel_up();
+        if any || self.stale {
+            self.relabel(0);
+            self.relabel_up();
+        }
         before - self.arcs
     }
 
@@ -345,7 +371,7 @@ impl<'r> Diagram<'r> {
             self.nodes[layer - 1][x.source as usize].to[x.door as usize - 1] = self.count[layer] as u8;
         }
         self.copy_node(layer, node - 1);
-        self.relabel_down(layer - 1);
+        self.relabel(layer - 1);
         0
     }
 
@@ -390,7 +416,7 @@ impl<'r> Diagram<'r> {
                 }
             }
         }
-        self.relabel_down(layer - 1);
+        self.relabel(layer - 1);
         self.relabel_up();
         0
     }
@@ -451,7 +477,7 @@ impl<'r> Diagram<'r> {
             b += 1;
         }
         if altered {
-            self.relabel_down(layer - 1);
+            self.relabel(layer - 1);
         }
         full
     }

@@ -4,6 +4,7 @@
 //!     morvuges-bench measure             calls at 16 doors: times and ratios
 //!     morvuges-bench stack               how much stack a call of the library takes
 //!     morvuges-bench texts | sheets      rounds by chance, and their sheets as the twin works them out
+//!     morvuges-bench mixed-texts | mixed-answers CASES    cases for the program mixed_calls, and what it is to print
 //!     morvuges-bench repeat library|twin WIDTH TIMES ROUNDS    open and refine in one of the two alone, for a profiler
 
 mod chance;
@@ -12,6 +13,7 @@ mod compare;
 mod diagram;
 mod library;
 mod measure;
+mod mixed;
 mod round;
 mod sheets;
 mod stack;
@@ -34,6 +36,14 @@ fn main() -> ExitCode {
             sheets::print_sheets();
             ExitCode::SUCCESS
         }
+        ["mixed-texts", cases] => {
+            print!("{}", mixed::Cases::by_chance(3, cases.parse().expect("how many cases")).texts);
+            ExitCode::SUCCESS
+        }
+        ["mixed-answers", cases] => {
+            print!("{}", mixed::Cases::by_chance(3, cases.parse().expect("how many cases")).answers);
+            ExitCode::SUCCESS
+        }
         ["repeat", who, width, times, rounds] => measure::repeat(
             who,
             width.parse().expect("a width"),
@@ -41,7 +51,7 @@ fn main() -> ExitCode {
             rounds.parse().expect("how many rounds, 24 at most"),
         ),
         _ => {
-            eprintln!("usage: morvuges-bench compare [ROUNDS] | measure | stack | texts | sheets | repeat library|twin WIDTH TIMES ROUNDS");
+            eprintln!("usage: morvuges-bench compare [ROUNDS] | measure | stack | texts | sheets | mixed-texts CASES | mixed-answers CASES | repeat library|twin WIDTH TIMES ROUNDS");
             ExitCode::from(2)
         }
     }

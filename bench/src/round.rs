@@ -29,6 +29,15 @@ impl Round {
         Round { n, load: 0, cap: 0, doors: [Door::default(); 17], drive: [[0; 17]; 17], ahead: [0; 17] }
     }
 
+    /// The clock of this round with what side rule and tally look at in another of as many doors.
+    pub fn under(&self, lent: &Round) -> Round {
+        let mut round = Round { load: lent.load, cap: lent.cap, ahead: lent.ahead, ..*self };
+        for (door, other) in round.doors.iter_mut().zip(&lent.doors) {
+            *door = Door { due: other.due, change: other.change, ..*door };
+        }
+        round
+    }
+
     pub fn text(&self) -> String {
         let mut s = String::new();
         writeln!(s, "round\t{}\t{}\t{}", self.n, self.load, self.cap).unwrap();
