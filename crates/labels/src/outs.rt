@@ -3,6 +3,7 @@ ghost use Rattle.std.specs.Prelude.{◌≡◌, ℕ, ◌<◌, ◌≤◌, take, sl
 ghost use Rattle.labels.specs.Passes.{doors_out};
 
 /// Doors less one, the first `many` of `doors`.
+#[derive(Drop)]
 pub struct Outs {
     pub doors: [u8; 16],
     pub many: usize,
