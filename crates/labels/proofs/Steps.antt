@@ -1,23 +1,16 @@
-use Rattle.std.proofs.Common.{◌≡◌, ℕ, zero, suc, ◌+◌, ◌-◌, ◌<◌, ◌≢◌, List, [], ◌∷◌, ◌++◌, map, length, get_or, take, drop, set, Some, None, fold, sym, refl, ap, ◌∙◌, arith}
-use Rattle.std.specs.List.{range_with_len, flat_map}
-use Rattle.std.proofs.lemmas.List.{flat_map_more}
+use Rattle.std.proofs.Common.{◌≡◌, ℕ, zero, suc, ◌-◌, ◌<◌, ◌≢◌, List, [], ◌∷◌, ◌++◌, map, length, get_or, take, drop, set, Some, None, fold, sym, refl, ap, ◌∙◌, arith}
+use Rattle.std.specs.List.{flat_map}
 use Rattle.std.proofs.lemmas.List.Sums.{fold-append}
 use Rattle.std.specs.Option.{unwrap_or}
 use Rattle.layers.specs.declared.node.Node.{Node}
 use Rattle.layers.specs.declared.node.Up.{Up}
 use Rattle.layers.specs.Labels.{climb, merge_up, no_up}
 use Rattle.labels.specs.Passes.{gathered_up, taken_up, bare, risen, risen_from}
-use Rattle.labels.proofs.Folds.{counting_more}
 
-pub folded-counting-more : {A B : Type 0} (f : B → A → B) (F : ℕ → List A) (a : B) (k : ℕ) → fold f a (flat_map F (range_with_len 0 (k + 1))) ≡ fold f (fold f a (flat_map F (range_with_len 0 k))) (F k)
-folded-counting-more f F a k =
-    ap (λ ys. fold f a (flat_map F ys)) (counting_more k)
-    ∙ ap (fold f a) (sym (flat_map_more F [] (range_with_len 0 k) k))
-    ∙ fold-append f a (flat_map F (range_with_len 0 k)) (F k)
-
-pub folded_more : {A B : Type 0} (f : B → A → B) (F : ℕ → List A) (a : B) (k : ℕ)
-    → fold f a (flat_map F (range_with_len 0 (k + 1))) ≡ fold f (fold f a (flat_map F (range_with_len 0 k))) (F k)
-folded_more f F a k = folded-counting-more f F a k
+-- a fold over what each brings, one by one
+pub fold_joined : {X A B : Type 0} (f : B → A → B) (F : X → List A) (a : B) (xs : List X) → fold (λ b x. fold f b (F x)) a xs ≡ fold f a (flat_map F xs)
+fold_joined f F a [] = refl
+fold_joined f F a (x ∷ xs) = fold_joined f F (fold f a (F x)) xs ∙ sym (fold-append f a (F x) (flat_map F xs))
 
 taken-some : (a : Up) (xs : List Up) → fold taken_up (Some a) xs ≡ Some (fold merge_up a xs)
 taken-some a [] = refl

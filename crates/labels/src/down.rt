@@ -8,6 +8,7 @@ ghost use Rattle.layers.specs.Settings.{lent_setting};
 ghost use Rattle.labels.specs.Passes.{Early, cleared, first_layer, next_layer, labelled_after, pass_down, landed, crossed, spread};
 
 use crate::leg::legs;
+use crate::outs::outs_of;
 use layers::node::{Down, Node};
 use layers::setting::Setting;
 use rules::rule::Rule;
@@ -104,7 +105,6 @@ fn cross<R: Rule, T: Tally>(
 }
 
 /// Over all arcs of the node u.
-#[tactic(auto, using(crate::proofs::Folds::folded_counting), unfolding(crate::specs::Passes::spread))]
 fn spread_node<R: Rule, T: Tally>(
     by: &Setting<'_, R, T>,
     u: &Node<R::State, T::Value>,
@@ -116,8 +116,10 @@ fn spread_node<R: Rule, T: Tally>(
         vs.new ≡ spread by vs.old u.now }
 {
     let legs = legs(by.round, u.label.down.lasts);
-    for k in 0..16 {
-        cross(by, u, &legs, vs, k);
+    let outs = outs_of(&u.arcs.to);
+    let doors = &outs.doors[..outs.many];
+    for k in doors {
+        cross(by, u, &legs, vs, usize::from(*k));
     }
 }
 

@@ -4,6 +4,7 @@ ghost use Rattle.layers.specs.declared.node.Node.{Node as ANode};
 ghost use Rattle.layers.specs.Labels.{climb};
 ghost use Rattle.labels.specs.Passes.{up_by, ups_of, gathered_up, risen, risen_from, pass_up, taken_up};
 
+use crate::outs::outs_of;
 use layers::node::{Node, Up};
 
 const NONE: Up = Up {
@@ -55,7 +56,7 @@ fn climb_by<S: Copy, V: Copy>(
 }
 
 /// What u gathers from the layer vs after it; a place that is not in use gathers nothing.
-#[tactic(auto, using(crate::proofs::Steps::folded_more, crate::proofs::Steps::taken_gathered), unfolding(crate::specs::Passes::ups_of, crate::specs::Passes::gathered_up))]
+#[tactic(auto, unfolding(crate::specs::Passes::ups_of, crate::specs::Passes::gathered_up))]
 fn climb_all<S: Copy, V: Copy>(vs: &[Node<S, V>], u: &Node<S, V>) -> Up
     ensures { result ≡ gathered_up (ups_of vs.now u.now) }
 {
@@ -63,8 +64,10 @@ fn climb_all<S: Copy, V: Copy>(vs: &[Node<S, V>], u: &Node<S, V>) -> Up
         return NONE;
     }
     let mut got: Option<Up> = None;
-    for k in 0..16 {
-        got = climb_by(vs, u, k, got);
+    let outs = outs_of(&u.arcs.to);
+    let doors = &outs.doors[..outs.many];
+    for k in doors {
+        got = climb_by(vs, u, usize::from(*k), got);
     }
     got.unwrap_or(NONE)
 }
