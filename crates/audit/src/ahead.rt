@@ -14,12 +14,14 @@ impl Ahead {
 
     /// Each of n doors ahead of each other one.
     pub(crate) fn all(n: usize) -> Ahead {
+        let mut doors = 0;
+        for j in 1..=n {
+            doors = with(doors, j);
+        }
         let mut ahead = Ahead::none();
-        for i in 1..=n {
-            for j in 1..=n {
-                if i != j {
-                    ahead.add(i, j);
-                }
+        for i in 1..17 {
+            if i <= n {
+                ahead.behind[i] = doors & !with(0, i);
             }
         }
         ahead
@@ -47,8 +49,8 @@ impl Ahead {
 
     /// What both say.
     pub(crate) fn both(mut self, other: Ahead) -> Ahead {
-        for (behind, others) in self.behind.iter_mut().zip(other.behind.iter()) {
-            *behind &= *others;
+        for i in 0..17 {
+            self.behind[i] &= other.behind[i];
         }
         self
     }

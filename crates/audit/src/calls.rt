@@ -1,5 +1,6 @@
 //! Calls drawn by dice.
 use crate::case::Case;
+use crate::counts::note;
 use crate::dice::Dice;
 use layers::call::Call;
 use layers::node::Node;
@@ -28,15 +29,18 @@ fn draw_node(dice: &mut Dice, count: usize) -> usize {
 /// How many of the layer's places look as if in use; past the end what the list was lent with counts too.
 fn count_nodes<S: Copy, V: Copy>(nodes: &[Node<S, V>], width: usize, layer: usize) -> usize {
     let first = layer.saturating_mul(width);
-    let places = nodes.iter().skip(first).take(width);
-    places.filter(|node| node.label.down.lasts != 0).count()
+    let mut count = 0;
+    for node in nodes.iter().skip(first).take(width) {
+        note(&mut count, node.label.down.lasts != 0);
+    }
+    count
 }
 
 /// What the first `count` doors cost, by number from another one on.
 fn rotated_cost<T: Tally>(round: &Round, tally: &T, from: usize, count: usize) -> T::Value {
     let mut doors = [0; 16];
-    for (k, door) in doors.iter_mut().enumerate() {
-        *door = from.saturating_add(k) % round.n + 1;
+    for k in 0..16 {
+        doors[k] = from.saturating_add(k) % round.n + 1;
     }
     match Order::of(round, &doors[..count.min(16)]) {
         Some(order) => order.cost(tally),

@@ -69,7 +69,7 @@ impl Counts {
 }
 
 /// A count, with what stands ahead of it and after it.
-type Row = (&'static str, usize, char);
+type Row = (&'static str, usize, &'static str);
 
 fn write_rows<W: fmt::Write>(f: &mut fmt::Formatter<W>, rows: &[Row]) -> fmt::Result {
     for (label, count, end) in rows {
@@ -81,30 +81,30 @@ fn write_rows<W: fmt::Write>(f: &mut fmt::Formatter<W>, rows: &[Row]) -> fmt::Re
 impl Counts {
     fn kind_rows(&self) -> [Row; 11] {
         [
-            ("pairs that close a ring", self.ring, '\t'),
-            ("pairs that rule out an order", self.pairs, '\n'),
-            ("hours that rule out an order", self.tight, '\t'),
-            ("loose hours", self.loose, '\n'),
-            ("a load that rules out an order", self.load, '\t'),
-            ("two orders of the least cost", self.equal, '\n'),
-            ("rounds with no allowed order", self.none, '\t'),
-            ("with one", self.one, '\t'),
-            ("with more", self.many, '\n'),
-            ("some ruled out by a ceiling", self.between, '\t'),
-            ("settled with more than one wanted", self.telling, '\n'),
+            ("pairs that close a ring", self.ring, "\t"),
+            ("pairs that rule out an order", self.pairs, "\n"),
+            ("hours that rule out an order", self.tight, "\t"),
+            ("loose hours", self.loose, "\n"),
+            ("a load that rules out an order", self.load, "\t"),
+            ("two orders of the least cost", self.equal, "\n"),
+            ("rounds with no allowed order", self.none, "\t"),
+            ("with one", self.one, "\t"),
+            ("with more", self.many, "\n"),
+            ("some ruled out by a ceiling", self.between, "\t"),
+            ("settled with more than one wanted", self.telling, "\n"),
         ]
     }
 
     fn call_rows(&self) -> [Row; 8] {
         [
-            ("sweeps that took out arcs", self.sweeps, '\t'),
-            ("cuts that did", self.cuts, '\n'),
-            ("the call before again", self.repeated, '\t'),
-            ("cuts at the cost of an order", self.equalled, '\n'),
-            ("parted", self.parted, '\t'),
-            ("joined", self.joined, '\t'),
-            ("refined whole", self.whole, '\t'),
-            ("refined full", self.full, '\n'),
+            ("sweeps that took out arcs", self.sweeps, "\t"),
+            ("cuts that did", self.cuts, "\n"),
+            ("the call before again", self.repeated, "\t"),
+            ("cuts at the cost of an order", self.equalled, "\n"),
+            ("parted", self.parted, "\t"),
+            ("joined", self.joined, "\t"),
+            ("refined whole", self.whole, "\t"),
+            ("refined full", self.full, "\n"),
         ]
     }
 }
@@ -122,12 +122,12 @@ impl fmt::Display for Counts {
             }
         }
         let sums = [
-            ("rounds", self.rounds, '\t'),
-            ("calls", self.calls, '\t'),
-            ("refused", self.refused, '\t'),
-            ("allowed", self.allowed, '\t'),
-            ("settled", self.settled, '\t'),
-            ("faults", self.faults, '\n'),
+            ("rounds", self.rounds, "\t"),
+            ("calls", self.calls, "\t"),
+            ("refused", self.refused, "\t"),
+            ("allowed", self.allowed, "\t"),
+            ("settled", self.settled, "\t"),
+            ("faults", self.faults, "\n"),
         ];
         write_rows(f, &sums)
     }

@@ -27,16 +27,22 @@ fn has_ring(round: &Round) -> bool {
             }
         }
     }
-    (1..=round.n).any(|j| !contains(done, j))
+    for j in 1..=round.n {
+        if !contains(done, j) {
+            return true;
+        }
+    }
+    false
 }
 
 /// Whether the first fault of some order is a door that closes too early.
 fn is_tight<R: Rule>(round: &Round, rule: &R) -> bool {
     let mut doors = BY_NUMBER;
     for _ in 0..MOST {
-        let order = Order::of(round, &doors[..round.n]);
-        if order.is_some_and(|order| matches!(order.verdict(rule), Verdict::Closes(_))) {
-            return true;
+        if let Some(order) = Order::of(round, &doors[..round.n]) {
+            if let Verdict::Closes(_) = order.verdict(rule) {
+                return true;
+            }
         }
         if !next_order(&mut doors[..round.n]) {
             return false;
@@ -46,13 +52,21 @@ fn is_tight<R: Rule>(round: &Round, rule: &R) -> bool {
 }
 
 impl<'a, R: Rule, T: Tally> Case<'a, R, T, T::Value> {
+    /// Whether no order costs less.
+    fn is_least(&self, cost: T::Value) -> bool {
+        for other in self.orders {
+            if !self.tally.not_above(cost, other.cost) {
+                return false;
+            }
+        }
+        true
+    }
+
     /// Whether two orders or more have the least cost.
     fn has_equal(&self) -> bool {
         let mut count = 0;
         for order in self.orders {
-            let mut others = self.orders.iter();
-            let is_least = others.all(|other| self.tally.not_above(order.cost, other.cost));
-            note(&mut count, is_least);
+            note(&mut count, self.is_least(order.cost));
         }
         count > 1
     }

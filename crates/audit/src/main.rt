@@ -23,10 +23,10 @@ use counts::Counts;
 use dice::Dice;
 use draw::{draw, round_of};
 use lister::list::list;
+use outcome::Outcome;
 use round::table::Round;
 use rules::both::Both;
 use spoilt::find_all;
-use std::io;
 use tallies::driving::Driving;
 use tallies::late::LateDoors;
 use tallies::tally::Tally;
@@ -63,15 +63,12 @@ struct Audit<'a> {
 }
 
 impl<'a> Audit<'a> {
-    /// One round under this tally, and its line.
-    fn audit_round<T: Tally, F: Fn(T::Value) -> io::Result<()>>(
+    /// One round under this tally, and its line up to the bound.
+    fn audit_round<T: Tally>(
         &mut self,
         drawn: &Drawn,
         tally: &T,
-        print_bound: F,
-    ) -> anyhow::Result<()>
-        requires { F.IsAlwaysCallable print_bound }
-    {
+    ) -> anyhow::Result<Outcome<T::Value>> {
         let rt = self.rt;
         let Drawn { round, width } = drawn;
         let rule = Both::of(round);
@@ -89,29 +86,29 @@ impl<'a> Audit<'a> {
             "round\t{}\tdoors\t{}\twidth\t{width}\tallowed\t{}\twanted\t{}\trefused\t{}\tbound\t",
             self.counts.rounds, round.n, outcome.allowed, outcome.wanted, outcome.refused
         )?;
-        match outcome.bound {
-            Some(bound) => print_bound(bound)?,
-            None => print!(rt; "none")?,
-        }
-        println!(rt; "\t{outcome}")?;
-        Ok(())
+        Ok(outcome)
     }
 
     fn audit_late(&mut self) -> anyhow::Result<()> {
         let rt = self.rt;
         let drawn = draw_round(rt, &mut self.dice)?;
-        let tally = LateDoors::of(&drawn.round);
-        self.audit_round(
-            &drawn,
-            &tally,
-            |(doors, minutes)| print!(rt; "{doors} {minutes}"),
-        )
+        let outcome = self.audit_round(&drawn, &LateDoors::of(&drawn.round))?;
+        match outcome.bound {
+            Some((doors, minutes)) => println!(rt; "{doors} {minutes}\t{outcome}")?,
+            None => println!(rt; "none\t{outcome}")?,
+        }
+        Ok(())
     }
 
     fn audit_driving(&mut self) -> anyhow::Result<()> {
         let rt = self.rt;
         let drawn = draw_round(rt, &mut self.dice)?;
-        self.audit_round(&drawn, &Driving, |minutes| print!(rt; "{minutes}"))
+        let outcome = self.audit_round(&drawn, &Driving)?;
+        match outcome.bound {
+            Some(minutes) => println!(rt; "{minutes}\t{outcome}")?,
+            None => println!(rt; "none\t{outcome}")?,
+        }
+        Ok(())
     }
 }
 

@@ -3,7 +3,7 @@ use crate::counts::{Counts, note};
 use crate::fault::Fault;
 use std::fmt;
 
-#[derive(Clone, Copy)]
+#[derive(Drop)]
 pub(crate) struct Outcome<V> {
     pub(crate) allowed: usize,
     /// of the allowed orders, those whose cost is above no ceiling

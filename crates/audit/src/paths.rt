@@ -20,8 +20,10 @@ pub(crate) struct Paths<V> {
 
 /// The node of the next layer, counted from 0, to which the arc by a door leads from a place.
 fn target(arcs: &[Arcs], place: usize, door: usize) -> Option<usize> {
-    let to = arcs.get(place)?.to.get(door.checked_sub(1)?)?;
-    usize::from(*to).checked_sub(1)
+    if arcs.len() <= place || door < 1 || 16 < door {
+        return None;
+    }
+    usize::from(arcs[place].to[door - 1]).checked_sub(1)
 }
 
 /// The first place of the list whose door has no arc, walking from the first node; none if the list is a path.
@@ -76,11 +78,13 @@ impl<'a, R: Rule, T: Tally> Case<'a, R, T, T::Value> {
             ahead: Ahead::all(n),
         };
         for _ in 0..MOST {
-            let gap = first_gap(arcs, self.width, &doors[..n]);
-            if gap.is_none() {
-                paths = self.met(paths, &doors[..n])?;
-            }
-            let end = gap.map_or(n, |layer| layer.saturating_add(1).min(n));
+            let end = match first_gap(arcs, self.width, &doors[..n]) {
+                Some(layer) => layer.saturating_add(1).min(n),
+                None => {
+                    paths = self.met(paths, &doors[..n])?;
+                    n
+                }
+            };
             if !advance(&mut doors[..end], n) {
                 return Ok(paths);
             }

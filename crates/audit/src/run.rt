@@ -92,6 +92,16 @@ impl<'a, R: Rule, T: Tally> Case<'a, R, T, T::Value> {
         }
     }
 
+    /// Whether some allowed order costs this.
+    fn has_cost(&self, cost: T::Value) -> bool {
+        for order in self.orders {
+            if is_same(self.tally, order.cost, cost) {
+                return true;
+            }
+        }
+        false
+    }
+
     /// Orders that a cut rules out are no longer wanted.
     fn note_cut(
         &self,
@@ -102,9 +112,7 @@ impl<'a, R: Rule, T: Tally> Case<'a, R, T, T::Value> {
         let Call::Cut { ceiling } = call else {
             return;
         };
-        let mut orders = self.orders.iter();
-        let is_equalled = orders.any(|order| is_same(self.tally, order.cost, ceiling));
-        note(&mut counts.equalled, is_equalled);
+        note(&mut counts.equalled, self.has_cost(ceiling));
         wanted.retain(|order| self.tally.not_above(order.cost, ceiling));
     }
 

@@ -18,8 +18,8 @@ pub(crate) struct Seen<V> {
 
 fn arcs_of<S: Copy, V: Copy>(nodes: &[Node<S, V>]) -> [Arcs; LENT] {
     let mut arcs = [Arcs { to: [0; 16] }; LENT];
-    for (at, node) in arcs.iter_mut().zip(nodes.iter()) {
-        *at = node.arcs;
+    for k in 0..LENT.min(nodes.len()) {
+        arcs[k] = nodes[k].arcs;
     }
     arcs
 }

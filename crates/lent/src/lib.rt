@@ -15,9 +15,6 @@ use round::table::Round;
 use rules::rule::Rule;
 use tallies::tally::Tally;
 
-#[cfg(test)]
-mod cases;
-
 fn opened<R: Rule, T: Tally>(
     room: Room<'_>,
     rule: &R,

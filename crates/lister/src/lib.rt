@@ -2,7 +2,5 @@
 //! diagram has a part in it.
 #![tactic(auto)]
 
-#[cfg(test)]
-mod cases;
 pub mod list;
 pub mod next;

@@ -3,5 +3,3 @@
 
 mod lines;
 pub mod sheet;
-#[cfg(test)]
-mod tests;

@@ -1,7 +1,7 @@
 //! A side rule: the order begins with one door. A state is whether the van may have begun.
 ghost use Rattle.std.specs.Prelude.{◌≡◌, false, []};
-ghost use Rattle.outside.specs.Opener.{Begins, opener_sense};
-ghost use Rattle.outside.specs.OpenerLaws.{opener_lawful, opener_lawful_for};
+ghost use Rattle.cases.specs.Opener.{Begins, opener_sense};
+ghost use Rattle.cases.specs.OpenerLaws.{opener_lawful, opener_lawful_for};
 
 use rules::rule::Rule;
 

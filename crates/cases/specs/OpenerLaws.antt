@@ -6,7 +6,7 @@ use Rattle.std.proofs.lemmas.Bool.Decides.{nat_tests}
 use Rattle.doors.specs.Orders.{is_door}
 use Rattle.doors.proofs.Orders.{door-is, not-door}
 use Rattle.rules.specs.Rules.{RuleLaws}
-use Rattle.outside.specs.Opener.{Begins, same_bool, opener_sense}
+use Rattle.cases.specs.Opener.{Begins, same_bool, opener_sense}
 
 or-true : (s : Bool) → (s || s) ≡ s
 or-true true = refl

@@ -1,7 +1,7 @@
 //! A tally: the latest finish so far.
 ghost use Rattle.std.specs.Prelude.{◌≤◌};
 ghost use Rattle.round.specs.Clock.{latest_finish};
-ghost use Rattle.outside.specs.Latest.{latest_sense};
+ghost use Rattle.cases.specs.Latest.{latest_sense};
 ghost use Rattle.std.proofs.Common.{rules};
 
 use tallies::tally::Tally;

@@ -1,0 +1,58 @@
+//! How many orders the lister gives, and which comes next.
+use crate::rounds::round_of;
+use lister::list::list;
+use lister::next::next_order;
+use rules::pairs::Pairs;
+use std::test::Fail;
+use tallies::driving::Driving;
+
+/// How many lists come from this one on, each after the one before it.
+fn count_from(doors: &mut [usize; 4]) -> usize {
+    for seen in 1..100 {
+        let before = *doors;
+        if !next_order(doors) || *doors <= before {
+            return seen;
+        }
+    }
+    0
+}
+
+#[test]
+fn four_doors_have_24_orders(rt: HostRuntime) {
+    let mut doors = [1, 2, 3, 4];
+    assert_eq!(rt; count_from(&mut doors), 24);
+    assert_eq!(rt; doors, [4, 3, 2, 1]);
+}
+
+#[test]
+fn the_next_order(rt: HostRuntime) {
+    let mut doors = [2, 4, 3, 1];
+    assert!(rt; next_order(&mut doors));
+    assert_eq!(rt; doors, [3, 1, 2, 4]);
+}
+
+#[test]
+fn the_last_order_stays(rt: HostRuntime) {
+    let mut doors = [3, 2, 1];
+    assert!(rt; !next_order(&mut doors));
+    assert_eq!(rt; doors, [3, 2, 1]);
+}
+
+/// Eight doors that are open all day, with a minute of work at each.
+const EIGHT: &[u8] =
+    b"round\t8\t0\t0\ndoor\t1\t0\t9999\t0\t1\t0\ndoor\t2\t0\t9999\t0\t1\t0\ndoor\t3\t0\t9999\t0\t1\t0\ndoor\t4\t0\t9999\t0\t1\t0\ndoor\t5\t0\t9999\t0\t1\t0\ndoor\t6\t0\t9999\t0\t1\t0\ndoor\t7\t0\t9999\t0\t1\t0\ndoor\t8\t0\t9999\t0\t1\t0\ndrive\t0\t0\t0\t0\t0\t0\t0\t0\t0\ndrive\t1\t-\t0\t0\t0\t0\t0\t0\t0\ndrive\t2\t0\t-\t0\t0\t0\t0\t0\t0\ndrive\t3\t0\t0\t-\t0\t0\t0\t0\t0\ndrive\t4\t0\t0\t0\t-\t0\t0\t0\t0\ndrive\t5\t0\t0\t0\t0\t-\t0\t0\t0\ndrive\t6\t0\t0\t0\t0\t0\t-\t0\t0\ndrive\t7\t0\t0\t0\t0\t0\t0\t-\t0\ndrive\t8\t0\t0\t0\t0\t0\t0\t0\t-\n";
+
+/// Seven such doors, of which 5 comes ahead of 2.
+const SEVEN: &[u8] =
+    b"round\t7\t0\t0\ndoor\t1\t0\t9999\t0\t1\t0\ndoor\t2\t0\t9999\t0\t1\t0\ndoor\t3\t0\t9999\t0\t1\t0\ndoor\t4\t0\t9999\t0\t1\t0\ndoor\t5\t0\t9999\t0\t1\t0\ndoor\t6\t0\t9999\t0\t1\t0\ndoor\t7\t0\t9999\t0\t1\t0\ndrive\t0\t0\t0\t0\t0\t0\t0\t0\ndrive\t1\t-\t0\t0\t0\t0\t0\t0\ndrive\t2\t0\t-\t0\t0\t0\t0\t0\ndrive\t3\t0\t0\t-\t0\t0\t0\t0\ndrive\t4\t0\t0\t0\t-\t0\t0\t0\ndrive\t5\t0\t0\t0\t0\t-\t0\t0\ndrive\t6\t0\t0\t0\t0\t0\t-\t0\ndrive\t7\t0\t0\t0\t0\t0\t0\t-\nfirst\t5\t2\n";
+
+/// All orders of the eight doors, and of the seven one in two.
+#[test]
+fn open_doors_have_all_orders_and_a_pair_halves_them(rt: HostRuntime) -> Result<(), Fail> {
+    for (text, count) in [(EIGHT, 40_320), (SEVEN, 2_520)] {
+        let round = round_of(text)?;
+        let orders = list(rt.alloc(), &round, &Pairs::of(&round), &Driving)?;
+        assert_eq!(rt; orders.len(), count);
+    }
+    Ok(())
+}

@@ -1,0 +1,179 @@
+//! Each refusal of a text at its line and field, which of several comes, and the length of a text.
+use crate::rounds::text_of;
+use round::table::Round;
+use std::alloc::{AllocError, Global};
+use std::test::Fail;
+use text::reading::read_bounded;
+
+/// A round of two doors, cut where the tests go on.
+const HEAD: &[u8] = b"round\t2\t0\t9\n";
+
+const DOORS: &[u8] = b"door\t1\t0\t9\t9\t1\t0\ndoor\t2\t0\t9\t9\t1\t-5\n";
+
+const DRIVES: &[u8] = b"drive\t0\t1\t1\ndrive\t1\t-\t10\ndrive\t2\t1\t-\n";
+
+/// How a text is read: number, line and field of its refusal, or three zeros.
+fn outcome(text: &[u8]) -> (u8, usize, usize) {
+    let mut round = Round::fresh();
+    match read_bounded(&mut round, text) {
+        Ok(()) => (0, 0, 0),
+        Err(refusal) => (refusal.number(), refusal.line(), refusal.field()),
+    }
+}
+
+/// How the text is read that goes on from these parts.
+fn after(heap: Global, ahead: &[&[u8]], text: &[u8]) -> Result<(u8, usize, usize), AllocError> {
+    let mut whole = ahead.concat(heap)?;
+    whole.extend_from_slice(text)?;
+    Ok(outcome(whole.as_slice()))
+}
+
+#[test]
+fn the_example_is_read(rt: HostRuntime) {
+    let mut round = Round::fresh();
+    let text = b"round\t1\t4\t5\ndoor\t1\t2\t90\t80\t7\t-1\ndrive\t0\t33\ndrive\t1\t-\n";
+    assert!(rt; read_bounded(&mut round, text).is_ok());
+    assert_eq!(rt; (round.n, round.load, round.cap), (1, 4, 5));
+    let door = round.door(1);
+    assert_eq!(rt;
+        (door.opens, door.closes, door.due, door.work),
+        (2, 90, 80, 7)
+    );
+    assert_eq!(rt; (door.change, round.drive(0, 1)), (-1, 33));
+}
+
+#[test]
+fn a_refusal_leaves_the_round(rt: HostRuntime) {
+    let mut round = Round::fresh();
+    assert!(rt; read_bounded(&mut round, b"round\t2\t7\t8\nx").is_err());
+    assert_eq!(rt; (round.n, round.load, round.cap), (1, 0, 0));
+}
+
+/// Three doors, the third of which opens at no number.
+const NO_NUMBER: &[u8] =
+    b"round\t3\t0\t0\ndoor\t1\t0\t3\t3\t2\t0\ndoor\t2\t4\t9\t7\t2\t0\ndoor\t3\tx\t8\t6\t3\t0\ndrive\t0\t0\t0\t0\ndrive\t1\t-\t0\t0\ndrive\t2\t0\t-\t0\ndrive\t3\t0\t0\t-\n";
+
+#[test]
+fn a_refusal_is_shown_with_tabs(rt: HostRuntime) -> Result<(), Fail> {
+    for (text, line) in [
+        (b"round\t1\t5\t4\n".as_slice(), "refused\t4\t1\t4"),
+        (NO_NUMBER, "refused\t3\t4\t3"),
+    ] {
+        let mut round = Round::fresh();
+        let Err(refusal) = read_bounded(&mut round, text) else {
+            return Err(Fail::new("read"));
+        };
+        assert_eq!(rt; text_of(rt.alloc(), refusal)?.as_str(), line);
+    }
+    Ok(())
+}
+
+/// Texts, with the number, line and field that each is refused with, and what is wrong.
+type Cases<'a> = &'a [(&'a [u8], (u8, usize, usize), &'a str)];
+
+const LINES: Cases<'static> = &[
+    (b"", (1, 1, 1), "empty text"),
+    (b"round\t1\t0\t0", (6, 1, 1), "no line feed"),
+    (b"junk", (6, 1, 1), "6 ahead of 1"),
+    (b"\n", (1, 1, 1), "blank line"),
+    (b"Round\t1\t0\t0\n", (1, 1, 1), "another kind"),
+    (b"\xffound\t1\t0\t0\n", (1, 1, 1), "a byte above 127"),
+    (b"door\t1\n", (1, 1, 1), "1 ahead of 2"),
+    (b"round\n", (2, 1, 1), "kind alone"),
+    (b"round\t1\t0\t0\t0\n", (2, 1, 1), "a field too many"),
+    (b"round\tx\t0\n", (2, 1, 1), "2 ahead of 3"),
+    (b"round\t1\t0\t0\n", (1, 2, 1), "text ends early"),
+];
+
+const NUMBERS: Cases<'static> = &[
+    (b"round\t\t0\t0\n", (3, 1, 2), "empty field"),
+    (b"round\t+1\t0\t0\n", (3, 1, 2), "plus"),
+    (b"round\t01\t0\t0\n", (3, 1, 2), "leading zero"),
+    (b"round\t-1\t0\t0\n", (3, 1, 2), "minus outside change"),
+    (b"round\t1\t0\t0\r\n", (3, 1, 4), "carriage return"),
+    (b"round\t1\xb2\t0\t0\n", (3, 1, 2), "a byte above 127"),
+    (b"round\t0\t0\t0\n", (4, 1, 2), "no door"),
+    (b"round\t17\t0\t0\n", (4, 1, 2), "too many doors"),
+    (b"round\t1\t1000\tx\n", (4, 1, 3), "from the left"),
+    (b"round\t1\t5\t4\n", (4, 1, 4), "cap below start load"),
+    (
+        b"round\t1111111111222222222233333333334444444444\t0\t0\n",
+        (4, 1, 2),
+        "forty digits",
+    ),
+];
+
+/// What may come where a door is due.
+const DOOR_LINES: Cases<'static> = &[
+    (b"door\t2\t0\t9\t9\t1\t0\n", (5, 2, 2), "out of turn"),
+    (b"door\t3\t0\t9\t9\t1\t0\n", (4, 2, 2), "4 ahead of 5"),
+    (
+        b"door\t2\t0\tx\t9\t1\t0\n",
+        (5, 2, 2),
+        "the left field first",
+    ),
+    (b"door\t1\t10000\t9\t9\t1\t0\n", (4, 2, 3), "opens"),
+    (b"door\t1\t0\t9\t9\t0\t0\n", (4, 2, 6), "no work"),
+    (b"door\t1\t0\t9\t9\t1000\t0\n", (4, 2, 6), "too much work"),
+    (b"door\t1\t0\t9\t9\t1\t-0\n", (3, 2, 7), "minus before 0"),
+    (b"door\t1\t0\t9\t9\t1\t-100\n", (4, 2, 7), "change"),
+];
+
+/// What may come where drives are due.
+const DRIVE_LINES: Cases<'static> = &[
+    (b"", (1, 4, 1), "drives are due"),
+    (b"door\t3\t0\t9\t9\t1\t0\n", (1, 4, 1), "no third door"),
+    (b"drive\t1\t-\t1\n", (5, 4, 2), "out of turn"),
+    (b"drive\t3\t1\t1\n", (4, 4, 2), "no such place"),
+    (b"drive\t0\t-\t1\n", (3, 4, 3), "- where not due"),
+    (b"drive\t0\t1\t1000\n", (4, 4, 4), "too far"),
+    (b"drive\t0\t1\t1\ndrive\t1\t0\t1\n", (3, 5, 3), "- is due"),
+];
+
+/// What may come once all drives are there.
+const PAIR_LINES: Cases<'static> = &[
+    (b"", (0, 0, 0), "whole"),
+    (b"drive\t0\t1\t1\n", (1, 7, 1), "one drive too many"),
+    (b"first\t1\t2\nfirst\t1\t2\n", (0, 0, 0), "a pair twice"),
+    (b"first\t1\t1\n", (5, 7, 3), "with itself"),
+    (b"first\t1\t3\n", (4, 7, 3), "no such door"),
+    (b"first\t1\t2", (6, 7, 1), "no line feed"),
+];
+
+/// The parts of the text ahead of the cases.
+const GROUPS: &[(&[&[u8]], Cases<'static>)] = &[
+    (&[], LINES),
+    (&[], NUMBERS),
+    (&[HEAD], DOOR_LINES),
+    (&[HEAD, DOORS], DRIVE_LINES),
+    (&[HEAD, DOORS, DRIVES], PAIR_LINES),
+];
+
+#[test]
+fn each_refusal_comes_where_it_should(rt: HostRuntime) -> Result<(), Fail> {
+    for (ahead, cases) in GROUPS {
+        for (text, want, what) in *cases {
+            assert_eq!(rt; after(rt.alloc(), ahead, text)?, *want, "{what}");
+        }
+    }
+    Ok(())
+}
+
+/// The 84 bytes of the round of two doors, that many lines of 10 bytes, and the last bytes.
+fn long(heap: Global, pairs: usize, last: &[u8]) -> Result<(u8, usize, usize), AllocError> {
+    let lines = b"first\t1\t2\n".repeat(heap, pairs)?;
+    after(heap, &[HEAD, DOORS, DRIVES, lines.as_slice()], last)
+}
+
+#[test]
+fn texts_up_to_16384_bytes(rt: HostRuntime) -> Result<(), Fail> {
+    assert_eq!(rt; HEAD.len() + DOORS.len() + DRIVES.len(), 84);
+    for (pairs, last, want, what) in [
+        (1630, b"".as_slice(), (0, 0, 0), "16,384 bytes"),
+        (1630, b"x", (7, 0, 0), "16,385 bytes, 7 ahead of 6"),
+        (1700, b"", (7, 0, 0), "longer"),
+    ] {
+        assert_eq!(rt; long(rt.alloc(), pairs, last)?, want, "{what}");
+    }
+    Ok(())
+}
