@@ -1,8 +1,8 @@
 //! The pass up: each node gathers from its targets, layer by layer from the end.
-ghost use Rattle.std.specs.Prelude.{◌≡◌, ℕ, ◌+◌, ◌*◌, ◌<◌, ◌≤◌, map, length, fold};
+ghost use Rattle.std.specs.Prelude.{◌≡◌, ℕ, ◌+◌, ◌*◌, ◌<◌, ◌≤◌, length, fold};
 ghost use Rattle.layers.specs.declared.node.Node.{Node as ANode};
 ghost use Rattle.layers.specs.Labels.{climb};
-ghost use Rattle.labels.specs.Passes.{up_by, ups_of, gathered_up, risen, risen_from, pass_up, taken_up};
+ghost use Rattle.labels.specs.Passes.{up_by, ups_of, gathered_up, renewed, risen, risen_from, pass_up, taken_up};
 
 use crate::outs::outs_of;
 use layers::node::{Node, Up};
@@ -72,11 +72,14 @@ fn climb_all<S: Copy, V: Copy>(vs: &[Node<S, V>], u: &Node<S, V>) -> Up
     got.unwrap_or(NONE)
 }
 
-/// The layer us gathers from the layer vs after it.
+/// The nodes of the layer us, which stand first, gather from the layer vs after it.
 fn rise_layer<S: Copy, V: Copy>(us: &mut [Node<S, V>], vs: &[Node<S, V>])
-    ensures { us.new ≡ map (risen vs.now) us.old }
+    ensures { us.new ≡ renewed (risen vs.now) us.old }
 {
     for u in us.iter_mut() {
+        if u.label.down.lasts == 0 {
+            break;
+        }
         let up = climb_all(vs, u);
         u.label.up = up;
     }
