@@ -104,6 +104,7 @@ fn sweep_out<R: Rule, T: Tally>(by: &Setting<'_, R, T>, nodes: &mut [Node<R::Sta
 /// Takes layers 1 to n - 1 in turn: sweeps once, then parts each node whose in-arcs do not all agree, up to a layer that has
 /// no place for one more. At the end it sweeps until nothing is taken out. A list that has no room for the diagram is left alone,
 /// and is whole.
+#[tactic(auto, unfolding(crate::specs::Steps::refine_steps))]
 pub fn refine<R: Rule, T: Tally>(
     by: &Setting<'_, R, T>,
     nodes: &mut [Node<R::State, T::Value>],
