@@ -1,4 +1,3 @@
-use Rattle.std.proofs.Common.{◌≡◌}
 use Rattle.layers.specs.Settings.{lent_setting}
 use Rattle.refine.specs.Steps.{refine_steps}
 use Rattle.refine.proofs.RefineWords.{refine_done}

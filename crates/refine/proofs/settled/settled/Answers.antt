@@ -1,4 +1,4 @@
-use Rattle.std.proofs.Common.{◌≡◌, length, arith}
+use Rattle.std.proofs.Common.{length, arith}
 use Rattle.labels.proofs.Rooms.{room-facts}
 use Rattle.layers.specs.Calls.{is_settled}
 use Rattle.refine.proofs.settled.settled.Goals as goal
