@@ -64,73 +64,58 @@ module _ {S V : Type 0} (by : Setting S V) (self : (s : S) → by.rule.same s s 
     once-words true h = labelled-words by xs s.fit s.shaped (is_barred by.round by.rule) (h refl)
     once-words false h = sweep-words by xs s.fit s.shaped
 
-    -- ---- records laid out anew
-    module _ (Ls : Net) (p : IsLawful n by.width Ls) where
-      relaid-later : later (records_with by xs Ls) ≡ later xs
-      unfolding records_with
-      relaid-later = later-stays by room.low (later xs) Ls p.deep
+    -- records laid out anew
+    record Fresh (ys : Recs) : Type 0 where
+      sound : Sound ys
+      labelled : IsLabelled by ys
+      tail : later ys ≡ later xs
+      long : length ys ≡ length xs
 
-      relaid-long : length (records_with by xs Ls) ≡ length xs
-      unfolding records_with labelled_records
-      relaid-long =
-          let r = room in
-          let l : length (labelled_records by Ls) ≡ n * by.width + 1 = laid-long by r.low (first_labels by.rule by.tally) Ls ∙ ap (λ (k : ℕ). k * by.width + 1) p.deep in
-          omega (arith, length-append (labelled_records by Ls) (later xs), l, length-drop (n * by.width + 1) xs)
-
-      relaid-sound : Sound (records_with by xs Ls)
-      relaid-sound = record { fit = ap (fits n by.width) relaid-long ∙ s.fit; shaped = relaid-shaped by room.low xs Ls p }
-
-      relaid-labelled : IsLabelled by (records_with by xs Ls)
-      unfolding records_with
-      relaid-labelled = rw (arcs-X by room.low (later xs) Ls p) (ap (λ (ys : Recs). labelled_records by Ls ++ ys) relaid-later)
+    relaid : (Ls : Net) → IsLawful n by.width Ls → Fresh (records_with by xs Ls)
+    unfolding records_with labelled_records
+    relaid Ls p =
+        let r = room in
+        let l : length (labelled_records by Ls) ≡ n * by.width + 1 = laid-long by r.low (first_labels by.rule by.tally) Ls ∙ ap (λ (k : ℕ). k * by.width + 1) p.deep in
+        let same : length (labelled_records by Ls ++ later xs) ≡ length xs = omega (arith, length-append (labelled_records by Ls) (later xs), l, length-drop (n * by.width + 1) xs) in
+        let rest = later-stays by r.low (later xs) Ls p.deep in
+        record { sound = record { fit = ap (fits n by.width) same ∙ s.fit; shaped = relaid-shaped by r.low xs Ls p }; labelled = rw (arcs-X by r.low (later xs) Ls p) (ap (λ (ys : Recs). labelled_records by Ls ++ ys) rest); tail = rest; long = same }
 
     left-proper : IsLawful n by.width (left xs)
     left-proper = proper-kept by room.low (is_barred by.round by.rule) (arcs n by.width xs) (labels n by.width xs) (proper by.round by.width xs s.fit s.shaped)
 
     -- a sweep
-    abbrev swept : Recs
-    swept = after_sweep by xs
-
-    swept-sound : Sound swept
+    swept-fresh : Fresh (after_sweep by xs)
     unfolding after_sweep
-    swept-sound = relaid-sound (left xs) left-proper
-
-    swept-labelled : IsLabelled by swept
-    unfolding after_sweep
-    swept-labelled = relaid-labelled (left xs) left-proper
-
-    swept-later : later swept ≡ later xs
-    unfolding after_sweep
-    swept-later = relaid-later (left xs) left-proper
+    swept-fresh = relaid (left xs) left-proper
 
     -- ---- a layer
     module _ (i : ℕ) (lo : 1 ≤ i) (hi : i < n) where
-      parts-done : LayerDone by room.low (later xs) (Stands by room.low (later xs) (i - 1)) swept (parts i xs) (layer_steps by i swept)
+      parts-done : LayerDone by room.low (later xs) (Stands by room.low (later xs) (i - 1)) (after_sweep by xs) (parts i xs) (layer_steps by i (after_sweep by xs))
       unfolding after_sweep records_with
       parts-done =
           layer-net by room.low (later xs) (Stands by room.low (later xs) (i - 1)) self i lo hi
-          (record { start = λ Ls p. record { ups = refl; downs = refl; places = refl }; step = parted-stands by room.low (later xs) (i - 1) }) room.high swept (record { net = left xs; well = left-proper; is = refl; holds = tt })
+          (record { start = λ Ls p. record { ups = refl; downs = refl; places = refl }; step = parted-stands by room.low (later xs) (i - 1) }) room.high (after_sweep by xs) (record { net = left xs; well = left-proper; is = refl; holds = tt })
 
       layer-words : Known (ltb 1 i) xs → one_layer by i xs ≡ parts i xs
       unfolding one_layer records_with
       layer-words h =
           let q = parts-done in
           let Ls = q.left.net in
-          let zs = (layer_steps by i swept).1 in
+          let zs = (layer_steps by i (after_sweep by xs)).1 in
           let st = q.left.holds.1 in
           let deep : length Ls * by.width + 1 ≡ n * by.width + 1 = ap (λ (k : ℕ). k * by.width + 1) q.left.well.deep in
           let back : suc (i - 1) ≡ i = omega arith in
-          let is : labelled_records by Ls ++ later xs ≡ records_with by zs Ls = ap (λ (ys : Recs). labelled_records by Ls ++ ys) (sym (q.tail ∙ swept-later)) in
+          let is : labelled_records by Ls ++ later xs ≡ records_with by zs Ls = ap (λ (ys : Recs). labelled_records by Ls ++ ys) (sym (q.tail ∙ swept-fresh.tail)) in
           let below : below_steps by i zs ≡ records_with by zs Ls =
-          below-laid by i Ls zs (ap (fits n by.width) q.long ∙ swept-sound.fit) lo (omega arith) q.left.well
+          below-laid by i Ls zs (ap (fits n by.width) q.long ∙ swept-fresh.sound.fit) lo (omega arith) q.left.well
           (ap (λ (k : ℕ). arcs_read (take k zs)) (sym deep) ∙ arcs-laid by.width Ls zs q.left.holds.0) (st.ups ∙ ap (map up_of) is)
           (subst (λ (k : ℕ). HasDownsBefore by k Ls zs) back (st.downs ∙ ap (λ ys. map down_of (take (suc (i - 1) * by.width) ys)) is)) in
           ap (λ (ys : Recs). ((layer_steps by i ys).0, below_steps by i (layer_steps by i ys).1)) (once-words (ltb 1 i) h)
           ∙ ap₂ (λ (b : Bool) (ys : Recs). (b, ys)) q.answer (below ∙ sym is ∙ sym q.left.is)
 
-      parts-sound : Sound (parts i xs).1 × IsLabelled by (parts i xs).1
+      parts-fresh : Fresh (parts i xs).1
       unfolding records_with
-      parts-sound = let q = parts-done in rw q.left.is (relaid-sound q.left.net q.left.well, relaid-labelled q.left.net q.left.well)
+      parts-fresh = let q = parts-done in rw q.left.is (relaid q.left.net q.left.well)
 
   -- ---- all layers
   layers-words : (k i : ℕ) (xs : Recs) → Sound xs → Known (ltb 1 i) xs → 1 ≤ i → i + k ≤ n
@@ -139,9 +124,9 @@ module _ {S V : Type 0} (by : Setting S V) (self : (s : S) → by.rule.same s s 
   layers-words zero i xs s h lo hi = (refl, s, λ e. h (ap (ltb 1) (sym (add-zero i)) ∙ e))
   layers-words (suc k) i xs s h lo hi =
       let Y = (parts i xs).1 in
-      let t = parts-sound xs s i lo (omega arith) in
-      let ih = layers-words k (suc i) Y t.0 (λ e. t.1) (omega arith) (omega arith) in
-      let good = cond_both (parts i xs).0 (Full i, Y) (refinement_from by k (suc i) Y) (λ z. Sound z.1 × Known (ltb 1 (i + suc k)) z.1) (λ _. (t.0, λ e. t.1)) (λ _. (ih.1, λ e. ih.2 (ap (ltb 1) (omega arith) ∙ e))) in (
+      let t = parts-fresh xs s i lo (omega arith) in
+      let ih = layers-words k (suc i) Y t.sound (λ e. t.labelled) (omega arith) (omega arith) in
+      let good = cond_both (parts i xs).0 (Full i, Y) (refinement_from by k (suc i) Y) (λ z. Sound z.1 × Known (ltb 1 (i + suc k)) z.1) (λ _. (t.sound, λ e. t.labelled)) (λ _. (ih.1, λ e. ih.2 (ap (ltb 1) (omega arith) ∙ e))) in (
         ap (λ (p : Bool × Recs). cond p.0 (Full i, p.1) (some_layers by k (suc i) p.1)) (layer-words xs s i lo (omega arith) h) ∙ ap (λ (z : Refined × Recs). cond (parts i xs).0 (Full i, Y) z) ih.0,
         good.0,
         good.1,
@@ -154,11 +139,11 @@ module _ {S V : Type 0} (by : Setting S V) (self : (s : S) → by.rule.same s s 
   out-words known zero xs s h t = (refl, s.shaped, t refl)
   out-words known (suc k) xs s h t =
       let Y = after_sweep by xs in
-      let sY = swept-sound xs s in
+      let f = swept-fresh xs s in
       let tY = swept-timely by xs s.fit s.shaped in
-      let ih = out-words true k Y sY (λ e. swept-labelled xs s) (λ e. tY) in
-      let good = cond_both (eqb (sweep_answer by xs) 0) Y (after_sweeps by k Y) (λ zs. IsShaped n by.width zs × IsTimely n by.width zs) (λ _. (sY.shaped, tY)) (λ _. (ih.1, ih.2)) in
-      let few : arc_count n by.width xs - arc_count n by.width Y ≡ sweep_answer by xs = fewer-words by.round by.width xs Y s.fit (unfold after_sweep in relaid-long xs s (left xs) (left-proper xs s)) s.shaped sY.shaped in (
+      let ih = out-words true k Y f.sound (λ e. f.labelled) (λ e. tY) in
+      let good = cond_both (eqb (sweep_answer by xs) 0) Y (after_sweeps by k Y) (λ zs. IsShaped n by.width zs × IsTimely n by.width zs) (λ _. (f.sound.shaped, tY)) (λ _. (ih.1, ih.2)) in
+      let few : arc_count n by.width xs - arc_count n by.width Y ≡ sweep_answer by xs = fewer-words by.round by.width xs Y s.fit f.long s.shaped f.sound.shaped in (
         ap (λ (ys : Recs). cond (eqb (arc_count n by.width xs - arc_count n by.width ys) 0) ys (sweeps_out by true k ys)) (once-words xs s known h)
             ∙ ap₂ (λ (m : ℕ) (zs : Recs). cond (eqb m 0) Y zs) few ih.0,
         good.0,
