@@ -1,4 +1,4 @@
--- Parting on arcs: the new node is a copy of an old one. So far as labels below the layer rest on them, the labels of the parted net are so copied too.
+-- Parting on arcs: the new node is a copy of an old one, its label too. So are the labels of the parted net, as far as relabelling from the layer on rests on them.
 use Rattle.std.proofs.Common.{◌≡◌, ℕ, zero, suc, ◌+◌, ◌-◌, ◌*◌, ◌<◌, ◌≤◌, Bool, cond, ◌&&◌, eqb, List, [], ◌∷◌, ◌++◌, map, length, get_or, take, drop, set, Some, None, Option, sym, refl, ap, ◌∙◌, subst, ap₂, ⊎_elim, append_assoc, suc-mul, zero-mul, arith}
 use lib.Seq.{take-set-lt, take-append-add}
 use lib.ListN.{get_or-map as get_or-mapped}
@@ -148,6 +148,36 @@ module _ {S V : Type 0} (by : Setting S V) where
           (ap₂ (λ xs ys. row xs ++ ys) (ups-parted by a ls (suc d) (L ∷ M ∷ Ls) deep t al) (rows-parted d (suc d * w + a) (suc d * w + N) (M ∷ Ls) (omega arith) t.3 al ml refl refl)
           ∙ sym (copied-after y w (suc d * w + a) (suc d * w + N) (row (ups (L ∷ M ∷ Ls))) (rows (M ∷ Ls)) (row-long (ups (L ∷ M ∷ Ls)))))
 
+  -- what places with and without a node have
+  abbrev up_at : Option (Option Up) → Up
+  up_at None = no_up
+  up_at (Some u) = or_no_up u
+
+  abbrev place : Option (Option Up) → Option (Label S V)
+  place None = Some (record { down = blank_label by.rule by.tally; up = no_up })
+  place (Some u) = None
+
+  -- the downward labels of the first c layers
+  abbrev downs : ℕ → List (Option (Down S V)) → Net → List (Down S V)
+  downs zero labs Ls = []
+  downs (suc c) labs [] = []
+  downs (suc c) labs (L ∷ Ls) = table w (λ k. or_blank by.rule by.tally (get_or labs k None)) ++ downs c (labels_next by labs L (width Ls)) Ls
+
+  downs-parted : (a : ℕ) (ls : List (Option (Down S V))) (d : ℕ) (labs : List (Option (Down S V))) (Ls : Net) → downs (suc d) labs (parted_arcs by d a ls Ls) ≡ downs (suc d) labs Ls
+  unfolding parted_arcs
+  downs-parted a ls d labs [] = refl
+  downs-parted a ls zero labs (L ∷ []) = refl
+  downs-parted a ls zero labs (L ∷ M ∷ Ls) = refl
+  downs-parted a ls (suc d) labs (L ∷ Ls) =
+      ap (λ ys. table w (λ k. or_blank by.rule by.tally (get_or labs k None)) ++ ys)
+      (ap (λ (m : ℕ). downs (suc d) (labels_next by labs L m) (parted_arcs by d a ls Ls)) (part-width d Ls) ∙ downs-parted a ls d (labels_next by labs L (width Ls)) Ls)
+    where
+      part-width : (d : ℕ) (Ls : Net) → width (parted_arcs by d a ls Ls) ≡ width Ls
+      part-width d [] = refl
+      part-width zero (L ∷ []) = refl
+      part-width zero (L ∷ M ∷ Ls) = redirect-length _ L
+      part-width (suc d) (L ∷ Ls) = refl
+
   -- ---- records that are laid out
   front-row : {Y : Type 0} (g : Node S V → Y) (k : ℕ) (labs : List (Option (Down S V))) (L : Layer) (Ls : Net) (later : List (Node S V)) → map g (take (suc k * w) (labelled_from by labs (L ∷ Ls) ++ later))
       ≡ table w (λ b. g (record_of_place by L labs (ups (L ∷ Ls)) b)) ++ map g (take (k * w) (labelled_from by (labels_next by labs L (width Ls)) Ls ++ later))
@@ -158,10 +188,6 @@ module _ {S V : Type 0} (by : Setting S V) where
       ap (map g) (first-row w k f xs later) ∙ map-append g (table w f) (take (k * w) (xs ++ later)) ∙ ap (λ ys. ys ++ map g (take (k * w) (xs ++ later))) (map-table g w f)
 
   module _ (later : List (Node S V)) where
-    abbrev up_at : Option (Option Up) → Up
-    up_at None = no_up
-    up_at (Some u) = or_no_up u
-
     ups-laid : (labs : List (Option (Down S V))) (Ls : Net) → map up_of (labelled_from by labs Ls ++ later) ≡ rows up_at (no_up ∷ map up_of later) Ls
     unfolding labelled_from
     ups-laid labs [] = refl
@@ -172,10 +198,6 @@ module _ {S V : Type 0} (by : Setting S V) where
         ap (map up_of) (append_assoc (table w f) xs later) ∙ map-append up_of (table w f) (xs ++ later)
         ∙ ap₂ (λ ys zs. ys ++ zs) (map-table up_of w f ∙ row-if up_at [] us (λ k. or_no_up (get_or us k None)) (λ k lt. refl) (λ k ge. ap or_no_up (get_or_past us k None ge))) (ups-laid (labels_next by labs L (width Ls)) Ls)
 
-    abbrev place : Option (Option Up) → Option (Label S V)
-    place None = Some (record { down = blank_label by.rule by.tally; up = no_up })
-    place (Some u) = None
-
     places-laid : (one : 1 ≤ w) (labs : List (Option (Down S V))) (Ls : Net) → Full by one labs Ls → map unused_of (take (length Ls * w) (labelled_from by labs Ls ++ later)) ≡ rows place [] Ls
     places-laid one labs [] h = ap (λ (k : ℕ). map unused_of (take k (labelled_from by labs [] ++ later))) (zero-mul w)
     places-laid one labs (L ∷ Ls) h =
@@ -185,31 +207,10 @@ module _ {S V : Type 0} (by : Setting S V) where
         (λ k ge. ap₂ (λ o u. unused_of (record { arcs = arcs_at L k; label = record { down = or_blank by.rule by.tally o; up = or_no_up u } })) (get_or_past labs k None (omega (arith, h.0.filled.long, ups-long L Ls))) (get_or_past us k None ge)))
         (places-laid one (labels_next by labs L (width Ls)) Ls h.1)
 
-    -- the downward labels of the first c layers
-    abbrev downs : ℕ → List (Option (Down S V)) → Net → List (Down S V)
-    downs zero labs Ls = []
-    downs (suc c) labs [] = []
-    downs (suc c) labs (L ∷ Ls) = table w (λ k. or_blank by.rule by.tally (get_or labs k None)) ++ downs c (labels_next by labs L (width Ls)) Ls
-
     downs-laid : (c : ℕ) (labs : List (Option (Down S V))) (Ls : Net) → c ≤ length Ls → map down_of (take (c * w) (labelled_from by labs Ls ++ later)) ≡ downs c labs Ls
     downs-laid zero labs Ls le = ap (λ (k : ℕ). map down_of (take k (labelled_from by labs Ls ++ later))) (zero-mul w)
     downs-laid (suc c) labs [] le = absurd (omega arith)
     downs-laid (suc c) labs (L ∷ Ls) le = front-row down_of c labs L Ls later ∙ ap (λ ys. table w (λ k. or_blank by.rule by.tally (get_or labs k None)) ++ ys) (downs-laid c (labels_next by labs L (width Ls)) Ls (omega arith))
-
-    downs-parted : (a : ℕ) (ls : List (Option (Down S V))) (d : ℕ) (labs : List (Option (Down S V))) (Ls : Net) → downs (suc d) labs (parted_arcs by d a ls Ls) ≡ downs (suc d) labs Ls
-    unfolding parted_arcs
-    downs-parted a ls d labs [] = refl
-    downs-parted a ls zero labs (L ∷ []) = refl
-    downs-parted a ls zero labs (L ∷ M ∷ Ls) = refl
-    downs-parted a ls (suc d) labs (L ∷ Ls) =
-        ap (λ ys. table w (λ k. or_blank by.rule by.tally (get_or labs k None)) ++ ys)
-        (ap (λ (m : ℕ). downs (suc d) (labels_next by labs L m) (parted_arcs by d a ls Ls)) (part-width d Ls) ∙ downs-parted a ls d (labels_next by labs L (width Ls)) Ls)
-      where
-        part-width : (d : ℕ) (Ls : Net) → width (parted_arcs by d a ls Ls) ≡ width Ls
-        part-width d [] = refl
-        part-width zero (L ∷ []) = refl
-        part-width zero (L ∷ M ∷ Ls) = redirect-length _ L
-        part-width (suc d) (L ∷ Ls) = refl
 
   -- ---- the records
   -- what the arcs have no say in is copied
@@ -242,9 +243,9 @@ module _ {S V : Type 0} (by : Setting S V) where
       pub downs : map down_of (take (suc d * w) xs) ≡ map down_of (take (suc d * w) (labelled_records by Ls ++ later))
       pub places : map unused_of (take (by.round.n * w) xs) ≡ map unused_of (take (by.round.n * w) (labelled_records by Ls ++ later))
 
-    places-all : (Ls : Net) → IsLawful by.round.n w Ls → map unused_of (take (by.round.n * w) (labelled_records by Ls ++ later)) ≡ rows (place later) [] Ls
+    places-all : (Ls : Net) → IsLawful by.round.n w Ls → map unused_of (take (by.round.n * w) (labelled_records by Ls ++ later)) ≡ rows place [] Ls
     unfolding labelled_records
-    places-all Ls p = subst (λ (k : ℕ). map unused_of (take (k * w) (labelled_from by (first_labels by.rule by.tally) Ls ++ later)) ≡ rows (place later) [] Ls) p.deep (places-laid later one (first_labels by.rule by.tally) Ls (full by one later Ls p))
+    places-all Ls p = subst (λ (k : ℕ). map unused_of (take (k * w) (labelled_from by (first_labels by.rule by.tally) Ls ++ later)) ≡ rows place [] Ls) p.deep (places-laid later one (first_labels by.rule by.tally) Ls (full by one later Ls p))
 
     pub parted-stands : (d a m : ℕ) (ls : List (Option (Down S V))) (Ls : Net) (xs : List (Node S V)) → Known by d Ls xs → IsLawful by.round.n w (parted_arcs by d a ls Ls) → m ≡ length (get_or Ls (suc d) []) → a < m → m < w
         → Stands d Ls xs → Stands d (parted_arcs by d a ls Ls) (parted_one by (d * w) a m xs)
@@ -264,14 +265,14 @@ module _ {S V : Type 0} (by : Setting S V) where
         let here : d * w + w ≤ length xs = omega (arith, known.fit) in
         record {
           ups = labels-parted up_of (λ x f. unfold redirected in refl) stays d a m i k z xs here refl refl ∙ ap (copied no_up i k) (s.ups ∙ ups-laid later first Ls)
-              ∙ sym (rows-parted (up_at later) (no_up ∷ map up_of later) a ls no_up d i k Ls deep known.proper.tied (omega arith) (omega arith) refl ek) ∙ sym (ups-laid later first Ms);
+              ∙ sym (rows-parted up_at (no_up ∷ map up_of later) a ls no_up d i k Ls deep known.proper.tied (omega arith) (omega arith) refl ek) ∙ sym (ups-laid later first Ms);
           downs = sym (take-map down_of (suc d * w) ys) ∙ ap (take (suc d * w)) (labels-parted down_of (λ x f. unfold redirected in refl) stays d a m i k z xs here refl refl)
               ∙ take-set-le (suc d * w) (map down_of xs) k _ (omega arith) ∙ take-map down_of (suc d * w) xs
-              ∙ s.downs ∙ downs-laid later (suc d) first Ls (omega arith) ∙ sym (downs-parted later a ls d first Ls) ∙ sym (downs-laid later (suc d) first Ms (omega (arith, deep, p.deep, known.proper.deep)));
+              ∙ s.downs ∙ downs-laid later (suc d) first Ls (omega arith) ∙ sym (downs-parted a ls d first Ls) ∙ sym (downs-laid later (suc d) first Ms (omega (arith, deep, p.deep, known.proper.deep)));
           places = sym (take-map unused_of (n * w) ys) ∙ ap (take (n * w)) (labels-parted unused_of (λ x f. unfold redirected in refl) stays d a m i k z xs here refl refl)
               ∙ copied-front (unused_of z) (n * w) i k (map unused_of xs) (omega (arith, suc-mul d w)) (omega (arith, suc-mul d w))
               ∙ ap (copied (unused_of z) i k) (take-map unused_of (n * w) xs ∙ s.places ∙ places-all Ls known.proper)
-              ∙ sym (rows-parted (place later) [] a ls (unused_of z) d i k Ls deep known.proper.tied (omega arith) (omega arith) refl ek) ∙ sym (places-all Ms p);
+              ∙ sym (rows-parted place [] a ls (unused_of z) d i k Ls deep known.proper.tied (omega arith) (omega arith) refl ek) ∙ sym (places-all Ms p);
         }
 
 -- the arcs of all places
