@@ -1,4 +1,5 @@
 -- How a diagram's arcs are laid when it is opened, layer by layer.
+-- Nobody has to believe these steps: `records` of `Diagram::open` says what they come to.
 use Rattle.std.specs.Prelude.{ℕ, zero, suc, List, [], ◌∷◌, ◌++◌, map, take, drop}
 use Rattle.layers.specs.declared.node.Arcs.{Arcs}
 use Rattle.layers.specs.declared.node.Node.{Node}
