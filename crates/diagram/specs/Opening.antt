@@ -1,5 +1,6 @@
--- How a diagram's arcs are laid when it is opened, place by place.
-use Rattle.std.specs.Prelude.{ℕ, zero, suc, ◌*◌, ◌%◌, if◌then◌else◌, ◌&&◌, List, [], ◌∷◌, ◌==◌, nat_lt}
+-- How a diagram's arcs are laid when it is opened, layer by layer.
+-- Nobody has to believe these steps: `records` of `Diagram::open` says what they come to.
+use Rattle.std.specs.Prelude.{ℕ, zero, suc, List, [], ◌∷◌, ◌++◌, map, take, drop}
 use Rattle.layers.specs.declared.node.Arcs.{Arcs}
 use Rattle.layers.specs.declared.node.Node.{Node}
 use Rattle.layers.specs.Net.{table}
@@ -12,17 +13,17 @@ every_door n = record { to = padded_targets (table n (λ k. 1)) }
 abbrev pub no_door : Arcs
 no_door = record { to = padded_targets [] }
 
--- the arcs of place k, with n layers of arcs: the first node of each has them all, and no other place has any
-unfoldable pub arcs_opened : Arcs → ℕ → ℕ → ℕ → Arcs
-arcs_opened all n W k = if nat_lt k (n * W) && k % W == 0 then all else no_door
-
 module _ {S V : Type 0} where
   -- a record with other arcs
-  abbrev pub with_arcs : Node S V → Arcs → Node S V
-  with_arcs x a = record { arcs = a; label = x.label }
+  abbrev pub with_arcs : Arcs → Node S V → Node S V
+  with_arcs a x = record { arcs = a; label = x.label }
 
-  -- the first m records, each with the arcs of its place
-  abbrev pub arced : (ℕ → Arcs) → ℕ → List (Node S V) → List (Node S V)
-  arced f zero xs = xs
-  arced f (suc m) [] = []
-  arced f (suc m) (x ∷ xs) = with_arcs x (f 0) ∷ arced (λ k. f (suc k)) m xs
+  -- a layer of which the first node alone has arcs
+  abbrev pub first_arced : Arcs → List (Node S V) → List (Node S V)
+  first_arced a [] = []
+  first_arced a (x ∷ xs) = with_arcs a x ∷ map (with_arcs no_door) xs
+
+  -- so k layers of w places, and then the end, which has none
+  abbrev pub arced : Arcs → ℕ → ℕ → List (Node S V) → List (Node S V)
+  arced a w zero xs = first_arced no_door (take 1 xs) ++ drop 1 xs
+  arced a w (suc k) xs = first_arced a (take w xs) ++ arced a w k (drop w xs)

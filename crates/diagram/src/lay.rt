@@ -1,7 +1,6 @@
 //! Lays the arcs of a diagram that is just opened.
-ghost use Rattle.std.specs.Prelude.{◌≡◌, ℕ, ◌+◌, ◌*◌, ◌<◌, ◌≤◌, length, slice_index_or, slice_set};
-ghost use Rattle.layers.specs.declared.node.Node.{Node as ANode};
-ghost use Rattle.diagram.specs.Opening.{every_door, arcs_opened, with_arcs, arced};
+ghost use Rattle.std.specs.Prelude.{◌≡◌, ◌+◌, ◌*◌, ◌<◌, ◌≤◌, length, map};
+ghost use Rattle.diagram.specs.Opening.{every_door, no_door, with_arcs, first_arced, arced};
 
 use layers::node::{Arcs, Node};
 
@@ -19,40 +18,46 @@ fn every_door(n: usize) -> Arcs
     Arcs { to }
 }
 
-/// The arcs of place k: the first of each layer has them, and no other.
-fn arcs_at(all: Arcs, n: usize, width: usize, k: usize) -> Arcs
-    requires n_bound { n ≤ 16 }
-    requires one_le_width { 1 ≤ width }
-    requires width_bound { width ≤ 128 }
-    ensures { result ≡ arcs_opened all n width k }
+/// Takes all arcs.
+fn clear_arcs<S: Copy, V: Copy>(us: &mut [Node<S, V>])
+    ensures { us.new ≡ map (with_arcs no_door) us.old }
 {
-    if k < n * width && k % width == 0 {
-        all
-    } else {
-        NONE
+    for u in us.iter_mut() {
+        u.arcs = NONE;
     }
 }
 
-fn put_arcs<S: Copy, V: Copy>(nodes: &mut [Node<S, V>], k: usize, arcs: Arcs)
-    requires { k < length nodes.old }
-    ensures { (d : ANode S V)
-        → nodes.new ≡ slice_set nodes.old k (with_arcs (slice_index_or nodes.old k d) arcs) }
+/// The first node of a layer has the arcs, and no other place has any.
+fn lay_first<S: Copy, V: Copy>(us: &mut [Node<S, V>], arcs: Arcs)
+    requires { 0 < length us.old }
+    ensures { us.new ≡ first_arced arcs us.old }
 {
-    nodes[k].arcs = arcs;
+    clear_arcs(us);
+    us[0].arcs = arcs;
+}
+
+/// So `count` layers, and the end, which has no arcs.
+#[tactic(auto, using(labels::proofs::Rests::one_more, labels::proofs::Rests::front_long, crate::proofs::Arcs_laid::arced_more))]
+fn lay_layers<S: Copy, V: Copy>(nodes: &mut [Node<S, V>], arcs: Arcs, width: usize, count: usize)
+    requires one_le_width { 1 ≤ width }
+    requires records_in_bounds { count * width < length nodes.old }
+    ensures { nodes.new ≡ arced arcs width count nodes.old }
+{
+    if count == 0 {
+        lay_first(&mut nodes[..1], NONE);
+    } else {
+        let (us, rest) = nodes.split_at_mut(width);
+        lay_first(us, arcs);
+        lay_layers(rest, arcs, width, count - 1);
+    }
 }
 
 /// The arcs of a whole diagram; labels and later places stay.
 pub(crate) fn lay_arcs<S: Copy, V: Copy>(nodes: &mut [Node<S, V>], n: usize, width: usize)
     requires n_bound { n ≤ 16 }
     requires one_le_width { 1 ≤ width }
-    requires width_bound { width ≤ 128 }
     requires width_in_bounds { n * width + 1 ≤ length nodes.old }
-    ensures { nodes.new ≡ arced (arcs_opened (every_door n) n width) (n * width + 1) nodes.old }
+    ensures { nodes.new ≡ arced (every_door n) width n nodes.old }
 {
-    let all = every_door(n);
-    let end = n * width + 1;
-    for k in 0..end {
-        let arcs = arcs_at(all, n, width, k);
-        put_arcs(nodes, k, arcs);
-    }
+    lay_layers(nodes, every_door(n), width, n);
 }

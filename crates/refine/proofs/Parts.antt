@@ -1,293 +1,283 @@
--- Parting on arcs keeps upward sets that stand, and the downward labels up to the layer before: a new node is a copy.
-use Rattle.std.proofs.Common.{◌≡◌, ℕ, zero, suc, ◌+◌, ◌-◌, ◌*◌, ◌<◌, ◌≤◌, Bool, not, ◌&&◌, eqb, leb, List, [], ◌∷◌, ◌++◌, map, length, get_or, take, drop, set, sym, refl, ap, ◌∙◌, subst, ap₂, append_assoc, suc-mul, zero-mul, ⊎_elim, is_ok, arith}
-use Rattle.std.specs.List.{range_with_len, AllByRecursion as All}
-use lib.Seq.{take-set-lt}
-use Rattle.std.proofs.Math.Seq.{take-add}
-use Rattle.std.proofs.ByRecursion.{All-from_get_or}
-use Rattle.std.proofs.lemmas.Bool.{cases_lt, cond_both, and_parts, eqb-true, leb-false}
-use Rattle.std.proofs.lemmas.List.{take_at, drop_at, drop-drop, drop-set-lt, map-set, length-set, length-map, length-take-le, length-drop, get_or-take, get_or-map, get_or-set_same, get_or-set_other, same_lists}
-use Rattle.std.proofs.lemmas.List.FromFn.{get_or-map-range_with_len, length-map-range_with_len}
+-- Parting on arcs: the new node is a copy of an old one, its label too. So are the labels of the parted net, as far as relabelling from the layer on rests on them.
+use Rattle.std.proofs.Common.{◌≡◌, ℕ, zero, suc, ◌+◌, ◌-◌, ◌*◌, ◌<◌, ◌≤◌, Bool, cond, ◌&&◌, eqb, List, [], ◌∷◌, ◌++◌, map, length, get_or, take, drop, set, Some, None, Option, sym, refl, ap, ◌∙◌, subst, ap₂, ⊎_elim, append_assoc, suc-mul, zero-mul, arith}
+use lib.Seq.{take-set-lt, take-append-add}
+use lib.ListN.{get_or-map as get_or-mapped}
+use Rattle.std.proofs.lemmas.Bool.{cases_lt, cond_both, eqb-true, and_parts}
+use Rattle.std.proofs.lemmas.List.{take-map, take-set-le, take-append-drop, map-append, map-set, length-map, length-take-le, length-drop, get_or-take, get_or-map, get_or_past, get_or_append_left, get_or-append_right, set-append_left, set-append_right}
 use Rattle.layers.specs.declared.node.Node.{Node}
 use Rattle.layers.specs.declared.node.Label.{Label}
-use Rattle.layers.specs.declared.node.Up.{Up}
-use Rattle.layers.specs.declared.node.Arcs.{Arcs}
-use Rattle.layers.specs.Net.{Net, node, width}
-use Rattle.layers.specs.Lawful.{IsLawful}
-use Rattle.layers.specs.Labels.{climb}
-use Rattle.layers.specs.Calls.{records_with}
-use Rattle.layers.proofs.Tidying.{ranged-at}
-use Rattle.layers.specs.Targets.{targets, redirected, at_door}
 use Rattle.layers.specs.declared.node.Down.{Down}
+use Rattle.layers.specs.declared.node.Up.{Up}
 use Rattle.layers.specs.Settings.{Setting}
-use Rattle.layers.specs.Labels.{first_arrival, first_label}
-use Rattle.labels.specs.Passes.{part, arrivals, numbered, gathered_up, with_down, blank_node, cleared, first_layer, next_layer, labelled, relabelled}
-use Rattle.labels.proofs.Below.{Stood, StoodFirst, stood-laid}
-use Rattle.labels.proofs.Laying.{Arranged, relabelled-lawful}
-use Rattle.labels.proofs.Climbs.{climbing, climbed, doors-same, numbered-at, down_of, up_of}
-use Rattle.labels.proofs.Lifts.{Lifted, laid-lifted}
-use Rattle.labels.proofs.RedirectNet.{each_at, padded-at, arcs-arranged, arranged-long}
-use Rattle.split.specs.Parted.{parted_to, parted_node, parted_second}
-use Rattle.split.specs.Steps.{alike, kept_first, parted_one, parts_from, node_count, place_check, layer_steps}
+use Rattle.layers.specs.Net.{table, Outs, Layer, Net, node, width, each_door, each_node, redirect}
+use Rattle.layers.specs.Flow.{gather, read, cons_if_some, climbs_of, up}
+use Rattle.layers.specs.Lawful.{IsRanged, IsTied, IsLawful}
+use Rattle.layers.specs.Labels.{climb, merge_up, no_up, ups, blank_label, first_labels, labels_next, first_arrival}
+use Rattle.layers.specs.Records.{arcs_at, record_of_place, labelled_from, labelled_records, arcs_read, laid_arcs}
+use Rattle.layers.specs.Targets.{redirected}
+use Rattle.layers.specs.Calls.{parted_arcs}
+use Rattle.layers.proofs.Bridge.{Full, map-table, table-ext, table-long}
+use Rattle.layers.proofs.Flows.{table_at}
+use Rattle.layers.proofs.Model.{moved, or_blank, or_no_up}
+use Rattle.layers.proofs.Standing.{full}
+use Rattle.layers.proofs.Tied.{redirect-length}
+use Rattle.labels.specs.Passes.{part, arrivals, blank_node}
+use Rattle.labels.proofs.Climbs.{down_of, up_of}
+use Rattle.labels.proofs.Laying.{arcs_of, Arranged, split}
+use Rattle.split.specs.Parted.{parted_node, parted_second}
+use Rattle.split.specs.Steps.{kept_first, parted_one}
 use Rattle.split.proofs.DepthNet.{two-fit}
-use Rattle.split.proofs.LayerNet.{known-length, arranged-at}
+use Rattle.split.proofs.LayerNet.{Known}
 
-module _ {S V : Type 0} where
-  -- no arc of the record leads past place m
-  abbrev pub Within : ℕ → Node S V → Type 0
-  Within m u = (k : ℕ) → k < 16 → get_or u.arcs.to k 0 ≤ m
+-- ---- lists
+module _ {X : Type 0} (z : X) where
+  -- the element at place i put at place k too
+  abbrev copied : ℕ → ℕ → List X → List X
+  copied i k xs = set xs k (get_or xs i z)
 
-  door-of : (f : ℕ → ℕ → ℕ) (u : Node S V) (k : ℕ) → k < 16 → get_or (redirected f u).arcs.to k 0 ≡ at_door f (suc k) (get_or u.arcs.to k 0)
-  unfolding redirected targets
-  door-of f u k lt = each_at f 1 (targets u) k (suc k) (omega arith) ∙ ap (at_door f (suc k)) (get_or-map-range_with_len (λ i. get_or u.arcs.to i 0) 0 16 k k 0 lt (omega arith))
+  copied-after : (n i k : ℕ) (xs ys : List X) → length xs ≡ n → copied (n + i) (n + k) (xs ++ ys) ≡ xs ++ copied i k ys
+  copied-after n i k xs ys e =
+      let p : n + i - n ≡ i = omega arith in
+      let q : n + k - n ≡ k = omega arith in
+      set-append_right xs ys n (n + k) (get_or (xs ++ ys) (n + i) z) e (omega arith)
+      ∙ ap₂ (λ (j : ℕ) y. xs ++ set ys j y) q (get_or-append_right xs ys n (n + i) z e (omega arith) ∙ ap (λ (j : ℕ). get_or ys j z) p)
 
-module _ {S V : Type 0} (stays : Label S V → ℕ → Bool) (w a m : ℕ) (al : a < m) (ml : m < w) (z : Node S V) where
-  abbrev Recs : Type 0
-  Recs = List (Node S V)
+  copied-before : (i k : ℕ) (xs ys : List X) → i < length xs → k < length xs → copied i k (xs ++ ys) ≡ copied i k xs ++ ys
+  copied-before i k xs ys p q = set-append_left xs ys k (get_or (xs ++ ys) i z) q ∙ ap (λ y. set xs k y ++ ys) (get_or_append_left xs ys z i p)
 
-  -- ---- one node of the layer before
-  module _ (us : List Up) (d : Up) (long : m < length us) where
-    -- the sets of the layer, with those of the new node
-    abbrev grown : List Up
-    grown = set us m (get_or us a d)
+  copied-front : (n i k : ℕ) (xs : List X) → i < n → k < n → take n (copied i k xs) ≡ copied i k (take n xs)
+  copied-front n i k xs p q = take-set-lt n xs k (get_or xs i z) q ∙ ap (set (take n xs) k) (sym (get_or-take n xs i z p))
 
-    same-number : (u : Node S V) (j t : ℕ) → t ≤ m → numbered (at_door (parted_to stays a m u) j t) grown ≡ numbered t us
-    unfolding parted_to
-    same-number u j zero le = refl
-    same-number u j (suc b) le =
-        let q : Bool = eqb b a && not (stays u.label j) in
-        let many = length-set us m (get_or us a d) in
-        cond_both q (suc m) (suc b) (λ (t : ℕ). numbered t grown ≡ numbered (suc b) us)
-        (λ e. let is : b ≡ a = eqb-true b a (and_parts (eqb b a) (not (stays u.label j)) e).0 in
-        numbered-at m grown d (omega (arith, many)) ∙ ap (λ x. x ∷ []) (get_or-set_same us m (get_or us a d) d long ∙ ap (λ (i : ℕ). get_or us i d) (sym is)) ∙ sym (numbered-at b us d (omega arith)))
-        (λ e. numbered-at b grown d (omega (arith, many)) ∙ ap (λ x. x ∷ []) (get_or-set_other us m b (get_or us a d) d (omega arith)) ∙ sym (numbered-at b us d (omega arith)))
+-- one more at the end
+push-row : {X Y : Type 0} (w : ℕ) (us : List X) (u : X) (f : Option X → Y) → length us < w
+    → table w (λ k. f (get_or (map Some (us ++ (u ∷ []))) k None)) ≡ set (table w (λ k. f (get_or (map Some us) k None))) (length us) (f (Some u))
+push-row zero us u f lt = absurd (omega arith)
+push-row (suc w) [] u f lt = refl
+push-row (suc w) (x ∷ us) u f lt = ap (λ ys. f (Some x) ∷ ys) (push-row w us u f (omega arith))
 
-    same-climb : (u : Node S V) → Within m u → climbed grown (parted_node stays a m u).arcs.to ≡ climbed us u.arcs.to
-    unfolding parted_node
-    same-climb u h =
-        ap gathered_up (doors-same (climbing grown (parted_node stays a m u).arcs.to) (climbing us u.arcs.to) 0 16 (λ k lt.
-        ap (λ (t : ℕ). map (λ v. climb v (k + 1)) (numbered t grown)) (door-of (parted_to stays a m u) u k (omega arith))
-        ∙ ap (map (λ v. climb v (k + 1))) (same-number u (suc k) (get_or u.arcs.to k 0) (h k (omega arith)))))
+-- w places to a layer
+first-row : {X : Type 0} (w n : ℕ) (f : ℕ → X) (xs later : List X) → take (suc n * w) ((table w f ++ xs) ++ later) ≡ table w f ++ take (n * w) (xs ++ later)
+first-row w n f xs later =
+    let e : suc n * w ≡ length (table w f) + n * w = omega (arith, suc-mul n w, table-long w f) in
+    ap₂ (λ (k : ℕ) ys. take k ys) e (append_assoc (table w f) xs later) ∙ take-append-add (table w f) (xs ++ later) (n * w)
 
-    layer-climbs : (vs : Recs) → All (Within m) vs → map (λ u. climbed grown u.arcs.to) (map (parted_node stays a m) vs) ≡ map (λ u. climbed us u.arcs.to) vs
-    layer-climbs [] h = refl
-    layer-climbs (v ∷ vs) h = ap₂ (λ x xs. x ∷ xs) (same-climb v h.0) (layer-climbs vs h.1)
+-- the label of a place that is not in use
+abbrev unused_of : {S V : Type 0} → Node S V → Option (Label S V)
+unused_of x = cond (eqb x.label.down.lasts 0) (Some x.label) None
 
-  ups-stay : (vs : Recs) → map up_of (map (parted_node stays a m) vs) ≡ map up_of vs
-  unfolding parted_node redirected
-  ups-stay [] = refl
-  ups-stay (v ∷ vs) = ap (λ xs. up_of v ∷ xs) (ups-stay vs)
+-- ---- upward sets
+abbrev climbing_from : List (Option Up) → Outs → Option Up
+climbing_from us nd = gather merge_up (climbs_of climb us 1 nd)
 
-  -- ---- the two layers
-  second-lifted : (k : ℕ) (ys : Recs) → w + w ≤ length ys → All (Within m) (take w ys) → Lifted w (suc (suc k)) ys
-      → Lifted w (suc (suc k)) (parted_second stays w a m ys z) × (map up_of (take w (parted_second stays w a m ys z)) ≡ map up_of (take w ys))
-  unfolding parted_second
-  second-lifted k ys le h l =
-      let us = take w ys in
-      let rest = drop w ys in
-      let vs = take w rest in
-      let y = get_or rest a z in
-      let A = map (parted_node stays a m) us in
-      let F : Node S V → Up = λ u. climbed (map up_of (take w (drop w rest))) u.arcs.to in
-      let room : w ≤ length rest = omega (arith, length-drop w ys) in
-      let many : length A ≡ w = length-map us (parted_node stays a m) ∙ length-take-le w ys (omega arith) in
-      let vs-long : length vs ≡ w = length-take-le w rest room in
-      let y-is : get_or vs a z ≡ y = get_or-take w rest a z (omega arith) in
-      let front : take w (A ++ set rest m y) ≡ A = take_at A (set rest m y) w many in
-      let back : drop w (A ++ set rest m y) ≡ set rest m y = drop_at A (set rest m y) w many in
-      let mid : take w (set rest m y) ≡ set vs m y = take-set-lt w rest m y ml in
-      let far : drop w (set rest m y) ≡ drop w rest = drop-set-lt w rest m y ml in
-      let y-up : up_of y ≡ get_or (map up_of vs) a (up_of z) = ap up_of (sym y-is) ∙ sym (get_or-map up_of vs a z (up_of z) (omega (arith, vs-long))) in
-      let grows : map up_of (set vs m y) ≡ set (map up_of vs) m (get_or (map up_of vs) a (up_of z)) = map-set up_of vs m y ∙ ap (set (map up_of vs) m) y-up in
-      let row : map up_of vs ≡ map F vs = l.1.0 in
-      let copy : up_of y ≡ F y = y-up ∙ ap (λ xs. get_or xs a (up_of z)) row ∙ get_or-map F vs a z (up_of z) (omega (arith, vs-long)) ∙ ap F y-is in
-      rw (front, back, mid, far) (
-        (
-          ups-stay us ∙ l.0 ∙ sym (rw grows (layer-climbs (map up_of vs) (up_of z) (omega (arith, vs-long, length-map vs up_of)) us h)),
-          (
-            map-set up_of vs m y ∙ ap₂ (λ xs x. set xs m x) row copy ∙ sym (map-set F vs m y),
-            l.1.1,
-          ),
-        ),
-        ups-stay us,
-      )
+module _ (us vs : List (Option Up)) (m : ℕ) where
+  doors-same : (f : ℕ → ℕ → ℕ) → ((j b : ℕ) → b < m → read vs (f j b) ≡ get_or us b None) → (j : ℕ) (ts : Outs) → ((k b : ℕ) → get_or ts k 0 ≡ suc b → b < m) → climbs_of climb vs j (each_door f j ts) ≡ climbs_of climb us j ts
+  unfolding climbs_of each_door
+  doors-same f h j [] r = refl
+  doors-same f h j (zero ∷ ts) r = doors-same f h (suc j) ts (λ k. r (suc k))
+  doors-same f h j (suc b ∷ ts) r = ap₂ (λ o xs. cons_if_some climb j o xs) (h j b (r 0 b refl)) (doors-same f h (suc j) ts (λ k. r (suc k)))
 
--- ---- d layers down
-module _ {S V : Type 0} (w : ℕ) (f : List (Node S V) → List (Node S V)) where
-  deep-list : (d : ℕ) (xs : List (Node S V)) → take (suc d * w) xs ++ f (drop (suc d * w) xs) ≡ take w xs ++ (take (d * w) (drop w xs) ++ f (drop (d * w) (drop w xs)))
-  deep-list d xs =
-      let e : suc d * w ≡ w + d * w = omega (arith, suc-mul d w) in
-      ap₂ (λ ys zs. ys ++ f zs) (ap (λ (k : ℕ). take k xs) e ∙ take-add w (d * w) xs) (ap (λ (k : ℕ). drop k xs) e ∙ sym (drop-drop (d * w) w xs))
-      ∙ append_assoc (take w xs) (take (d * w) (drop w xs)) (f (drop (d * w) (drop w xs)))
+  nodes-same : (f : ℕ → ℕ → ℕ → ℕ) → ((u j b : ℕ) → b < m → read vs (f u j b) ≡ get_or us b None) → (u : ℕ) (L : Layer) → IsRanged L m → map (climbing_from vs) (each_node f u L) ≡ map (climbing_from us) L
+  unfolding each_node
+  nodes-same f h u [] r = refl
+  nodes-same f h u (nd ∷ L) r = ap₂ (λ x xs. x ∷ xs) (ap (gather merge_up) (doors-same (f u) (h u) 1 nd (λ k. r 0 (suc k)))) (nodes-same f h (suc u) L (λ c. r (suc c)))
 
-  deep-lifted : (d k j : ℕ) (xs : List (Node S V)) → j ≡ d + k → suc d * w ≤ length xs
-      → (Lifted w k (drop (d * w) xs) → Lifted w k (f (drop (d * w) xs)) × (map up_of (take w (f (drop (d * w) xs))) ≡ map up_of (take w (drop (d * w) xs))))
-      → Lifted w j xs → Lifted w j (take (d * w) xs ++ f (drop (d * w) xs)) × (map up_of (take w (take (d * w) xs ++ f (drop (d * w) xs))) ≡ map up_of (take w xs))
-  deep-lifted zero k j xs e le base l =
-      let none : 0 * w ≡ 0 = zero-mul w in
-      let k' : j ≡ k = omega arith in
-      rw none (rw k' ((rw none at base) (rw (← k') l)))
-  deep-lifted (suc d) k zero xs e le base l = absurd (omega arith)
-  deep-lifted (suc d) k (suc j) xs e le base l =
-      let us = take w xs in
-      let rest = drop w xs in
-      let Z = take (d * w) rest ++ f (drop (d * w) rest) in
-      let more : suc (suc d) * w ≡ w + suc d * w = omega (arith, suc-mul (suc d) w) in
-      let less : suc d * w ≡ w + d * w = omega (arith, suc-mul d w) in
-      let one : drop (suc d * w) xs ≡ drop (d * w) rest = ap (λ (i : ℕ). drop i xs) less ∙ sym (drop-drop (d * w) w xs) in
-      let ih = deep-lifted d k j rest (omega arith) (omega (arith, more, length-drop w xs)) (rw (← one) base) l.1 in
-      let long : length us ≡ w = length-take-le w xs (omega (arith, more)) in
-      rw (deep-list d xs, take_at us Z w long, drop_at us Z w long) ((rw ih.1 l.0, ih.0), refl)
+ups-long : (L : Layer) (Ls : Net) → length (ups (L ∷ Ls)) ≡ length L
+unfolding ups up
+ups-long L Ls = length-map L (climbing_from (ups Ls))
 
--- ---- downward labels: g leaves them
+ups-more : (a : ℕ) (M : Layer) (Ls : Net) → a < length M → ups ((M ++ (node M a ∷ [])) ∷ Ls) ≡ ups (M ∷ Ls) ++ (get_or (ups (M ∷ Ls)) a None ∷ [])
+unfolding ups up
+ups-more a M Ls al = let F = climbing_from (ups Ls) in map-append F M (node M a ∷ []) ∙ ap (λ x. map F M ++ (x ∷ [])) (sym (get_or-map F M a [] None al))
+
+ups-parted : {S V : Type 0} (by : Setting S V) (a : ℕ) (ls : List (Option (Down S V))) (d : ℕ) (Ls : Net) → suc d < length Ls → IsTied Ls → a < length (get_or Ls (suc d) []) → ups (parted_arcs by d a ls Ls) ≡ ups Ls
+unfolding ups up parted_arcs redirect
+ups-parted by a ls d [] deep t al = absurd (omega arith)
+ups-parted by a ls d (L ∷ []) deep t al = absurd (omega arith)
+ups-parted by a ls (suc d) (L ∷ M ∷ Ls) deep t al = ap (λ us. map (climbing_from us) L) (ups-parted by a ls d (M ∷ Ls) (omega arith) t.3 al)
+ups-parted by a ls zero (L ∷ M ∷ Ls) deep t al =
+    let m = length M in
+    let us = ups (M ∷ Ls) in
+    let x = get_or us a None in
+    let none : m - m ≡ 0 = omega arith in
+    rw (ups-more a M Ls al) (nodes-same us (us ++ (x ∷ [])) m (moved by a ls L m) (λ u j b lt.
+    cond_both (eqb b a && _) (suc m) (suc b) (λ (t : ℕ). read (us ++ (x ∷ [])) t ≡ get_or us b None)
+    (λ q. get_or-append_right us (x ∷ []) m m None (ups-long M Ls) (omega arith) ∙ ap (λ (k : ℕ). get_or (x ∷ []) k None) none ∙ ap (λ (k : ℕ). get_or us k None) (sym (eqb-true b a (and_parts _ _ q).0)))
+    (λ q. get_or_append_left us (x ∷ []) None b (omega (arith, ups-long M Ls)))) 0 L t.0)
+
 module _ {S V : Type 0} (by : Setting S V) where
   abbrev w : ℕ
   w = by.width
 
-  abbrev z : Node S V
-  z = blank_node by.rule by.tally
+  -- ---- what is worked out for each layer of a net, by its upward sets, and laid out
+  module _ {Y : Type 0} (f : Option (Option Up) → Y) (e : List Y) where
+    abbrev row : List (Option Up) → List Y
+    row us = table w (λ k. f (get_or (map Some us) k None))
 
-  -- what stands in the layer us stands in the layer vs
-  record Alike (us vs : List (Node S V)) : Type 0 where
-    next : (ts : List (Node S V)) → next_layer by ts us ≡ us → next_layer by ts vs ≡ vs
-    first : first_layer by.rule by.tally us ≡ us → first_layer by.rule by.tally vs ≡ vs
+    abbrev rows : Net → List Y
+    rows [] = e
+    rows (L ∷ Ls) = row (ups (L ∷ Ls)) ++ rows Ls
 
-  module _ (g : Node S V → Node S V) (h : (x : Node S V) → (g x).label ≡ x.label) where
-    next-same : (ts us : List (Node S V)) → next_layer by ts us ≡ us → next_layer by ts (map g us) ≡ map g us
-    unfolding next_layer labelled
-    next-same ts us e =
-        let f = labelled by ts us in
-        let f' = labelled by ts (map g us) in
-        let n = length us in
-        let n' = length (map g us) in
-        let many : n' ≡ n = length-map us g in
-        same_lists (map f' (range_with_len 0 n')) (map g us) (length-map-range_with_len f' 0 n')
-        (λ b d lt.
-        let in' : b < n = omega (arith, many, length-map-range_with_len f' 0 n') in
-        let same : (f b).label.down ≡ (g (get_or us b z)).label.down =
-        ap (λ (x : Node S V). x.label.down) (sym (get_or-map-range_with_len f 0 n b b z in' (omega arith)) ∙ ap (λ ys. get_or ys b z) e) ∙ ap (λ (l : Label S V). l.down) (sym (h (get_or us b z))) in
-        get_or-map-range_with_len f' 0 n' b b d (omega (arith, many)) (omega arith)
-        ∙ ap₂ (λ (x : Node S V) (l : Down S V). with_down x l) (get_or-map g us b z z in') same
-        ∙ sym (get_or-map g us b z d in'))
+    row-long : (us : List (Option Up)) → length (row us) ≡ w
+    row-long us = table-long w (λ k. f (get_or (map Some us) k None))
 
-    cleared-same : (us : List (Node S V)) → map (cleared by.rule by.tally) us ≡ us → map (cleared by.rule by.tally) (map g us) ≡ map g us
-    cleared-same [] e = refl
-    cleared-same (u ∷ us) e =
-        let here : cleared by.rule by.tally u ≡ u = cc in
-        let rest : map (cleared by.rule by.tally) us ≡ us = cc in
-        ap₂ (λ x xs. x ∷ xs) (ap (with_down (g u)) (ap (λ (x : Node S V). x.label.down) here ∙ ap (λ (l : Label S V). l.down) (sym (h u)))) (cleared-same us rest)
+    row-if : (us : List (Option Up)) (g : ℕ → Y) → ((k : ℕ) → k < length us → g k ≡ f (Some (get_or us k None))) → ((k : ℕ) → length us ≤ k → g k ≡ f None) → table w g ≡ row us
+    row-if us g h i = table-ext w g (λ k. f (get_or (map Some us) k None)) (λ k in'. ⊎_elim (λ lt. h k lt ∙ ap f (sym (get_or-map Some us k None None lt))) (λ ge. i k ge ∙ ap f (sym (get_or_past (map Some us) k None (omega (arith, length-map us Some))))) (cases_lt k (length us)))
 
-    first-same : (us : List (Node S V)) → first_layer by.rule by.tally us ≡ us → first_layer by.rule by.tally (map g us) ≡ map g us
-    first-same [] e = refl
-    first-same (u ∷ us) e =
-        let here : with_down u (first_label by.rule by.tally) ≡ u = cc in
-        let rest : map (cleared by.rule by.tally) us ≡ us = cc in
-        ap₂ (λ x xs. x ∷ xs) (ap (with_down (g u)) (ap (λ (x : Node S V). x.label.down) here ∙ ap (λ (l : Label S V). l.down) (sym (h u)))) (cleared-same us rest)
+    module _ (a : ℕ) (ls : List (Option (Down S V))) (y : Y) where
+      rows-parted : (d i k : ℕ) (Ls : Net) → suc d < length Ls → IsTied Ls → a < length (get_or Ls (suc d) []) → length (get_or Ls (suc d) []) < w
+          → i ≡ suc d * w + a → k ≡ suc d * w + length (get_or Ls (suc d) []) → rows (parted_arcs by d a ls Ls) ≡ copied y i k (rows Ls)
+      unfolding parted_arcs
+      rows-parted d i k [] deep t al ml ei ek = absurd (omega arith)
+      rows-parted d i k (L ∷ []) deep t al ml ei ek = absurd (omega arith)
+      rows-parted zero i k (L ∷ M ∷ Ls) deep t al ml ei ek =
+          let us = ups (M ∷ Ls) in
+          let long = ups-long M Ls in
+          let p : i ≡ w + a = omega (arith, zero-mul w, suc-mul 0 w) in
+          let r : k ≡ w + length M = omega (arith, zero-mul w, suc-mul 0 w) in
+          rw (p, r)
+          (ap₂ (λ xs ys. row xs ++ (ys ++ rows Ls)) (ups-parted by a ls 0 (L ∷ M ∷ Ls) deep t al)
+          (ap row (ups-more a M Ls al) ∙ push-row w us (get_or us a None) f (omega (arith, long))
+          ∙ ap₂ (λ (j : ℕ) z. set (row us) j z) long (sym (table_at w a (λ k. f (get_or (map Some us) k None)) y (omega arith) ∙ ap f (get_or-map Some us a None None (omega (arith, long))))))
+          ∙ ap (λ ys. row (ups (L ∷ M ∷ Ls)) ++ ys) (sym (copied-before y a (length M) (row us) (rows Ls) (omega (arith, row-long us)) (omega (arith, row-long us))))
+          ∙ sym (copied-after y w a (length M) (row (ups (L ∷ M ∷ Ls))) (row us ++ rows Ls) (row-long (ups (L ∷ M ∷ Ls)))))
+      rows-parted (suc d) i k (L ∷ M ∷ Ls) deep t al ml ei ek =
+          let N = length (get_or (M ∷ Ls) (suc d) []) in
+          let p : i ≡ w + (suc d * w + a) = omega (arith, suc-mul (suc d) w) in
+          let r : k ≡ w + (suc d * w + N) = omega (arith, suc-mul (suc d) w) in
+          rw (p, r)
+          (ap₂ (λ xs ys. row xs ++ ys) (ups-parted by a ls (suc d) (L ∷ M ∷ Ls) deep t al) (rows-parted d (suc d * w + a) (suc d * w + N) (M ∷ Ls) (omega arith) t.3 al ml refl refl)
+          ∙ sym (copied-after y w (suc d * w + a) (suc d * w + N) (row (ups (L ∷ M ∷ Ls))) (rows (M ∷ Ls)) (row-long (ups (L ∷ M ∷ Ls)))))
 
-    alike-moved : (us : List (Node S V)) → Alike us (map g us)
-    alike-moved us = record { next = λ ts. next-same ts us; first = first-same us }
+  -- what places with and without a node have
+  abbrev up_at : Option (Option Up) → Up
+  up_at None = no_up
+  up_at (Some u) = or_no_up u
 
-  deep-stood : (f : List (Node S V) → List (Node S V)) (d : ℕ) (xs : List (Node S V)) → suc d * w ≤ length xs → Alike (take w (drop (d * w) xs)) (take w (f (drop (d * w) xs))) → Stood by d xs
-      → Stood by d (take (d * w) xs ++ f (drop (d * w) xs)) × Alike (take w xs) (take w (take (d * w) xs ++ f (drop (d * w) xs)))
-  deep-stood f zero xs le base s = let none : 0 * w ≡ 0 = zero-mul w in rw none (tt, rw none at base)
-  deep-stood f (suc d) xs le base s =
-      let us = take w xs in
-      let rest = drop w xs in
-      let Z = take (d * w) rest ++ f (drop (d * w) rest) in
-      let more : suc (suc d) * w ≡ w + suc d * w = omega (arith, suc-mul (suc d) w) in
-      let less : suc d * w ≡ w + d * w = omega (arith, suc-mul d w) in
-      let one : drop (suc d * w) xs ≡ drop (d * w) rest = ap (λ (i : ℕ). drop i xs) less ∙ sym (drop-drop (d * w) w xs) in
-      let ih = deep-stood f d rest (omega (arith, more, length-drop w xs)) (rw (← one) base) s.1 in
-      let long : length us ≡ w = length-take-le w xs (omega (arith, more)) in
-      rw (deep-list w f d xs, take_at us Z w long, drop_at us Z w long) ((ih.1.next us s.0, ih.0), record { next = λ ts e. e; first = λ e. e })
+  abbrev place : Option (Option Up) → Option (Label S V)
+  place None = Some (record { down = blank_label by.rule by.tally; up = no_up })
+  place (Some u) = None
 
-  -- ---- all parts of the layer after layer d
-  module _ (d : ℕ) (deep : suc d < by.round.n) where
-    pub record Kept (m : ℕ) (xs : List (Node S V)) : Type 0 where
-      lifted : Lifted w by.round.n xs
-      stood : StoodFirst by d xs
-      within : All (Within m) (part (d * w) w xs)
-      fit : by.round.n * w + 1 ≤ length xs
+  -- the downward labels of the first c layers
+  abbrev downs : ℕ → List (Option (Down S V)) → Net → List (Down S V)
+  downs zero labs Ls = []
+  downs (suc c) labs [] = []
+  downs (suc c) labs (L ∷ Ls) = table w (λ k. or_blank by.rule by.tally (get_or labs k None)) ++ downs c (labels_next by labs L (width Ls)) Ls
 
-    moved-within : (stays : Label S V → ℕ → Bool) (a m : ℕ) (us : List (Node S V)) → All (Within m) us → All (Within (suc m)) (map (parted_node stays a m) us)
-    unfolding parted_node parted_to
-    moved-within stays a m [] h = tt
-    moved-within stays a m (u ∷ us) h = (λ k lt. rw (door-of (parted_to stays a m u) u k lt) (at k (get_or u.arcs.to k 0) (h.0 k lt)), moved-within stays a m us h.1)
-      where
-        at : (k t : ℕ) → t ≤ m → at_door (parted_to stays a m u) (suc k) t ≤ suc m
-        at k zero le = omega arith
-        at k (suc b) le = cond_both (eqb b a && not (stays u.label (suc k))) (suc m) (suc b) (λ t. t ≤ suc m) (λ e. omega arith) (λ e. omega arith)
+  downs-parted : (a : ℕ) (ls : List (Option (Down S V))) (d : ℕ) (labs : List (Option (Down S V))) (Ls : Net) → downs (suc d) labs (parted_arcs by d a ls Ls) ≡ downs (suc d) labs Ls
+  unfolding parted_arcs
+  downs-parted a ls d labs [] = refl
+  downs-parted a ls zero labs (L ∷ []) = refl
+  downs-parted a ls zero labs (L ∷ M ∷ Ls) = refl
+  downs-parted a ls (suc d) labs (L ∷ Ls) =
+      ap (λ ys. table w (λ k. or_blank by.rule by.tally (get_or labs k None)) ++ ys)
+      (ap (λ (m : ℕ). downs (suc d) (labels_next by labs L m) (parted_arcs by d a ls Ls)) (part-width d Ls) ∙ downs-parted a ls d (labels_next by labs L (width Ls)) Ls)
+    where
+      part-width : (d : ℕ) (Ls : Net) → width (parted_arcs by d a ls Ls) ≡ width Ls
+      part-width d [] = refl
+      part-width zero (L ∷ []) = refl
+      part-width zero (L ∷ M ∷ Ls) = redirect-length _ L
+      part-width (suc d) (L ∷ Ls) = refl
 
-    same-label : (stays : Label S V → ℕ → Bool) (a m : ℕ) (x : Node S V) → (parted_node stays a m x).label ≡ x.label
-    unfolding parted_node redirected
-    same-label stays a m x = refl
+  -- ---- records that are laid out
+  front-row : {Y : Type 0} (g : Node S V → Y) (k : ℕ) (labs : List (Option (Down S V))) (L : Layer) (Ls : Net) (later : List (Node S V)) → map g (take (suc k * w) (labelled_from by labs (L ∷ Ls) ++ later))
+      ≡ table w (λ b. g (record_of_place by L labs (ups (L ∷ Ls)) b)) ++ map g (take (k * w) (labelled_from by (labels_next by labs L (width Ls)) Ls ++ later))
+  unfolding labelled_from
+  front-row g k labs L Ls later =
+      let f = record_of_place by L labs (ups (L ∷ Ls)) in
+      let xs = labelled_from by (labels_next by labs L (width Ls)) Ls in
+      ap (map g) (first-row w k f xs later) ∙ map-append g (table w f) (take (k * w) (xs ++ later)) ∙ ap (λ ys. ys ++ map g (take (k * w) (xs ++ later))) (map-table g w f)
 
-    one-kept : (a m : ℕ) (xs : List (Node S V)) → a < m → m < w → Kept m xs → Kept (suc m) (parted_one by (d * w) a m xs)
-    unfolding parted_one
-    one-kept a m xs al ml r =
+  module _ (later : List (Node S V)) where
+    ups-laid : (labs : List (Option (Down S V))) (Ls : Net) → map up_of (labelled_from by labs Ls ++ later) ≡ rows up_at (no_up ∷ map up_of later) Ls
+    unfolding labelled_from
+    ups-laid labs [] = refl
+    ups-laid labs (L ∷ Ls) =
+        let us = ups (L ∷ Ls) in
+        let f = record_of_place by L labs us in
+        let xs = labelled_from by (labels_next by labs L (width Ls)) Ls in
+        ap (map up_of) (append_assoc (table w f) xs later) ∙ map-append up_of (table w f) (xs ++ later)
+        ∙ ap₂ (λ ys zs. ys ++ zs) (map-table up_of w f ∙ row-if up_at [] us (λ k. or_no_up (get_or us k None)) (λ k lt. refl) (λ k ge. ap or_no_up (get_or_past us k None ge))) (ups-laid (labels_next by labs L (width Ls)) Ls)
+
+    places-laid : (one : 1 ≤ w) (labs : List (Option (Down S V))) (Ls : Net) → Full by one labs Ls → map unused_of (take (length Ls * w) (labelled_from by labs Ls ++ later)) ≡ rows place [] Ls
+    places-laid one labs [] h = ap (λ (k : ℕ). map unused_of (take k (labelled_from by labs [] ++ later))) (zero-mul w)
+    places-laid one labs (L ∷ Ls) h =
+        let us = ups (L ∷ Ls) in
+        front-row unused_of (length Ls) labs L Ls later
+        ∙ ap₂ (λ ys zs. ys ++ zs) (row-if place [] us (λ k. unused_of (record_of_place by L labs us k)) (λ k lt. let l = h.0.filled.there k (omega (arith, ups-long L Ls)) in rw (l.1, h.0.filled.lasting k l.0 l.1))
+        (λ k ge. ap₂ (λ o u. unused_of (record { arcs = arcs_at L k; label = record { down = or_blank by.rule by.tally o; up = or_no_up u } })) (get_or_past labs k None (omega (arith, h.0.filled.long, ups-long L Ls))) (get_or_past us k None ge)))
+        (places-laid one (labels_next by labs L (width Ls)) Ls h.1)
+
+    downs-laid : (c : ℕ) (labs : List (Option (Down S V))) (Ls : Net) → c ≤ length Ls → map down_of (take (c * w) (labelled_from by labs Ls ++ later)) ≡ downs c labs Ls
+    downs-laid zero labs Ls le = ap (λ (k : ℕ). map down_of (take k (labelled_from by labs Ls ++ later))) (zero-mul w)
+    downs-laid (suc c) labs [] le = absurd (omega arith)
+    downs-laid (suc c) labs (L ∷ Ls) le = front-row down_of c labs L Ls later ∙ ap (λ ys. table w (λ k. or_blank by.rule by.tally (get_or labs k None)) ++ ys) (downs-laid c (labels_next by labs L (width Ls)) Ls (omega arith))
+
+  -- ---- the records
+  -- what the arcs have no say in is copied
+  labels-parted : {Y : Type 0} (h : Node S V → Y) → ((x : Node S V) (f : ℕ → ℕ → ℕ) → h (redirected f x) ≡ h x) → (stays : Label S V → ℕ → Bool) (d a m i k : ℕ) (z : Node S V) (xs : List (Node S V)) → d * w + w ≤ length xs → i ≡ suc d * w + a → k ≡ suc d * w + m
+      → map h (take (d * w) xs ++ parted_second stays w a m (drop (d * w) xs) z) ≡ copied (h z) i k (map h xs)
+  unfolding parted_second parted_node
+  labels-parted h e stays d a m i k z xs le ei ek =
+      let front = take (d * w) xs in
+      let ys = drop (d * w) xs in
+      let us = take w ys in
+      let rest = drop w ys in
+      let A = map h us in
+      let p : i ≡ d * w + (w + a) = omega (arith, suc-mul d w) in
+      let q : k ≡ d * w + (w + m) = omega (arith, suc-mul d w) in
+      rw (p, q)
+      (map-append h front _ ∙ ap (λ zs. map h front ++ zs)
+      (map-append h (map (parted_node stays a m) us) _ ∙ ap₂ (λ vs zs. vs ++ zs) (same us) (map-set h rest m (get_or rest a z) ∙ ap (set (map h rest) m) (sym (get_or-mapped h rest a z)))
+      ∙ sym (copied-after (h z) w a m A (map h rest) (length-map us h ∙ length-take-le w ys (omega (arith, length-drop (d * w) xs)))))
+      ∙ sym (copied-after (h z) (d * w) (w + a) (w + m) (map h front) (A ++ map h rest) (length-map front h ∙ length-take-le (d * w) xs (omega arith)))
+      ∙ ap (copied (h z) (d * w + (w + a)) (d * w + (w + m))) (ap (λ zs. map h front ++ zs) (sym (map-append h us rest) ∙ ap (map h) (take-append-drop w ys)) ∙ sym (map-append h front ys) ∙ ap (map h) (take-append-drop (d * w) xs)))
+    where
+      same : (us : List (Node S V)) → map h (map (parted_node stays a m) us) ≡ map h us
+      same [] = refl
+      same (u ∷ us) = ap₂ (λ y ys. y ∷ ys) (e u _) (same us)
+
+  module _ (one : 1 ≤ w) (later : List (Node S V)) where
+    -- the labels stand that are those of the net Ls, when layer d + 1 is parted: upward sets, downward labels before it, and what places are not in use
+    pub record Stands (d : ℕ) (Ls : Net) (xs : List (Node S V)) : Type 0 where
+      pub ups : map up_of xs ≡ map up_of (labelled_records by Ls ++ later)
+      pub downs : map down_of (take (suc d * w) xs) ≡ map down_of (take (suc d * w) (labelled_records by Ls ++ later))
+      pub places : map unused_of (take (by.round.n * w) xs) ≡ map unused_of (take (by.round.n * w) (labelled_records by Ls ++ later))
+
+    places-all : (Ls : Net) → IsLawful by.round.n w Ls → map unused_of (take (by.round.n * w) (labelled_records by Ls ++ later)) ≡ rows place [] Ls
+    unfolding labelled_records
+    places-all Ls p = subst (λ (k : ℕ). map unused_of (take (k * w) (labelled_from by (first_labels by.rule by.tally) Ls ++ later)) ≡ rows place [] Ls) p.deep (places-laid later one (first_labels by.rule by.tally) Ls (full by one later Ls p))
+
+    pub parted-stands : (d a m : ℕ) (ls : List (Option (Down S V))) (Ls : Net) (xs : List (Node S V)) → Known by d Ls xs → IsLawful by.round.n w (parted_arcs by d a ls Ls) → m ≡ length (get_or Ls (suc d) []) → a < m → m < w
+        → Stands d Ls xs → Stands d (parted_arcs by d a ls Ls) (parted_one by (d * w) a m xs)
+    unfolding parted_one labelled_records
+    parted-stands d a m ls Ls xs known p em al ml s =
         let n = by.round.n in
-        let at = d * w in
-        let stays = kept_first by (first_arrival (arrivals by (suc a) (part at w xs))) in
-        let f : List (Node S V) → List (Node S V) = λ ys. parted_second stays w a m ys z in
-        let ys = drop at xs in
-        let two = two-fit w d n deep in
-        let here : suc d * w ≤ length xs = omega (arith, suc-mul d w, r.fit) in
-        let room : w + w ≤ length ys = omega (arith, length-drop at xs, r.fit) in
-        let us = take w ys in
-        let front : take w (f ys) ≡ map (parted_node stays a m) us =
-        unfold parted_second in take_at (map (parted_node stays a m) us) _ w (length-map us (parted_node stays a m) ∙ length-take-le w ys (omega arith)) in
-        let e : n ≡ d + suc (suc (n - d - 2)) = omega arith in
-        let s = deep-stood f d xs here (subst (Alike us) (sym front) (alike-moved (parted_node stays a m) (same-label stays a m) us)) r.stood.1 in
+        let first = first_labels by.rule by.tally in
+        let Ms = parted_arcs by d a ls Ls in
+        let ys = parted_one by (d * w) a m xs in
+        let z = blank_node by.rule by.tally in
+        let i = suc d * w + a in
+        let k = suc d * w + m in
+        let stays = kept_first by (first_arrival (arrivals by (suc a) (part (d * w) w xs))) in
+        let ek : k ≡ suc d * w + length (get_or Ls (suc d) []) = ap (λ (m : ℕ). suc d * w + m) em in
+        let deep : suc d < length Ls = omega (arith, known.deep, known.proper.deep) in
+        let few = two-fit w d n known.deep in
+        let here : d * w + w ≤ length xs = omega (arith, known.fit) in
         record {
-          lifted = (deep-lifted w f d (suc (suc (n - d - 2))) n xs e here (second-lifted stays w a m al ml z (n - d - 2) ys room r.within) r.lifted).0;
-          stood = (s.1.first r.stood.0, s.0);
-          within = rw (drop_at (take at xs) (f ys) at (length-take-le at xs (omega arith)), front) (moved-within stays a m us r.within);
-          fit = omega (arith, r.fit, known-length by d [] xs a m);
+          ups = labels-parted up_of (λ x f. unfold redirected in refl) stays d a m i k z xs here refl refl ∙ ap (copied no_up i k) (s.ups ∙ ups-laid later first Ls)
+              ∙ sym (rows-parted up_at (no_up ∷ map up_of later) a ls no_up d i k Ls deep known.proper.tied (omega arith) (omega arith) refl ek) ∙ sym (ups-laid later first Ms);
+          downs = sym (take-map down_of (suc d * w) ys) ∙ ap (take (suc d * w)) (labels-parted down_of (λ x f. unfold redirected in refl) stays d a m i k z xs here refl refl)
+              ∙ take-set-le (suc d * w) (map down_of xs) k _ (omega arith) ∙ take-map down_of (suc d * w) xs
+              ∙ s.downs ∙ downs-laid later (suc d) first Ls (omega arith) ∙ sym (downs-parted a ls d first Ls) ∙ sym (downs-laid later (suc d) first Ms (omega (arith, deep, p.deep, known.proper.deep)));
+          places = sym (take-map unused_of (n * w) ys) ∙ ap (take (n * w)) (labels-parted unused_of (λ x f. unfold redirected in refl) stays d a m i k z xs here refl refl)
+              ∙ copied-front (unused_of z) (n * w) i k (map unused_of xs) (omega (arith, suc-mul d w)) (omega (arith, suc-mul d w))
+              ∙ ap (copied (unused_of z) i k) (take-map unused_of (n * w) xs ∙ s.places ∙ places-all Ls known.proper)
+              ∙ sym (rows-parted place [] a ls (unused_of z) d i k Ls deep known.proper.tied (omega arith) (omega arith) refl ek) ∙ sym (places-all Ms p);
         }
 
-    pub parts-kept : (k a m : ℕ) (xs : List (Node S V)) → Kept m xs → Lifted w by.round.n (parts_from by (d * w) k a m xs).1 × StoodFirst by d (parts_from by (d * w) k a m xs).1
-    unfolding parts_from
-    parts-kept zero a m xs r = (r.lifted, r.stood)
-    parts-kept (suc k) a m xs r =
-        let P : Bool × List (Node S V) → Type 0 = λ p. Lifted w by.round.n p.1 × StoodFirst by d p.1 in
-        cond_both (leb m a) _ _ P (λ e. (r.lifted, r.stood)) (λ e.
-        cond_both (alike by (d * w) (suc a) xs) _ _ P (λ q. parts-kept k (suc a) m xs r) (λ q.
-        cond_both (leb w m) _ _ P (λ t. (r.lifted, r.stood)) (λ t. parts-kept k (suc a) (suc m) (parted_one by (d * w) a m xs) (one-kept a m xs (leb-false m a e) (leb-false w m t) r))))
-
-    -- ---- records that are laid out
-    width-at : (d : ℕ) (Ls : Net) → suc d < length Ls → width (drop (suc d) Ls) ≡ length (get_or Ls (suc d) [])
-    width-at d [] lt = absurd (omega arith)
-    width-at d (L ∷ []) lt = absurd (omega arith)
-    width-at zero (L ∷ M ∷ Ls) lt = refl
-    width-at (suc d) (L ∷ M ∷ Ls) lt = width-at d (M ∷ Ls) (omega arith)
-
-    laid-within : (Ls : Net) (xs : List (Node S V)) → IsLawful by.round.n w Ls → Arranged w Ls xs → All (Within (length (get_or Ls (suc d) []))) (part (d * w) w xs)
-    laid-within Ls xs p arr =
-        let L = get_or Ls d [] in
-        let M = length (get_or Ls (suc d) []) in
-        let us = part (d * w) w xs in
-        let far : suc d < length Ls = omega (arith, p.deep, deep) in
-        let here = arranged-at w d Ls xs (omega arith) arr in
-        let at : (t : ℕ) (b k : ℕ) → get_or (node L b) k 0 ≡ t → t ≤ M = λ t b k e. ⊎_elim (λ lt. omega arith) (λ ge.
-        let s : t ≡ suc (t - 1) = omega arith in
-        omega (arith, width-at d Ls far, ranged-at Ls d p.tied (omega arith) b (suc k) (t - 1) (e ∙ s))) (cases_lt t 1) in
-        All-from_get_or (Within M) us z (λ b lt k less.
-        let in' : b < w = omega (arith, arranged-long w L us here) in
-        at (get_or (get_or us b z).arcs.to k 0) b k (sym (ap (λ (o : Arcs). get_or o.to k 0) (arcs-arranged w L us b z here in') ∙ padded-at (node L b) k less)))
-
-    pub start-kept : 1 ≤ w → (Ls : Net) (xs : List (Node S V)) (m : ℕ) → IsLawful by.round.n w Ls → Arranged w Ls xs → records_with by xs Ls ≡ xs → by.round.n * w + 1 ≤ length xs → m ≡ length (get_or Ls (suc d) []) → Kept m xs
-    start-kept one Ls xs m p arr is fit em =
-        let R : relabelled by xs ≡ xs = relabelled-lawful by Ls xs p arr ∙ is in
-        let less : suc d - 1 ≡ d = omega arith in
-        record {
-          lifted = subst (Lifted w by.round.n) is (laid-lifted by one Ls xs p (subst (Arranged w Ls) (sym is) arr));
-          stood = subst (λ (k : ℕ). StoodFirst by k xs) less (stood-laid by (suc d) xs (omega arith) (omega (arith, deep)) fit (ap (map up_of) (sym R)) (ap (λ ys. map down_of (take (suc d * w) ys)) (sym R)));
-          within = subst (λ (k : ℕ). All (Within k) (part (d * w) w xs)) (sym em) (laid-within Ls xs p arr);
-          fit = fit;
-        }
-
-  pub layer-kept : (i : ℕ) (deep : suc (i - 1) < by.round.n) (xs : List (Node S V)) → Kept (i - 1) deep (node_count ((i - 1) * w + w) w xs) xs
-      → Lifted w by.round.n (layer_steps by i xs).1 × StoodFirst by (i - 1) (layer_steps by i xs).1
-  unfolding layer_steps
-  layer-kept i deep xs r =
-      cond_both (is_ok (place_check by.round.n w (length xs) i)) _ _ (λ (p : Bool × List (Node S V)). Lifted w by.round.n p.1 × StoodFirst by (i - 1) p.1)
-      (λ e. parts-kept (i - 1) deep w 0 (node_count ((i - 1) * w + w) w xs) xs r) (λ e. (r.lifted, r.stood))
+-- the arcs of all places
+pub arcs-laid : {S V : Type 0} (w : ℕ) (Ls : Net) (xs : List (Node S V)) → Arranged w Ls xs → arcs_read (take (length Ls * w + 1) xs) ≡ laid_arcs w Ls
+arcs-laid w [] xs arr = let one : 0 * w + 1 ≡ 1 = omega (arith, zero-mul w) in ap (λ (k : ℕ). arcs_read (take k xs)) one ∙ arr
+arcs-laid w (L ∷ Ls) xs arr =
+    let e : suc (length Ls) * w + 1 ≡ w + (length Ls * w + 1) = omega (arith, suc-mul (length Ls) w) in
+    ap (λ (k : ℕ). arcs_read (take k xs)) e ∙ split arcs_of w (length Ls * w + 1) xs ∙ ap₂ (λ ys zs. ys ++ zs) arr.0 (arcs-laid w Ls (drop w xs) arr.1)

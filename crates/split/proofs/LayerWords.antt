@@ -68,19 +68,26 @@ same_way : {A B : Type 0} (Q : A → B → Type 0) (s t : Bool) (x y : A) (u v :
 same_way Q s true x y u v e f g = rw e (f refl)
 same_way Q s false x y u v e f g = rw e (g refl)
 
--- ---- the records: p is what is said of the records zs of a net, and q what is done with the records xs
-module _ {S V : Type 0} (by : Setting S V) (w : 1 ≤ by.width) (later : List (Node S V)) where
+-- ---- the records: p is what is said of the records zs of a net, and q what is done with the records xs; P is kept by each part
+module _ {S V : Type 0} (by : Setting S V) (w : 1 ≤ by.width) (later : List (Node S V)) (P : Net → List (Node S V) → Type 0) where
   pub record Done (xs : List (Node S V)) (p q : Bool × List (Node S V)) : Type 0 where
     pub answer : q.0 ≡ p.0
-    pub left : Reached by w later (λ Ls. Arranged by.width Ls q.1) p.1
+    pub left : Reached by w later (λ Ls. Arranged by.width Ls q.1 × P Ls q.1) p.1
     pub tail : drop (by.round.n * by.width + 1) q.1 ≡ drop (by.round.n * by.width + 1) xs
     pub long : length q.1 ≡ length xs
 
-  module _ (self : (s : S) → by.rule.same s s ≡ true) (i : ℕ) (low : 1 ≤ i) (high : i < by.round.n) where
+  -- what is asked of P
+  pub record KeptByParts (d : ℕ) : Type 0 where
+    pub start : (Ls : Net) → IsLawful by.round.n by.width Ls → P Ls (labelled_records by Ls ++ later)
+    pub step : (a m : ℕ) (ls : List (Option (Down S V))) (Ls : Net) (xs : List (Node S V)) → Known by d Ls xs → IsLawful by.round.n by.width (parted_arcs by d a ls Ls) → m ≡ length (get_or Ls (suc d) []) → a < m → m < by.width
+        → P Ls xs → P (parted_arcs by d a ls Ls) (parted_one by (d * by.width) a m xs)
+
+  module _ (self : (s : S) → by.rule.same s s ≡ true) (i : ℕ) (low : 1 ≤ i) (high : i < by.round.n) (keeps : KeptByParts (i - 1)) where
     -- what is known at each turn: the labels of the layer before are those of the net
     record State (xs : List (Node S V)) (Ls : Net) : Type 0 where
       known : Known by (i - 1) Ls xs
       labelled : downs_in (nodes_in (part ((i - 1) * by.width) by.width xs)) ≡ labels_at by (i - 1) (first_labels by.rule by.tally) Ls
+      kept : P Ls xs
 
     abbrev At : List (Node S V) → List (Node S V) → Type 0
     At xs zs = Reached by w later (State xs) zs
@@ -124,6 +131,7 @@ module _ {S V : Type 0} (by : Setting S V) (w : 1 ≤ by.width) (later : List (N
               stand = stands_same vs us same ∙ k.stand ∙ sym (before-stays by w d a (first_labels by.rule by.tally) r.net);
             };
             labelled = downs-same vs us same ∙ r.holds.labelled ∙ sym (labs-stay by w d a (first_labels by.rule by.tally) r.net);
+            kept = keeps.step a m (labels_at by d (first_labels by.rule by.tally) r.net) r.net xs k p in-net al ml r.holds.kept;
           }
 
       next-at : At ys parted
@@ -146,9 +154,9 @@ module _ {S V : Type 0} (by : Setting S V) (w : 1 ≤ by.width) (later : List (N
     -- all turns
     parts-done : (k a m : ℕ) (xs zs : List (Node S V)) → At xs zs → m ≡ count_of by i zs → Done xs (parts_of_layer by k i (suc a) zs) (parts_from by ((i - 1) * by.width) k a m xs)
     unfolding parts_of_layer parts_from
-    parts-done zero a m xs zs r em = record { answer = refl; left = record { net = r.net; well = r.well; is = r.is; holds = r.holds.known.arranged }; tail = refl; long = refl }
+    parts-done zero a m xs zs r em = record { answer = refl; left = record { net = r.net; well = r.well; is = r.is; holds = (r.holds.known.arranged, r.holds.kept) }; tail = refl; long = refl }
     parts-done (suc k) a m xs zs r em =
-        let here : (b : Bool) → Done xs (b, zs) (b, xs) = λ b. record { answer = refl; left = record { net = r.net; well = r.well; is = r.is; holds = r.holds.known.arranged }; tail = refl; long = refl } in
+        let here : (b : Bool) → Done xs (b, zs) (b, xs) = λ b. record { answer = refl; left = record { net = r.net; well = r.well; is = r.is; holds = (r.holds.known.arranged, r.holds.kept) }; tail = refl; long = refl } in
         let next : a < m → m < by.width → oneGroupIn by i (suc a) zs ≡ false
         → Done xs (parts_of_layer by k i (suc (suc a)) (parted_records by i (suc a) zs)) (parts_from by ((i - 1) * by.width) k (suc a) (suc m) (parted_one by ((i - 1) * by.width) a m xs)) =
         λ al ml e. next-done xs zs r a m em al ml e _ _ (parts-done k (suc a) (suc m) _ _ (next-at xs zs r a m em al ml e) (next-count xs zs r a m em al ml e)) in
@@ -183,6 +191,7 @@ module _ {S V : Type 0} (by : Setting S V) (w : 1 ≤ by.width) (later : List (N
               stand = ap (λ (M : List (Node S V)). length M) (sym N) ∙ q.2;
             };
             labelled = ap downs_in (sym N) ∙ q.0;
+            kept = keeps.start Ls p;
           }
 
       laid-done : by.width ≤ 128 → Done laid (parts_of_layer by by.width i 1 laid) (layer_steps by i laid)
@@ -200,7 +209,8 @@ module _ {S V : Type 0} (by : Setting S V) (w : 1 ≤ by.width) (later : List (N
 pub layer-said : {S V : Type 0} (by : Setting S V) (self : (s : S) → by.rule.same s s ≡ true) (i : ℕ) (xs ys : List (Node S V)) (b : Bool) → (b, ys) ≡ layer_steps by i xs → LayerDone by xs i b ys
 unfolding records_with
 layer-said {S} {V} by self i xs ys b made s stays low high =
+    let free : Net → List (Node S V) → Type 0 = λ Ls zs. Unit {0} in
     let later = drop (by.round.n * by.width + 1) xs in
     let r : Reached by s.some later (λ Ls. Unit {0}) xs = record { net = arcs by.round.n by.width xs; well = shaped-proper by.round by.width xs s.shaped; is = sym stays; holds = tt } in
-    let d : Done by s.some later xs (parts_of_layer by by.width i 1 xs) (b, ys) = subst (Done by s.some later xs (parts_of_layer by by.width i 1 xs)) (sym made) (layer-net by s.some later self i low high s.few xs r) in
-    ap₂ (λ (q : Bool) (zs : List (Node S V)). (q, zs)) d.answer (relaid-same by xs ys d.left.net d.left.well d.left.holds d.tail ∙ sym d.left.is)
+    let d : Done by s.some later free xs (parts_of_layer by by.width i 1 xs) (b, ys) = subst (Done by s.some later free xs (parts_of_layer by by.width i 1 xs)) (sym made) (layer-net by s.some later free self i low high (record { start = λ Ls p. tt; step = λ a m ls Ls xs k p e al ml h. tt }) s.few xs r) in
+    ap₂ (λ (q : Bool) (zs : List (Node S V)). (q, zs)) d.answer (relaid-same by xs ys d.left.net d.left.well d.left.holds.0 d.tail ∙ sym d.left.is)

@@ -8,14 +8,14 @@ use Rattle.layers.specs.SweepLaws.{RefineSweepsOutFrom}
 use Rattle.layers.proofs.Main.{kept}
 use Rattle.layers.proofs.Wholes.{whole-settles, refine-sweeps-out}
 use Rattle.labels.specs.Passes.{fits, relabelled}
-use Rattle.diagram.specs.Opening.{every_door, arcs_opened, arced}
+use Rattle.diagram.specs.Opening.{every_door, arced}
 use Rattle.layers.specs.Shape.{IsShaped, IsTimely}
 use Rattle.diagram.proofs.Opened.{laid-opened, room, opened-shaped, opened-timely}
 use Rattle.diagram.proofs.diagram.Diagram.open.Goals as goal
 
 -- arcs laid, then labels worked out
 both : {S V : Type 0} (by : Setting S V) (a : 1 ≤ by.width) (b : by.width ≤ 128) (xs ys zs : List (Node S V)) → by.round.n * by.width + 1 ≤ length xs
-    → ys ≡ arced (arcs_opened (every_door by.round.n) by.round.n by.width) (by.round.n * by.width + 1) xs → zs ≡ cond (fits by.round.n by.width (length ys)) (relabelled by ys) ys → zs ≡ after_open by xs
+    → ys ≡ arced (every_door by.round.n) by.width by.round.n xs → zs ≡ cond (fits by.round.n by.width (length ys)) (relabelled by ys) ys → zs ≡ after_open by xs
 both by a b xs ys zs h e f =
     f
     ∙ ap (λ (ys : List (Node _ _)). cond (fits by.round.n by.width (length ys)) (relabelled by ys) ys) e
