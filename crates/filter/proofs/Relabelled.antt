@@ -1,5 +1,5 @@
 -- Labelling anew leaves the arcs of any list as they are.
-use Rattle.std.proofs.Common.{◌≡◌, ℕ, zero, suc, ◌-◌, ◌*◌, ◌≤◌, Bool, Option, List, [], ◌∷◌, ◌++◌, map, length, get_or, take, drop, refl, sym, ap, ◌∙◌, ap₂, arith, take-append-drop}
+use Rattle.std.proofs.Common.{◌≡◌, ℕ, zero, suc, ◌-◌, ◌*◌, ◌≤◌, Bool, Option, List, [], ◌∷◌, ◌++◌, map, length, get_or, take, drop, refl, sym, ap, ◌∙◌, ap₂, take-append-drop}
 use Rattle.std.specs.List.{range_with_len}
 use Rattle.std.proofs.lemmas.List.{drop-map, take-map, map-append}
 use Rattle.std.proofs.lemmas.List.FromFn.{fill_by_all}
@@ -14,11 +14,9 @@ use Rattle.layers.specs.Targets.{targets}
 use Rattle.labels.proofs.Laying.{arcs_of}
 use Rattle.labels.specs.Passes.{blank_node, labelled, next_layer, labelled_after, first_layer, pass_down, risen, risen_from, pass_up, relabelled}
 use Rattle.tidying.specs.Counted.{arcs_within}
-use Rattle.tidying.specs.Tidied.{first_mark}
-use Rattle.tidying.proofs.Steps.{tail-is}
 use Rattle.filter.specs.Kept.{kept_from}
 use Rattle.filter.specs.Steps.{redone}
-use Rattle.filter.proofs.KeptNet.{kept-tail}
+use Rattle.filter.proofs.KeptNet.{kept-later}
 
 module _ {S V : Type 0} where
   abbrev Same : List (Node S V) → List (Node S V) → Type 0
@@ -73,8 +71,4 @@ module _ {S V : Type 0} (by : Setting S V) where
   pub filter-tail : (goes : ℕ → ℕ → ℕ → Option (Down S V) → Option Up → Bool) (xs : List (Node S V)) → by.round.n * by.width ≤ length xs
       → arcs_within (drop (by.round.n * by.width) (redone by (kept_from goes by.width 0 by.round.n xs))) ≡ arcs_within (drop (by.round.n * by.width) xs)
   unfolding redone
-  filter-tail goes xs h =
-      let n = by.round.n in
-      let W = by.width in
-      let kept = kept-tail n goes W 0 n xs h in
-      relabelled-rest (n * W) _ ∙ ap arcs_within (tail-is W (blank_node by.rule by.tally) n first_mark (kept_from goes W 0 n xs) (omega (arith, kept.0)) ∙ kept.1)
+  filter-tail goes xs h = relabelled-rest (by.round.n * by.width) _ ∙ ap arcs_within (kept-later goes by.round.n by.width (blank_node by.rule by.tally) xs h)

@@ -5,7 +5,7 @@ ghost use Rattle.layers.specs.Settings.{lent_setting};
 ghost use Rattle.labels.specs.Passes.{fits};
 ghost use Rattle.tidying.specs.Counted.{arcs_within};
 ghost use Rattle.filter.specs.Kept.{HasLabel};
-ghost use Rattle.filter.specs.Steps.{arc_count, none_goes, redone, filter_steps, filter_labelled_steps};
+ghost use Rattle.filter.specs.Steps.{arc_count, none_goes, redone, filter_steps, filter_labelled_steps, IsLabelled, FilterDone};
 
 use crate::take::{Filter, take_from};
 use crate::test::Test;
@@ -49,6 +49,9 @@ pub(crate) fn filter_labelled<R: Rule, T: Tally, F: Test<State = R::State, Value
         (result == 0) ≡ none_goes (F.goes test.now r) r.n by.now.width nodes.old }
     ensures counted { result ≡ arc_count by.now.round.now.n by.now.width nodes.old -
         arc_count by.now.round.now.n by.now.width nodes.new }
+    ensures words { let by = lent_setting by.now (R.sense by.now.rule.now)
+        (T.sense by.now.tally.now) in
+        IsLabelled by nodes.old → FilterDone by (F.goes test.now by.round) nodes.old nodes.new result }
 {
     let filter = Filter {
         round: by.round,
@@ -76,6 +79,9 @@ pub(crate) fn filter<R: Rule, T: Tally, F: Test<State = R::State, Value = T::Val
         nodes.new ≡ filter_steps by (F.goes test.now by.round) nodes.old }
     ensures counted { result ≡ arc_count by.now.round.now.n by.now.width nodes.old -
         arc_count by.now.round.now.n by.now.width nodes.new }
+    ensures words { let by = lent_setting by.now (R.sense by.now.rule.now)
+        (T.sense by.now.tally.now) in
+        FilterDone by (F.goes test.now by.round) nodes.old nodes.new result }
 {
     let gone = filter_labelled(by, test, nodes);
     if gone == 0 {

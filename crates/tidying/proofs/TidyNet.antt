@@ -1,4 +1,4 @@
--- Where records are arranged as a net, tidying them is tidying the net; and what stands after the layers stays
+-- Where records are arranged as a net, tidying them is tidying the net
 use Rattle.std.proofs.Common.{◌≡◌, ℕ, zero, suc, ◌+◌, ◌-◌, ◌*◌, ◌<◌, ◌≤◌, Bool, true, false, List, [], ◌∷◌, ◌++◌, map, length, get_or, take, drop, replicate, filter, sym, refl, ap, ◌∙◌, subst, inl, inr, suc-mul, arith}
 use Rattle.std.specs.List.{All, range_with_len}
 use Rattle.std.proofs.lemmas.Bool.{cases_lt}
@@ -18,7 +18,7 @@ use Rattle.tidying.specs.Tidied.{lively, reached_next, renewed, renew_at, renewa
 use Rattle.tidying.proofs.Lists.{get_or-blank, get_or-filled}
 use Rattle.tidying.proofs.Nets.{Like, Likes, first-likes}
 use Rattle.tidying.proofs.Renewed.{renewed-layer, block-nodes}
-use Rattle.tidying.proofs.Steps.{block, block-long, front, back, tail-is}
+use Rattle.tidying.proofs.Steps.{block, block-long, front, back}
 use Rattle.tidying.proofs.Targets.{Bare, length-targets}
 
 padded-same : (nd : Outs) (k : ℕ) → length nd ≤ 16 → get_or (padded_targets nd) k 0 ≡ get_or nd k 0
@@ -139,15 +139,13 @@ module _ {S V : Type 0} (w : ℕ) (z : Node S V) (zb : z.arcs ≡ arcs_at [] 0) 
       )
 
 -- tidying the records is tidying the net
-pub tidied-arranged : {S V : Type 0} (w : ℕ) (z : Node S V) (Ls : Net) (xs : List (Node S V)) → w ≤ 128 → width Ls ≡ 1 → Good w Ls → z.arcs ≡ arcs_at [] 0 → Arranged w Ls xs → Standing w Ls xs
-    → Arranged w (tidiedNet Ls) (tidied w z (length Ls) first_mark xs)
-tidied-arranged w z [] xs le one good zb arr st = unfold tidiedNet tidied in arr
-tidied-arranged w z (L ∷ Ls) xs le one good zb arr st =
+pub tidied-arranged : {S V : Type 0} (w : ℕ) (z : Node S V) (n : ℕ) (Ls : Net) (xs : List (Node S V)) → w ≤ 128 → length Ls ≡ n → width Ls ≡ 1 → Good w Ls → z.arcs ≡ arcs_at [] 0 → Arranged w Ls xs → Standing w Ls xs
+    → Arranged w (tidiedNet Ls) (tidied w z n first_mark xs)
+tidied-arranged w z n [] xs le deep one good zb arr st = rw (← deep) (unfold tidiedNet tidied in arr)
+tidied-arranged w z n (L ∷ Ls) xs le deep one good zb arr st =
     let small : w < 256 = omega arith in
     let ys = tidied w z (suc (length Ls)) first_mark xs in
     let like = arranged-likes w z zb small (L ∷ Ls) xs good arr st in
-    likes-arranged w z zb small (tidiedNet (L ∷ Ls)) ys (first-likes w z (bare w z zb small) small L Ls xs one (fits w z zb small (L ∷ Ls) xs arr) (like.0 0) like.1)
-    (subst (λ r. Solid w z zb small r ys) (sym ((tidy-means (L ∷ Ls) (tidiedNet (L ∷ Ls))).1 refl).layers) (tidied-solid w z zb small (L ∷ Ls) first_mark xs good arr st))
-
-pub tidied-tail : {S V : Type 0} (w : ℕ) (z : Node S V) (Ls : Net) (xs : List (Node S V)) → length Ls * w + 1 ≤ length xs → drop (length Ls * w) (tidied w z (length Ls) first_mark xs) ≡ drop (length Ls * w) xs
-tidied-tail w z Ls xs h = tail-is w z (length Ls) first_mark xs (omega arith)
+    rw (← deep)
+    (likes-arranged w z zb small (tidiedNet (L ∷ Ls)) ys (first-likes w z (bare w z zb small) small L Ls xs one (fits w z zb small (L ∷ Ls) xs arr) (like.0 0) like.1)
+    (subst (λ r. Solid w z zb small r ys) (sym ((tidy-means (L ∷ Ls) (tidiedNet (L ∷ Ls))).1 refl).layers) (tidied-solid w z zb small (L ∷ Ls) first_mark xs good arr st)))
