@@ -1,5 +1,6 @@
 pub mod Below
 pub mod Climbs
+pub mod DoorsOut
 pub mod Earlies
 pub mod Folds
 pub mod Inward

@@ -1,12 +1,13 @@
 -- Relabelling as the code does it, in two passes over the records of any list: so many records to a layer, 16 doors to a record.
 -- Nobody has to believe these steps: on the arcs of a diagram `labelled` of `relabel` says what they come to.
-use Rattle.std.specs.Prelude.{◌≡◌, ℕ, zero, suc, ◌+◌, ◌-◌, ◌*◌, ◌≤◌, Bool, true, if◌then◌else◌, ◌&&◌, List, [], ◌∷◌, ◌++◌, map, length, take, drop, replicate, Some, None, fold, Option, ◌==◌, nat_le, slice_index, slice_index_or, slice_set}
-use Rattle.std.specs.List.{range_with_len, flat_map}
+use Rattle.std.specs.Prelude.{◌≡◌, ℕ, zero, suc, ◌+◌, ◌-◌, ◌*◌, ◌≤◌, Bool, true, not, if◌then◌else◌, ◌&&◌, List, [], ◌∷◌, ◌++◌, map, length, take, drop, replicate, Some, None, fold, Option, ◌==◌, nat_le, slice_index, slice_index_or, slice_set}
+use Rattle.std.specs.List.{range_with_len, flat_map, filter}
 use Rattle.round.specs.Clock.{latest_finish}
 use Rattle.round.specs.declared.table.Round.{Round}
 use Rattle.rules.specs.Rules.{RuleSense}
 use Rattle.tallies.specs.Tallies.{TallySense}
 use Rattle.layers.specs.declared.node.Node.{Node}
+use Rattle.layers.specs.declared.node.Label.{Label}
 use Rattle.layers.specs.declared.node.Down.{Down}
 use Rattle.layers.specs.declared.node.Up.{Up}
 use Rattle.layers.specs.Settings.{Setting}
@@ -14,6 +15,11 @@ use Rattle.layers.specs.Calls.{records_with}
 use Rattle.layers.specs.Net.{Net}
 use Rattle.layers.specs.Records.{nodes_in}
 use Rattle.layers.specs.Labels.{leg_step, arrival_over, merge, first_label, blank_label, climb, merge_up, no_up}
+
+-- ---- the doors of a record
+-- the places below 16 of a list of targets that are not 0, in order: the doors, less one, that have an arc
+abbrev pub doors_out : List ℕ → List ℕ
+doors_out to = filter (λ k. not (slice_index to k == 0)) (range_with_len 0 16)
 
 -- ---- parts of the list
 -- `count` records from `at` on
@@ -197,3 +203,13 @@ module _ {S V : Type 0} (by : Setting S V) where
   HasDownsBefore i Ls xs =
       map (λ x. x.label.down) (take (i * by.width) xs)
       ≡ map (λ x. x.label.down) (take (i * by.width) (records_with by xs Ls))
+
+  -- the label of a place that is not in use
+  abbrev pub unused_label : Node S V → Option (Label S V)
+  unused_label x = if x.label.down.lasts == 0 then Some x.label else None
+
+  -- in the layers before the end, the places in use are those of the arcs Ls, and the others have blank labels
+  abbrev pub HasPlaces : Net → List (Node S V) → Type 0
+  HasPlaces Ls xs =
+      map unused_label (take (by.round.n * by.width) xs)
+      ≡ map unused_label (take (by.round.n * by.width) (records_with by xs Ls))
