@@ -1,6 +1,6 @@
 pub mod Counts
 pub mod InUse
-mod Lists
+pub mod Lists
 mod Marks
 mod Numbers
 mod Kept
