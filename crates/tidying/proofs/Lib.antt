@@ -5,6 +5,7 @@ mod Marks
 mod Numbers
 mod Kept
 mod Nets
+pub mod Places
 mod Renewed
 pub mod Steps
 pub mod Targets
