@@ -1,36 +1,33 @@
 -- On the records of a diagram the steps of sweep and cut come to their definitions.
-use Rattle.std.proofs.Common.{◌≡◌, ℕ, ◌+◌, ◌-◌, ◌*◌, ◌≤◌, Bool, true, cond, eqb, List, ◌++◌, length, drop, Option, sym, refl, ap, ◌∙◌, subst, ap₂, arith}
-use Rattle.std.proofs.lemmas.Bool.{cond_both}
+use Rattle.std.proofs.Common.{◌≡◌, ℕ, ◌+◌, ◌-◌, ◌*◌, ◌≤◌, true, eqb, List, ◌++◌, map, length, get_or, take, drop, sym, refl, ap, ◌∙◌, subst, ap₂, arith}
+use Rattle.std.proofs.lemmas.Bool.{cond_both, cond-false}
 use Rattle.std.proofs.lemmas.List.{drop-drop}
 use Rattle.round.specs.declared.table.Round.{Round}
 use Rattle.layers.specs.Lawful.{IsLawful}
 use Rattle.layers.specs.declared.node.Node.{Node}
 use Rattle.layers.specs.Net.{Net, count_arcs}
 use Rattle.layers.specs.Tidy.{tidied_arcs}
-use Rattle.layers.specs.Records.{labelled_records}
+use Rattle.layers.specs.Records.{is_used, labelled_records}
 use Rattle.layers.specs.Settings.{Setting}
-use Rattle.layers.specs.declared.node.Down.{Down}
-use Rattle.layers.specs.declared.node.Up.{Up}
 use Rattle.layers.specs.Calls.{arcs, labels, kept_arcs, keeps_all_arcs, records_with, arcs_lost, after_sweep}
 use Rattle.layers.specs.Labels.{is_barred}
 use Rattle.layers.specs.Shape.{IsShaped, IsTimely}
 use Rattle.layers.proofs.Counts.{all-kept, kept-same}
 use Rattle.layers.proofs.Proper.{tied-ranged, RangedAll, Less, kept-less, proper-less}
 use Rattle.layers.proofs.Shaped.{shaped-proper, relaid-shaped, ended-one, relaid-timely}
-use Rattle.labels.specs.Passes.{fits, blank_node, relabelled}
+use Rattle.labels.specs.Passes.{fits, blank_node, relabelled, HasPlaces}
 use Rattle.labels.proofs.Laying.{Arranged, Good, relabelled-lawful}
 use Rattle.labels.proofs.Rooms.{room-facts}
 use Rattle.labels.proofs.Shaped_arranged.{shaped-arranged, good-net}
 use Rattle.tidying.specs.Tidied.{first_mark}
 use Rattle.tidying.specs.Tidied.{tidied as tidiedFlat}
+use Rattle.tidying.proofs.Places.{Rows, tidied-places, unused}
 use Rattle.tidying.proofs.TidyNet.{Standing, tidied-arranged}
-use Rattle.filter.specs.Steps.{IsLabelled, FilterDone, arc_count, none_goes, redone, filter_steps, filter_labelled_steps, sweep_steps, after_filter}
+use Rattle.filter.specs.Steps.{IsLabelled, FilterDone, arc_count, none_goes, thinned, filter_steps, filter_labelled_steps, sweep_steps, after_filter}
 use Rattle.filter.specs.Kept.{kept_from}
 use Rattle.filter.proofs.CountNet.{arc-count}
-use Rattle.filter.proofs.KeptNet.{kept-arranged, kept-later}
-
-abbrev Goes : (S V : Type 0) → Type 0
-Goes S V = ℕ → ℕ → ℕ → Option (Down S V) → Option Up → Bool
+use Rattle.filter.proofs.KeptNet.{Goes, kept-arranged, kept-later, kept-tail}
+use Rattle.filter.proofs.Places.{kept-blanks, lawful-rows, rows-blanks, rows-same}
 
 module _ {S V : Type 0} (r : Round) (W : ℕ) (xs : List (Node S V)) (fit : fits r.n W (length xs) ≡ true) (s : IsShaped r.n W xs) where
   abbrev pub D : Net
@@ -92,29 +89,54 @@ module _ {S V : Type 0} (by : Setting S V) (xs : List (Node S V)) (fit : fits by
   tidy-proper : IsLawful by.round.n by.width (tidied_arcs M)
   tidy-proper = proper-less by (wide by.round by.width xs fit s) (D by.round by.width xs fit s) M M-less (proper by.round by.width xs fit s)
 
-  some-words : redone by (kept_from goes by.width 0 by.round.n xs) ≡ after_filter by goes xs
-  unfolding redone records_with
-  some-words =
+  abbrev Left : List (Node S V)
+  Left = tidiedFlat by.width (blank_node by.rule by.tally) by.round.n first_mark (kept_from goes by.width 0 by.round.n xs)
+
+  -- the list tidied, with all after the end
+  left-is : Arranged by.width (tidied_arcs M) Left × (drop (by.round.n * by.width + 1) Left ≡ drop (by.round.n * by.width + 1) xs)
+  left-is =
       let n = by.round.n in
       let W = by.width in
       let z = blank_node by.rule by.tally in
       let room = room-facts n W (length xs) fit in
-      let zs = tidiedFlat W z n first_mark (kept_from goes W 0 n xs) in
-      let stand = left-arranged by.round W xs fit s goes in
-      let arranged = tidied-arranged W z n M (kept_from goes W 0 n xs) room.high (deep-left by.round W xs fit s goes) (M-less.wide ∙ (proper by.round W xs fit s).one_first) (good-left by.round W xs fit s goes) refl stand.0 stand.1 in
-      let later = sym (drop-drop 1 (n * W) zs) ∙ ap (drop 1) (kept-later goes n W z xs (omega (arith, room.enough))) ∙ drop-drop 1 (n * W) xs in
-      relabelled-lawful by (tidied_arcs M) zs tidy-proper arranged ∙ ap (λ (ws : List (Node S V)). labelled_records by (tidied_arcs M) ++ ws) later
+      let stand = left-arranged by.round W xs fit s goes in (
+        tidied-arranged W z n M (kept_from goes W 0 n xs) room.high (deep-left by.round W xs fit s goes) (M-less.wide ∙ (proper by.round W xs fit s).one_first) (good-left by.round W xs fit s goes) refl stand.0 stand.1,
+        sym (drop-drop 1 (n * W) Left) ∙ ap (drop 1) (kept-later goes n W z xs (omega (arith, room.enough))) ∙ drop-drop 1 (n * W) xs,
+      )
 
-  either-words : (zs : List (Node S V)) → zs ≡ records_with by xs (D by.round by.width xs fit s) → cond (none_goes goes by.round.n by.width xs) zs (redone by (kept_from goes by.width 0 by.round.n xs)) ≡ after_filter by goes xs
-  either-words zs same = cond_both (none_goes goes by.round.n by.width xs) zs _ (λ ws. ws ≡ after_filter by goes xs) (λ e. same ∙ ap (records_with by xs) (sym (none-tidied by.round by.width xs fit s goes e))) (λ e. some-words)
+  some-words : relabelled by Left ≡ after_filter by goes xs
+  unfolding records_with
+  some-words = relabelled-lawful by (tidied_arcs M) Left tidy-proper left-is.0 ∙ ap (λ (ws : List (Node S V)). labelled_records by (tidied_arcs M) ++ ws) left-is.1
 
   filter-words : filter_steps by goes xs ≡ after_filter by goes xs
-  unfolding filter_steps
-  filter-words = either-words (relabelled by xs) (relabelled-lawful by (D by.round by.width xs fit s) xs (proper by.round by.width xs fit s) (shaped-arranged by.round by.width xs (enough by.round by.width xs fit s) s))
+  unfolding filter_steps thinned
+  filter-words =
+      let D' = D by.round by.width xs fit s in
+      cond_both (none_goes goes by.round.n by.width xs) xs Left (λ ws. relabelled by ws ≡ after_filter by goes xs)
+      (λ e. relabelled-lawful by D' xs (proper by.round by.width xs fit s) (shaped-arranged by.round by.width xs (enough by.round by.width xs fit s) s) ∙ ap (records_with by xs) (sym (none-tidied by.round by.width xs fit s goes e)))
+      (λ e. some-words)
 
   pub labelled-words : IsLabelled by xs → filter_labelled_steps by goes xs ≡ after_filter by goes xs
-  unfolding filter_labelled_steps
-  labelled-words same = either-words xs (sym same)
+  unfolding filter_labelled_steps thinned
+  labelled-words same =
+      let q = none_goes goes by.round.n by.width xs in
+      cond_both q xs _ (λ ws. ws ≡ after_filter by goes xs) (λ e. sym same ∙ ap (records_with by xs) (sym (none-tidied by.round by.width xs fit s goes e))) (λ e. ap (relabelled by) (cond-false q xs Left e) ∙ some-words)
+
+  -- after the nodes of what is left its places are blank
+  pub left-places : IsLabelled by xs → is_used (get_or Left 0 (blank_node by.rule by.tally)) ≡ true → HasPlaces by (tidied_arcs M) Left
+  left-places same used =
+      let n = by.round.n in
+      let W = by.width in
+      let z = blank_node by.rule by.tally in
+      let room = room-facts n W (length xs) fit in
+      let h : n * W ≤ length xs = omega (arith, room.enough) in
+      let p = proper by.round W xs fit s in
+      let stand = left-arranged by.round W xs fit s goes in
+      let blank = kept-blanks by goes 0 n xs h (rows-blanks by n xs (subst (Rows W z (D by.round W xs fit s)) same (lawful-rows by room.low xs (D by.round W xs fit s) p))) in
+      let long : n * W ≤ length (kept_from goes W 0 n xs) = omega (arith, (kept-tail n goes W 0 n xs h).0) in
+      let rows = tidied-places W z n M (kept_from goes W 0 n xs) room.low room.high (deep-left by.round W xs fit s goes) (M-less.wide ∙ p.one_first) (good-left by.round W xs fit s goes) refl refl stand.0 stand.1 long blank used in
+      subst (λ (k : ℕ). map unused (take (k * W) Left) ≡ map unused (take (k * W) (records_with by Left (tidied_arcs M)))) tidy-proper.deep
+      (rows-same by (tidied_arcs M) Left (records_with by Left (tidied_arcs M)) rows (lawful-rows by room.low Left (tidied_arcs M) tidy-proper))
 
   -- what is left is a diagram's
   filter-shaped : IsShaped by.round.n by.width (after_filter by goes xs)

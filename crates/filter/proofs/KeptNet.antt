@@ -22,8 +22,11 @@ use Rattle.tidying.proofs.Steps.{tail-is}
 use Rattle.tidying.proofs.TidyNet.{Standing}
 use Rattle.filter.specs.Kept.{kept_to, kept_node, kept_from}
 
+abbrev pub Goes : (S V : Type 0) → Type 0
+Goes S V = ℕ → ℕ → ℕ → Option (Down S V) → Option Up → Bool
+
 module _ {S V : Type 0} (n : ℕ) where
-  arcs-many : (N : List (Node S V)) → length (arcs_in n N) ≡ length N
+  pub arcs-many : (N : List (Node S V)) → length (arcs_in n N) ≡ length N
   arcs-many N = length-map N (λ (x : Node S V). take n x.arcs.to)
 
 -- the label of a node as it stands, read off the layer and off the list
@@ -102,7 +105,7 @@ module _ {S V : Type 0} (n : ℕ) (goes : ℕ → ℕ → ℕ → Option (Down S
   Filtered i k xs = kept_arcs goes i (arcs_of_layers n (layers W k xs)) (labels_in (layers W k xs))
 
   -- and as many places are in use
-  row-stands : (i h : ℕ) (us vs ys : List (Node S V)) (f : ℕ → ℕ → ℕ → ℕ) → ys ≡ on_nodes (map (kept_node goes i h vs)) us → length (redirect f (arcs_in n (nodes_in us))) ≤ length (nodes_in ys)
+  row-stands : (i h : ℕ) (us vs ys : List (Node S V)) (f : ℕ → ℕ → ℕ → ℕ) → ys ≡ on_nodes (map (kept_node goes i h vs)) us → length (redirect f (arcs_in n (nodes_in us))) ≡ length (nodes_in ys)
   unfolding kept_node
   row-stands i h us vs ys f e =
       let kept = ap (λ (zs : List (Node S V)). length (nodes_in zs)) e ∙ mapped-nodes (kept_node goes i h vs) (λ x. unfold redirected in refl) us in

@@ -40,20 +40,22 @@ pub record Done {S V A : Type 0} (n W : ℕ) (defined ys : List (Node S V)) (ans
   pub timely : IsTimely n W ys
 
 module _ {S V : Type 0} (by : Setting S V) where
-  -- tidied, and labelled anew
-  unfoldable pub redone : List (Node S V) → List (Node S V)
-  unfolding relabelled tidied
-  redone ys = relabelled by (tidied by.width (blank_node by.rule by.tally) by.round.n first_mark ys)
+  -- the arcs that go taken out, and the list tidied; as it is if none goes
+  unfoldable pub thinned : (ℕ → ℕ → ℕ → Option (Down S V) → Option Up → Bool) → List (Node S V) → List (Node S V)
+  unfolding none_goes kept_from tidied
+  thinned goes xs =
+      if none_goes goes by.round.n by.width xs then xs
+      else tidied by.width (blank_node by.rule by.tally) by.round.n first_mark (kept_from goes by.width 0 by.round.n xs)
 
-  -- a filter: which arcs go. If none goes, the list is labelled anew as it is
+  -- a filter: which arcs go
   unfoldable pub filter_steps : (ℕ → ℕ → ℕ → Option (Down S V) → Option Up → Bool) → List (Node S V) → List (Node S V)
-  unfolding none_goes redone kept_from
-  filter_steps goes xs = if none_goes goes by.round.n by.width xs then relabelled by xs else redone (kept_from goes by.width 0 by.round.n xs)
+  unfolding thinned relabelled
+  filter_steps goes xs = relabelled by (thinned goes xs)
 
   -- of a list whose labels stand: if none goes, it stays as it is
   unfoldable pub filter_labelled_steps : (ℕ → ℕ → ℕ → Option (Down S V) → Option Up → Bool) → List (Node S V) → List (Node S V)
-  unfolding none_goes redone kept_from
-  filter_labelled_steps goes xs = if none_goes goes by.round.n by.width xs then xs else redone (kept_from goes by.width 0 by.round.n xs)
+  unfolding none_goes thinned relabelled
+  filter_labelled_steps goes xs = if none_goes goes by.round.n by.width xs then xs else relabelled by (thinned goes xs)
 
   unfoldable pub sweep_steps : List (Node S V) → List (Node S V)
   unfolding filter_steps leg finish

@@ -1,6 +1,5 @@
 -- Where the places that are not in use stand after the nodes and have one label, so they have after tidying
 use Rattle.std.proofs.Common.{◌≡◌, ℕ, zero, suc, ◌+◌, ◌-◌, ◌*◌, ◌<◌, ◌≤◌, Bool, true, cond, eqb, ltb, List, [], ◌∷◌, ◌++◌, map, length, get_or, take, drop, replicate, filter, Some, None, Option, refl, sym, ap, ◌∙◌, subst, inl, inr, suc-mul, arith}
-use Rattle.std.specs.List.{All}
 use Rattle.std.proofs.lemmas.Bool.{cases_lt, eq-eqb, le-ltb, lt-ltb, not-true}
 use Rattle.std.proofs.lemmas.List.{get_or-append_right, get_or-drop, get_or-replicate, get_or-take, length-drop}
 use Rattle.std.proofs.lemmas.List.Elements.{All-filter, All-from_get_or, filter_passes}
@@ -10,15 +9,15 @@ use Rattle.layers.specs.declared.node.Label.{Label}
 use Rattle.layers.specs.declared.node.Node.{Node}
 use Rattle.layers.specs.Net.{table, Layer, Net, width}
 use Rattle.layers.specs.Tidy.{marks_next, tidy, tidied_arcs as tidiedNet}
-use Rattle.layers.specs.Records.{is_used, nodes_in}
-use Rattle.layers.proofs.Shaped.{standing-short}
+use Rattle.layers.specs.Records.{is_used, nodes_in, arcs_at}
 use Rattle.layers.proofs.Tied.{redirect-length}
-use Rattle.labels.proofs.Laying.{mapped-at, mapped-is}
+use Rattle.labels.proofs.Laying.{Arranged, Good, mapped-at, mapped-is}
 use Rattle.tidying.specs.Tidied.{lively, reached_next, tidied, together, first_mark}
 use Rattle.tidying.proofs.Nets.{Likes, Many, first-many}
 use Rattle.tidying.proofs.Renewed.{renewed-layer, live-used, long}
 use Rattle.tidying.proofs.Steps.{block, block-long, together-long, front, back}
 use Rattle.tidying.proofs.Targets.{Bare}
+use Rattle.tidying.proofs.TidyNet.{Standing, arranged-likes, bare}
 
 -- the label of a place that is not in use
 abbrev pub unused : {S V : Type 0} → Node S V → Option (Label S V)
@@ -96,7 +95,7 @@ module _ {S V : Type 0} (w : ℕ) (z : Node S V) (bare : Bare z) (small : w < 25
       )
 
   -- the whole list: if the first node stays
-  pub first-rows : (L : Layer) (Ls : Net) (xs : List (Node S V)) → length L ≡ 1 → length (nodes_in (take w xs)) ≤ 1 → suc (length Ls) * w ≤ length xs → 1 ≤ w → Likes w z bare small (L ∷ Ls) xs → Blanks w z (suc (length Ls)) xs
+  first-rows : (L : Layer) (Ls : Net) (xs : List (Node S V)) → length L ≡ 1 → length (nodes_in (take w xs)) ≤ 1 → suc (length Ls) * w ≤ length xs → 1 ≤ w → Likes w z bare small (L ∷ Ls) xs → Blanks w z (suc (length Ls)) xs
       → let ys = tidied w z (suc (length Ls)) first_mark xs in is_used (get_or ys 0 z) ≡ true → Rows w z (tidiedNet (L ∷ Ls)) ys
   unfolding tidiedNet
   first-rows L Ls xs one few fits wide like blank used =
@@ -111,5 +110,17 @@ module _ {S V : Type 0} (w : ℕ) (z : Node S V) (bare : Bare z) (small : w < 25
       let many : c ≡ 1 = omega (arith, some, few, length-filter lively vs, count_by-le-length lively vs, long w z bare small r first_mark xs) in (
         row ∙ ap (λ c. table w (placed z.label c)) (many ∙ sym one ∙ sym (redirect-length _ L)),
         subst (Rows w z (tidy (marks_next (Some tt ∷ []) L (width Ls)) Ls)) (sym (back w z r first_mark xs h))
-        (tidied-rows Ls (tidy (marks_next (Some tt ∷ []) L (width Ls)) Ls) (reached_next first_mark (nodes_in (take w xs))) (drop w xs) (omega (arith, suc-mul r w, length-drop w xs)) blank.1 (first-many w z bare small L Ls xs like)),
+            (tidied-rows Ls (tidy (marks_next (Some tt ∷ []) L (width Ls)) Ls) (reached_next first_mark (nodes_in (take w xs))) (drop w xs) (omega (arith, suc-mul r w, length-drop w xs)) blank.1 (first-many w z bare small L Ls xs like)),
       )
+
+pub tidied-places : {S V : Type 0} (w : ℕ) (z : Node S V) (n : ℕ) (Ls : Net) (xs : List (Node S V)) → 1 ≤ w → w ≤ 128 → length Ls ≡ n → width Ls ≡ 1 → Good w Ls → z.arcs ≡ arcs_at [] 0 → z.label.down.lasts ≡ 0 → Arranged w Ls xs → Standing w Ls xs
+    → n * w ≤ length xs → Blanks w z n xs → is_used (get_or (tidied w z n first_mark xs) 0 z) ≡ true → Rows w z (tidiedNet Ls) (tidied w z n first_mark xs)
+unfolding tidiedNet
+tidied-places w z n [] xs low le deep one good zb off arr st fits blank used = tt
+tidied-places w z n (L ∷ Ls) xs low le deep one good zb off arr st fits blank used =
+    let small : w < 256 = omega arith in
+    let like = arranged-likes w z zb small (L ∷ Ls) xs good arr st in
+    let whole : (k : ℕ) → suc (length Ls) ≡ k → k * w ≤ length xs → Blanks w z k xs → is_used (get_or (tidied w z k first_mark xs) 0 z) ≡ true → Rows w z (tidiedNet (L ∷ Ls)) (tidied w z k first_mark xs) =
+    λ k e. subst (λ k. k * w ≤ length xs → Blanks w z k xs → is_used (get_or (tidied w z k first_mark xs) 0 z) ≡ true → Rows w z (tidiedNet (L ∷ Ls)) (tidied w z k first_mark xs)) e
+    (λ h b u. first-rows w z (bare w z zb small) small off L Ls xs one (omega (arith, st.0, one)) h low like b u) in
+    whole n deep fits blank used

@@ -24,13 +24,13 @@ use Rattle.tidying.proofs.Targets.{Bare, length-targets}
 padded-same : (nd : Outs) (k : ℕ) → length nd ≤ 16 → get_or (padded_targets nd) k 0 ≡ get_or nd k 0
 padded-same nd k short = elim (cases_lt k 16) [ inl lt ↦ padded-at nd k lt | inr ge ↦ get_or_past (padded_targets nd) k 0 ge ∙ sym (get_or_past nd k 0 (omega arith)) ]
 
--- each layer has places in use for all nodes of the net
+-- each layer has as many places in use as the net has nodes
 abbrev pub Standing : {S V : Type 0} → ℕ → Net → List (Node S V) → Type 0
 Standing w [] xs = Unit {0}
-Standing w (L ∷ Ls) xs = (length L ≤ length (nodes_in (take w xs))) × Standing w Ls (drop w xs)
+Standing w (L ∷ Ls) xs = (length L ≡ length (nodes_in (take w xs))) × Standing w Ls (drop w xs)
 
 module _ {S V : Type 0} (w : ℕ) (z : Node S V) (zb : z.arcs ≡ arcs_at [] 0) (small : w < 256) where
-  bare : Bare z
+  pub bare : Bare z
   bare k = ap (λ (ts : List ℕ). get_or ts k 0) (targets-is z [] (ap (λ (x : Arcs). x.to) zb)) ∙ get_or-blank {X = ℕ} 16 k 0
 
   -- ---- from arranged records to their arcs
@@ -46,9 +46,9 @@ module _ {S V : Type 0} (w : ℕ) (z : Node S V) (zb : z.arcs ≡ arcs_at [] 0) 
     | inr ge ↦ rw (get_or_past L a [] (omega arith), get_or_past (nodes_in us) a z ge) (sym (bare k))
   ]
 
-  arranged-likes : (Ls : Net) (xs : List (Node S V)) → Good w Ls → Arranged w Ls xs → Standing w Ls xs → Likes w z bare small Ls xs
+  pub arranged-likes : (Ls : Net) (xs : List (Node S V)) → Good w Ls → Arranged w Ls xs → Standing w Ls xs → Likes w z bare small Ls xs
   arranged-likes [] xs good arr st = tt
-  arranged-likes (L ∷ Ls) xs good arr st = (nodes-like L (take w xs) good.0 good.1 arr.0 st.0, arranged-likes Ls (drop w xs) good.3 arr.1 st.1)
+  arranged-likes (L ∷ Ls) xs good arr st = (nodes-like L (take w xs) good.0 good.1 arr.0 (omega (arith, st.0)), arranged-likes Ls (drop w xs) good.3 arr.1 st.1)
 
   -- no place has arcs but the nodes
   abbrev Idle : List (Node S V) → Type 0
@@ -134,7 +134,7 @@ module _ {S V : Type 0} (w : ℕ) (z : Node S V) (zb : z.arcs ≡ arcs_at [] 0) 
       rw (front w z r from xs h, back w z r from xs h) (
         block-long w z r from xs h,
         block-plain r from xs (row-plain L (take w xs) arr.0),
-        block-idle r from xs (row-idle L (take w xs) good.0 good.1 arr.0 st.0),
+        block-idle r from xs (row-idle L (take w xs) good.0 good.1 arr.0 (omega (arith, st.0))),
         tidied-solid Ls (reached_next from (nodes_in (take w xs))) (drop w xs) good.3 arr.1 st.1,
       )
 
