@@ -1,5 +1,5 @@
 -- On the records of a diagram the steps of sweep and cut come to their definitions.
-use Rattle.std.proofs.Common.{◌≡◌, ℕ, ◌+◌, ◌-◌, ◌*◌, ◌≤◌, true, eqb, List, ◌++◌, map, length, get_or, take, drop, sym, refl, ap, ◌∙◌, subst, ap₂, arith}
+use Rattle.std.proofs.Common.{◌≡◌, ℕ, ◌+◌, ◌-◌, ◌*◌, ◌≤◌, true, eqb, List, ◌++◌, length, drop, sym, refl, ap, ◌∙◌, subst, ap₂, arith}
 use Rattle.std.proofs.lemmas.Bool.{cond_both, cond-false}
 use Rattle.std.proofs.lemmas.List.{drop-drop}
 use Rattle.round.specs.declared.table.Round.{Round}
@@ -7,7 +7,7 @@ use Rattle.layers.specs.Lawful.{IsLawful}
 use Rattle.layers.specs.declared.node.Node.{Node}
 use Rattle.layers.specs.Net.{Net, count_arcs}
 use Rattle.layers.specs.Tidy.{tidied_arcs}
-use Rattle.layers.specs.Records.{is_used, labelled_records}
+use Rattle.layers.specs.Records.{labelled_records}
 use Rattle.layers.specs.Settings.{Setting}
 use Rattle.layers.specs.Calls.{arcs, labels, kept_arcs, keeps_all_arcs, records_with, arcs_lost, after_sweep}
 use Rattle.layers.specs.Labels.{is_barred}
@@ -15,19 +15,19 @@ use Rattle.layers.specs.Shape.{IsShaped, IsTimely}
 use Rattle.layers.proofs.Counts.{all-kept, kept-same}
 use Rattle.layers.proofs.Proper.{tied-ranged, RangedAll, Less, kept-less, proper-less}
 use Rattle.layers.proofs.Shaped.{shaped-proper, relaid-shaped, ended-one, relaid-timely}
-use Rattle.labels.specs.Passes.{fits, blank_node, relabelled, HasPlaces}
+use Rattle.labels.specs.Passes.{fits, blank_node, relabelled}
 use Rattle.labels.proofs.Laying.{Arranged, Good, relabelled-lawful}
 use Rattle.labels.proofs.Rooms.{room-facts}
 use Rattle.labels.proofs.Shaped_arranged.{shaped-arranged, good-net}
 use Rattle.tidying.specs.Tidied.{first_mark}
 use Rattle.tidying.specs.Tidied.{tidied as tidiedFlat}
-use Rattle.tidying.proofs.Places.{Rows, tidied-places, unused}
+use Rattle.tidying.proofs.Places.{Blanks, Rows, tidied-places}
 use Rattle.tidying.proofs.TidyNet.{Standing, tidied-arranged}
 use Rattle.filter.specs.Steps.{IsLabelled, FilterDone, arc_count, none_goes, thinned, filter_steps, filter_labelled_steps, sweep_steps, after_filter}
 use Rattle.filter.specs.Kept.{kept_from}
 use Rattle.filter.proofs.CountNet.{arc-count}
 use Rattle.filter.proofs.KeptNet.{Goes, kept-arranged, kept-later, kept-tail}
-use Rattle.filter.proofs.Places.{kept-blanks, lawful-rows, rows-blanks, rows-same}
+use Rattle.filter.proofs.Places.{kept-blanks, rows-blanks}
 
 module _ {S V : Type 0} (r : Round) (W : ℕ) (xs : List (Node S V)) (fit : fits r.n W (length xs) ≡ true) (s : IsShaped r.n W xs) where
   abbrev pub D : Net
@@ -122,9 +122,9 @@ module _ {S V : Type 0} (by : Setting S V) (xs : List (Node S V)) (fit : fits by
       let q = none_goes goes by.round.n by.width xs in
       cond_both q xs _ (λ ws. ws ≡ after_filter by goes xs) (λ e. sym same ∙ ap (records_with by xs) (sym (none-tidied by.round by.width xs fit s goes e))) (λ e. ap (relabelled by) (cond-false q xs Left e) ∙ some-words)
 
-  -- after the nodes of what is left its places are blank
-  pub left-places : IsLabelled by xs → is_used (get_or Left 0 (blank_node by.rule by.tally)) ≡ true → HasPlaces by (tidied_arcs M) Left
-  left-places same used =
+  -- after the nodes of what is left its places are blank, if they were before
+  pub left-places : Rows by.width (blank_node by.rule by.tally) (D by.round by.width xs fit s) xs → Rows by.width (blank_node by.rule by.tally) (tidied_arcs M) Left
+  left-places rows =
       let n = by.round.n in
       let W = by.width in
       let z = blank_node by.rule by.tally in
@@ -132,11 +132,8 @@ module _ {S V : Type 0} (by : Setting S V) (xs : List (Node S V)) (fit : fits by
       let h : n * W ≤ length xs = omega (arith, room.enough) in
       let p = proper by.round W xs fit s in
       let stand = left-arranged by.round W xs fit s goes in
-      let blank = kept-blanks by goes 0 n xs h (rows-blanks by n xs (subst (Rows W z (D by.round W xs fit s)) same (lawful-rows by room.low xs (D by.round W xs fit s) p))) in
-      let long : n * W ≤ length (kept_from goes W 0 n xs) = omega (arith, (kept-tail n goes W 0 n xs h).0) in
-      let rows = tidied-places W z n M (kept_from goes W 0 n xs) room.low room.high (deep-left by.round W xs fit s goes) (M-less.wide ∙ p.one_first) (good-left by.round W xs fit s goes) refl refl stand.0 stand.1 long blank used in
-      subst (λ (k : ℕ). map unused (take (k * W) Left) ≡ map unused (take (k * W) (records_with by Left (tidied_arcs M)))) tidy-proper.deep
-      (rows-same by (tidied_arcs M) Left (records_with by Left (tidied_arcs M)) rows (lawful-rows by room.low Left (tidied_arcs M) tidy-proper))
+      let blank = kept-blanks W z goes 0 n xs h (subst (λ k. Blanks W z k xs) p.deep (rows-blanks W z (D by.round W xs fit s) xs p.roomy rows)) in
+      tidied-places W z n M (kept_from goes W 0 n xs) room.high (deep-left by.round W xs fit s goes) (good-left by.round W xs fit s goes) refl refl stand.0 stand.1 (omega (arith, (kept-tail n goes W 0 n xs h).0)) blank
 
   -- what is left is a diagram's
   filter-shaped : IsShaped by.round.n by.width (after_filter by goes xs)
