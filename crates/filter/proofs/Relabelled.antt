@@ -1,24 +1,18 @@
 -- Labelling anew leaves the arcs of any list as they are.
-use Rattle.std.proofs.Common.{◌≡◌, ℕ, zero, suc, ◌-◌, ◌*◌, ◌≤◌, Bool, Option, List, [], ◌∷◌, ◌++◌, map, length, get_or, take, drop, refl, sym, ap, ◌∙◌, ap₂, arith, take-append-drop}
+use Rattle.std.proofs.Common.{◌≡◌, ℕ, zero, suc, ◌-◌, ◌*◌, List, [], ◌∷◌, ◌++◌, map, length, get_or, take, drop, refl, sym, ap, ◌∙◌, ap₂, take-append-drop}
 use Rattle.std.specs.List.{range_with_len}
-use Rattle.std.proofs.lemmas.List.{drop-map, take-map, map-append}
+use Rattle.std.proofs.lemmas.List.{take-map, map-append}
 use Rattle.std.proofs.lemmas.List.FromFn.{fill_by_all}
 use Rattle.std.proofs.lemmas.Simd.{map-map}
 use Rattle.layers.specs.declared.node.Arcs.{Arcs}
-use Rattle.layers.specs.declared.node.Down.{Down}
 use Rattle.layers.specs.declared.node.Node.{Node}
-use Rattle.layers.specs.declared.node.Up.{Up}
 use Rattle.layers.specs.Net.{count_layer}
 use Rattle.layers.specs.Settings.{Setting}
 use Rattle.layers.specs.Targets.{targets}
 use Rattle.labels.proofs.Laying.{arcs_of}
 use Rattle.labels.specs.Passes.{blank_node, labelled, next_layer, labelled_after, first_layer, pass_down, risen, risen_from, pass_up, relabelled}
 use Rattle.tidying.specs.Counted.{arcs_within}
-use Rattle.tidying.specs.Tidied.{first_mark}
-use Rattle.tidying.proofs.Steps.{tail-is}
-use Rattle.filter.specs.Kept.{kept_from}
-use Rattle.filter.specs.Steps.{redone}
-use Rattle.filter.proofs.KeptNet.{kept-tail}
+use Rattle.filter.specs.Steps.{arc_count}
 
 module _ {S V : Type 0} where
   abbrev Same : List (Node S V) → List (Node S V) → Type 0
@@ -62,19 +56,9 @@ module _ {S V : Type 0} (by : Setting S V) where
   unfolding relabelled pass_down pass_up
   relabelled-same xs = risen-same by.width (by.round.n - 1) (pass_down by xs) ∙ after-same (by.round.n - 1) _ ∙ same-parts by.width xs _ _ (first-same (take by.width xs)) refl
 
-  -- of the first m records, and of those after them, too
-  pub relabelled-count : (m : ℕ) (xs : List (Node S V)) → arcs_within (take m (relabelled by xs)) ≡ arcs_within (take m xs)
-  relabelled-count m xs = count-same _ _ (sym (take-map arcs_of m (relabelled by xs)) ∙ ap (take m) (relabelled-same xs) ∙ take-map arcs_of m xs)
-
-  pub relabelled-rest : (m : ℕ) (xs : List (Node S V)) → arcs_within (drop m (relabelled by xs)) ≡ arcs_within (drop m xs)
-  relabelled-rest m xs = count-same _ _ (sym (drop-map arcs_of m (relabelled by xs)) ∙ ap (drop m) (relabelled-same xs) ∙ drop-map arcs_of m xs)
-
-  -- after the layers a filter alters nothing but the end's label
-  pub filter-tail : (goes : ℕ → ℕ → ℕ → Option (Down S V) → Option Up → Bool) (xs : List (Node S V)) → by.round.n * by.width ≤ length xs
-      → arcs_within (drop (by.round.n * by.width) (redone by (kept_from goes by.width 0 by.round.n xs))) ≡ arcs_within (drop (by.round.n * by.width) xs)
-  unfolding redone
-  filter-tail goes xs h =
-      let n = by.round.n in
-      let W = by.width in
-      let kept = kept-tail n goes W 0 n xs h in
-      relabelled-rest (n * W) _ ∙ ap arcs_within (tail-is W (blank_node by.rule by.tally) n first_mark (kept_from goes W 0 n xs) (omega (arith, kept.0)) ∙ kept.1)
+  -- as many in the layers, too
+  pub relabelled-count : (xs ys : List (Node S V)) → ys ≡ relabelled by xs → arc_count by.round.n by.width xs ≡ arc_count by.round.n by.width ys
+  unfolding arc_count
+  relabelled-count xs ys e =
+      let m = by.round.n * by.width in
+      sym (ap (λ zs. arcs_within (take m zs)) e ∙ count-same _ _ (sym (take-map arcs_of m (relabelled by xs)) ∙ ap (take m) (relabelled-same xs) ∙ take-map arcs_of m xs))
