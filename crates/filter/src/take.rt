@@ -8,7 +8,7 @@ ghost use Rattle.filter.specs.Kept.{HasLabel, kept_to, kept_node, kept_from};
 
 use crate::test::{Arc, Test};
 use labels::leg::legs;
-use labels::outs::outs_of;
+use labels::outs::list_doors;
 use layers::node::Node;
 use round::table::Round;
 use tidying::count::{count_nodes, count_of};
@@ -81,8 +81,9 @@ fn targets_left<F: Test>(
         with_targets u.now result ≡ kept_node goes at.now.layer at.now.left at.now.next.now u.now }
 {
     let legs = legs(at.round, u.label.down.lasts);
-    let outs = outs_of(&u.arcs.to);
-    let doors = &outs.doors[..outs.many];
+    let mut room = [0; 16];
+    let many = list_doors(&u.arcs.to, &mut room);
+    let doors = &room[..many];
     let mut to = [0; 16];
     for k in doors {
         let k = usize::from(*k);

@@ -7,7 +7,7 @@ ghost use Rattle.layers.specs.Settings.{lent_setting};
 ghost use Rattle.labels.specs.Passes.{cleared, renewed, begun, is_source, crossed_all, next_renewed, end_renewed, renewed_after, landed, crossed, spread};
 
 use crate::leg::legs;
-use crate::outs::outs_of;
+use crate::outs::list_doors;
 use layers::node::{Down, Node};
 use layers::setting::Setting;
 use rules::rule::Rule;
@@ -115,8 +115,9 @@ fn spread_node<R: Rule, T: Tally>(
         vs.new ≡ spread by vs.old u.now }
 {
     let legs = legs(by.round, u.label.down.lasts);
-    let outs = outs_of(&u.arcs.to);
-    let doors = &outs.doors[..outs.many];
+    let mut room = [0; 16];
+    let many = list_doors(&u.arcs.to, &mut room);
+    let doors = &room[..many];
     for k in doors {
         cross(by, u, &legs, vs, usize::from(*k));
     }

@@ -4,7 +4,7 @@ ghost use Rattle.layers.specs.declared.node.Node.{Node as ANode};
 ghost use Rattle.layers.specs.Labels.{climb};
 ghost use Rattle.labels.specs.Passes.{up_by, ups_of, gathered_up, renewed, risen, risen_from, pass_up, taken_up};
 
-use crate::outs::outs_of;
+use crate::outs::list_doors;
 use layers::node::{Node, Up};
 
 const NONE: Up = Up {
@@ -64,8 +64,9 @@ fn climb_all<S: Copy, V: Copy>(vs: &[Node<S, V>], u: &Node<S, V>) -> Up
         return NONE;
     }
     let mut got: Option<Up> = None;
-    let outs = outs_of(&u.arcs.to);
-    let doors = &outs.doors[..outs.many];
+    let mut room = [0; 16];
+    let many = list_doors(&u.arcs.to, &mut room);
+    let doors = &room[..many];
     for k in doors {
         got = climb_by(vs, u, usize::from(*k), got);
     }

@@ -8,10 +8,10 @@ use Rattle.filter.proofs.Doors.{written_none, written_more, written_all}
 use Rattle.filter.proofs.take.targets_left.Goals as goal
 
 pub loop-k-init : goal.loop-k-init
-loop-k-init g c = let o = c.outs_of-outs.result in record { done = written_none _ (take o.many o.doors); long = omega arith }
+loop-k-init g c = let o = c.list_doors-many in record { done = written_none _ (take o.result o.new.doors); long = omega arith }
 
 pub door_left-requires-clause-k_bound : goal.door_left-requires-clause-k_bound
-door_left-requires-clause-k_bound g c = let o = c.outs_of-outs.result in rw c.from-k.ensures (grind (arith, common_steps, o.in_range c.loop-k.k-index))
+door_left-requires-clause-k_bound g c = let o = c.list_doors-many in rw c.from-k.ensures (grind (arith, common_steps, o.ensures.in_range c.loop-k.k-index))
 
 pub door_left-requires-clause-is_leg : goal.door_left-requires-clause-is_leg
 door_left-requires-clause-is_leg g c = c.legs-legs.ensures _ (door_left-requires-clause-k_bound g c)
@@ -21,9 +21,9 @@ loop-k-preserved g c =
     let at = c.args.at.now in
     let u = c.args.u.now in
     let f = by_door (kept_to (g.F.Test.goes at.test.now at.round.now) at.layer at.left at.next.now u) u in
-    let o = c.outs_of-outs.result in
+    let o = c.list_doors-many in
     record {
-      done = rw c.door_left.ensures (written_more f (take o.many o.doors) c.loop-k.to c.loop-k.k-index _ c.from-k.ensures (rw c.from-k.ensures (grind (arith, common_steps, o.in_range c.loop-k.k-index, c.loop-k.invariant.long))) c.loop-k.invariant.done);
+      done = rw c.door_left.ensures (written_more f (take o.result o.new.doors) c.loop-k.to c.loop-k.k-index _ c.from-k.ensures (rw c.from-k.ensures (grind (arith, common_steps, o.ensures.in_range c.loop-k.k-index, c.loop-k.invariant.long))) c.loop-k.invariant.done);
       long = length-set c.loop-k.to _ _ ∙ c.loop-k.invariant.long;
     }
 
@@ -33,5 +33,5 @@ returns g c =
     let at = c.args.at.now in
     let u = c.args.u.now in
     let F = kept_to (g.F.Test.goes at.test.now at.round.now) at.layer at.left at.next.now u in
-    let o = c.outs_of-outs in
-    ap (with_targets u) (written_all (by_door F u) u.arcs.to _ c.loop-k.to c.loop-k.k-index o.ensures (omega arith) c.loop-k.invariant.long (λ k e. ap (at_door F (k + 1)) e) c.loop-k.invariant.done) ∙ redirect-made F u
+    let o = c.list_doors-many in
+    ap (with_targets u) (written_all (by_door F u) u.arcs.to _ c.loop-k.to c.loop-k.k-index o.ensures.listed (omega arith) c.loop-k.invariant.long (λ k e. ap (at_door F (k + 1)) e) c.loop-k.invariant.done) ∙ redirect-made F u

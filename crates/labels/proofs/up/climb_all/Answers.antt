@@ -12,21 +12,21 @@ use Rattle.labels.proofs.Steps.{fold_joined, taken_gathered}
 use Rattle.labels.proofs.up.climb_all.Goals as goal
 
 pub climb_by-got-requires : goal.climb_by-got-requires
-climb_by-got-requires g c = let o = c.outs_of-outs.result in rw c.from.ensures (listed_door o.doors o.many c.loop-k.k-index o.in_range c.loop-k-test.true)
+climb_by-got-requires g c = let o = c.list_doors-many in rw c.from.ensures (listed_door o.new.doors o.result c.loop-k.k-index o.ensures.in_range c.loop-k-test.true)
 
 pub loop-k-preserved : goal.loop-k-preserved
 loop-k-preserved g c =
-    let o = c.outs_of-outs.result in
-    rw (c.climb_by-got.ensures, c.loop-k.invariant, c.from.ensures) (sym (fold_more (λ (got : Option Up) (k : ℕ). fold taken_up got (up_by c.args.vs.now c.args.u.now k)) None (take o.many o.doors) c.loop-k.k-index 0 c.loop-k-test.true))
+    let o = c.list_doors-many in
+    rw (c.climb_by-got.ensures, c.loop-k.invariant, c.from.ensures) (sym (fold_more (λ (got : Option Up) (k : ℕ). fold taken_up got (up_by c.args.vs.now c.args.u.now k)) None (take o.result o.new.doors) c.loop-k.k-index 0 c.loop-k-test.true))
 
 pub returns : goal.returns
 unfolding ups_of up_by
 returns g c =
-    let o = c.outs_of-outs.result in
+    let o = c.list_doors-many in
     let to = c.args.u.now.arcs.to in
     let F = up_by c.args.vs.now c.args.u.now in
     let all : c.loop-k.got ≡ fold taken_up None (flat_map F (range_with_len 0 16)) =
-    c.loop-k.invariant ∙ ap (fold (λ (got : Option Up) (k : ℕ). fold taken_up got (F k)) None) (take_all c.loop-k.k-index (take o.many o.doors) (omega arith) ∙ c.outs_of-outs.ensures)
+    c.loop-k.invariant ∙ ap (fold (λ (got : Option Up) (k : ℕ). fold taken_up got (F k)) None) (take_all c.loop-k.k-index (take o.result o.new.doors) (omega arith) ∙ o.ensures.listed)
     ∙ fold_joined taken_up F None (doors_out to) ∙ ap (fold taken_up None) (sym (brought_out F to (λ k e. rw e refl))) in
     rw (ne_eqb c.args.u.now.label.down.lasts 0 c.if-u-eq0.false)
     (c.unwrap_or.ensures ∙ ap (λ o. unwrap_or o no_up) all ∙ taken_gathered (flat_map F (range_with_len 0 16)))

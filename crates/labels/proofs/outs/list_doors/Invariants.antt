@@ -1,6 +1,6 @@
 use Rattle.std.proofs.Common.{◌≡◌, ℕ, ◌<◌, ◌≤◌, not, eqb, length, get_or, take}
 use Rattle.std.specs.List.{range_with_len, filter}
-use Rattle.labels.proofs.outs.outs_of.Given as goal
+use Rattle.labels.proofs.outs.list_doors.Given as goal
 
 abbrev pub invariant-loop-k : goal.invariant-loop-k
 invariant-loop-k l = record {

@@ -1,7 +1,7 @@
 use Rattle.std.proofs.Common.{ℕ, ◌≤◌, not, eqb, get_or, arith}
 use Rattle.std.proofs.lemmas.Grind.{common_steps}
 use Rattle.labels.proofs.DoorsOut.{byte-most, listed-more}
-use Rattle.labels.proofs.outs.outs_of.Goals as goal
+use Rattle.labels.proofs.outs.list_doors.Goals as goal
 
 pub loop-k-preserved : goal.loop-k-preserved
 loop-k-preserved c =
