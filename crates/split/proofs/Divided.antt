@@ -1,127 +1,74 @@
--- In-arcs that go to a new node, one after another, in the records and in the list
-use Rattle.std.proofs.Common.{◌≡◌, ℕ, zero, suc, ◌+◌, ◌-◌, ◌<◌, ◌≤◌, Bool, true, false, cond, not, ◌&&◌, ◌||◌, eqb, ◌≢◌, List, [], ◌∷◌, ◌++◌, map, length, get_or, take, drop, set, fold, append-nil, length-append, sym, refl, ap, ◌∙◌, subst, ap₂, zero-add, add-one, arith}
-use Rattle.std.specs.List.{All, range_with_len, flat_map}
+-- In-arcs that go to a new node, in the list; and the list written back
+use Rattle.std.proofs.Common.{◌≡◌, ℕ, zero, suc, ◌+◌, ◌-◌, ◌<◌, ◌≤◌, Bool, true, false, cond, not, ◌&&◌, ◌||◌, eqb, ◌≢◌, List, [], ◌∷◌, ◌++◌, map, length, get_or, take, drop, min, set, fold, append-nil, append_assoc, sym, refl, ap, ◌∙◌, subst, ap₂, zero-add, add-one, arith}
+use Rattle.std.specs.List.{All, range_with_len, flat_map, zip}
 use Rattle.std.proofs.Math.Bool.{and-false}
 use Rattle.std.proofs.Math.Dec.{eqb-suc-suc, eqb-suc-zero}
 use Rattle.std.proofs.lemmas.Bool.{eqb-true, eqb-false}
-use Rattle.std.proofs.lemmas.List.{flat_map_more, map-append, set-get_or, get_or-set_same, get_or-map, length-map, drop_all, take_all, get_or_default, set-set, length-take-le, length-drop, get_or-append_right, get_or-drop}
-use Rattle.std.proofs.lemmas.List.Elements.{All-map}
-use Rattle.std.proofs.lemmas.List.Edits.{map_over_more}
+use Rattle.std.proofs.lemmas.Simd.{map-map}
+use Rattle.std.proofs.lemmas.List.{get_or_default, get_or-set_other, get_or-set_same, length-set, map-append, map-id, set-get_or, get_or-map, length-map, drop_all, get_or-append_right, get_or-drop, get_or-take, length-append, length-take, length-take-le, same_lists}
+use Rattle.std.proofs.lemmas.List.Elements.{All-head, All-map, All-tail}
+use Rattle.std.proofs.lemmas.List.Folds.{fold-map}
+use Rattle.std.proofs.lemmas.List.Sums.{AllPass-from_list_all, fold-append}
 use Rattle.std.proofs.lemmas.List.FromFn.{fill_by_all, get_or-map-range_with_len, length-map-range_with_len}
 use Rattle.layers.specs.declared.node.Node.{Node}
 use Rattle.layers.specs.declared.node.Label.{Label}
 use Rattle.layers.specs.Targets.{with_targets, at_door}
-use Rattle.labels.proofs.Folds.{counting_more}
 use Rattle.labels.proofs.Redirects.{by_door, redirect-made}
 use Rattle.labels.proofs.Steps.{folded-counting-more}
 use Rattle.labels.proofs.Writing.{over-more}
 use Rattle.split.specs.declared.listing.InArc.{InArc}
-use Rattle.split.specs.Listed.{listed_arc, listed_node, in_arcs, leaves, redirected_arc}
+use Rattle.split.specs.declared.listing.InArcs.{InArcs}
+use Rattle.split.proofs.InArcs.{early-set, flat_more, here, to-here, told-one}
+use Rattle.split.specs.Listed.{Told, told_arc, told_node, told_from, put_arc, put_pair, written, kept_arc, husk, Lists, IsListed, leaves, all_stay}
 use Rattle.split.specs.Parted.{or_unused, parted_to, parted_node}
-use Rattle.split.proofs.InArcs.{Within, within-at, at, in-arcs-at}
 
--- ---- a list of which the first a elements are altered
-length-mapped : {X : Type 0} (f : X → X) (us : List X) (a : ℕ) → a ≤ length us → length (map f (take a us) ++ drop a us) ≡ length us
-length-mapped f us a h = omega (arith, length-append (map f (take a us)) (drop a us), length-map (take a us) f, length-take-le a us h, length-drop a us)
+-- ---- lists of lists
+flat-range : {A : Type 0} (F G : ℕ → List A) (n : ℕ) → ((k : ℕ) → k < n → F k ≡ G k) → flat_map F (range_with_len 0 n) ≡ flat_map G (range_with_len 0 n)
+flat-range F G zero h = refl
+flat-range F G (suc n) h =
+    subst (λ (k : ℕ). flat_map F (range_with_len 0 k) ≡ flat_map G (range_with_len 0 k)) (add-one n)
+    (flat_more F n ∙ ap₂ (λ xs ys. xs ++ ys) (flat-range F G n (λ k lt. h k (omega arith))) (h n (omega arith)) ∙ sym (flat_more G n))
 
-getD-mapped : {X : Type 0} (f : X → X) (us : List X) (a : ℕ) (d : X) → a < length us → get_or (map f (take a us) ++ drop a us) a d ≡ get_or us a d
-getD-mapped f us a d h =
-    get_or-append_right (map f (take a us)) (drop a us) a a d (length-map (take a us) f ∙ length-take-le a us (omega arith)) (omega arith)
-    ∙ get_or-drop a us (a - a) d ∙ ap (λ k. get_or us k d) (omega arith)
+map-flat : {X A B : Type 0} (r : A → B) (F : X → List A) (xs : List X) → map r (flat_map F xs) ≡ flat_map (λ x. map r (F x)) xs
+map-flat r F [] = refl
+map-flat r F (x ∷ xs) = map-append r (F x) (flat_map F xs) ∙ ap (λ ys. map r (F x) ++ ys) (map-flat r F xs)
+
+zip-maps : {X A B : Type 0} (f : X → A) (g : X → B) (xs : List X) → zip (map f xs) (map g xs) ≡ map (λ x. (f x, g x)) xs
+zip-maps f g [] = refl
+zip-maps f g (x ∷ xs) = ap (λ ys. (f x, g x) ∷ ys) (zip-maps f g xs)
 
 get_d_over : {X : Type 0} (f : ℕ → X) (xs : List X) (a : ℕ) (z : X) → get_or (map f (range_with_len 0 a) ++ drop a xs) a z ≡ get_or xs a z
 get_d_over f xs a z =
     get_or-append_right (map f (range_with_len 0 a)) (drop a xs) a a z (length-map-range_with_len f 0 a) (omega arith)
     ∙ get_or-drop a xs (a - a) z ∙ ap (λ k. get_or xs k z) (omega arith)
 
--- ---- lists of lists
-flat-more : {A : Type 0} (F : ℕ → List A) (n : ℕ) → flat_map F (range_with_len 0 (n + 1)) ≡ flat_map F (range_with_len 0 n) ++ F n
-flat-more F n = ap (flat_map F) (counting_more n) ∙ sym (flat_map_more F [] (range_with_len 0 n) n)
-
-flat-range : {A : Type 0} (F G : ℕ → List A) (n : ℕ) → ((k : ℕ) → k < n → F k ≡ G k) → flat_map F (range_with_len 0 n) ≡ flat_map G (range_with_len 0 n)
-flat-range F G zero h = refl
-flat-range F G (suc n) h =
-    subst (λ (k : ℕ). flat_map F (range_with_len 0 k) ≡ flat_map G (range_with_len 0 k)) (add-one n)
-    (flat-more F n ∙ ap₂ (λ xs ys. xs ++ ys) (flat-range F G n (λ k lt. h k (omega arith))) (h n (omega arith)) ∙ sym (flat-more G n))
-
-map-flat : {X A B : Type 0} (r : A → B) (F : X → List A) (xs : List X) → map r (flat_map F xs) ≡ flat_map (λ x. map r (F x)) xs
-map-flat r F [] = refl
-map-flat r F (x ∷ xs) = map-append r (F x) (flat_map F xs) ∙ ap (λ ys. map r (F x) ++ ys) (map-flat r F xs)
-
--- a record of those that there are
-pub one-of : {X : Type 0} (xs : List X) → 1 ≤ length xs → X
-one-of [] h = absurd (omega arith)
-one-of (x ∷ xs) h = x
-
--- ---- labels stay
-set-label : {S V : Type 0} (z v : Node S V) (vs : List (Node S V)) (q p : ℕ) → v.label ≡ (get_or vs q z).label → (get_or (set vs q v) p z).label ≡ (get_or vs p z).label
-set-label z v [] q p e = refl
-set-label z v (u ∷ vs) zero zero e = e
-set-label z v (u ∷ vs) zero (suc p) e = refl
-set-label z v (u ∷ vs) (suc q) zero e = refl
-set-label z v (u ∷ vs) (suc q) (suc p) e = set-label z v vs q p e
-
-module _ {S V : Type 0} (stays : Label S V → ℕ → Bool) (a m : ℕ) (z : Node S V) (us : List (Node S V)) where
-  abbrev put : List (Node S V) → InArc → ℕ → List (Node S V)
-  put = redirected_arc z
-
-  -- those that leave
-  abbrev pub sent : List (Node S V) → InArc → List (Node S V)
-  sent vs x = cond (leaves stays (suc a) z us x) (put vs x (suc m)) vs
-
-  abbrev pub renumbered : InArc → InArc
-  renumbered x = cond (leaves stays (suc a) z us x) (record { place = x.place; door = x.door; to = suc m }) x
-
-  -- each is one of the records' still
-  pub renumbered-at : (list L : List InArc) (i : ℕ) (d : InArc) → L ≡ map renumbered (take i list) ++ drop i list → i < length list → get_or L i d ≡ get_or list i d
-  renumbered-at list L i d e lt = ap (λ xs. get_or xs i d) e ∙ getD-mapped renumbered list i d lt
-
-  pub renumbered-within : (list L : List InArc) (W : List (Node S V)) (i : ℕ) (d : InArc) → L ≡ map renumbered (take i list) ++ drop i list → i < length list → list ≡ in_arcs us → length W ≡ length us
-      → Within (length W) (get_or L i d)
-  renumbered-within list L W i d e lt is same = subst (Within (length W)) (sym (renumbered-at list L i d e lt)) (rw same (within-at us list i d is lt))
-
-  sent-label : (vs : List (Node S V)) (x : InArc) (p : ℕ) → (get_or (sent vs x) p z).label ≡ (get_or vs p z).label
-  sent-label vs x p = go (leaves stays (suc a) z us x)
-    where
-      go : (q : Bool) → (get_or (cond q (put vs x (suc m)) vs) p z).label ≡ (get_or vs p z).label
-      go true = set-label z (with_targets (get_or vs x.place z) (set (get_or vs x.place z).arcs.to x.door (suc m))) vs x.place p refl
-      go false = refl
-
-  pub sent-labels : (xs : List InArc) (vs : List (Node S V)) (p : ℕ) → (get_or (fold sent vs xs) p z).label ≡ (get_or vs p z).label
-  sent-labels [] vs p = refl
-  sent-labels (x ∷ xs) vs p = sent-labels xs (sent vs x) p ∙ sent-label vs x p
-
-  -- what stands, written again
-  put-same : (vs : List (Node S V)) (x : InArc) (n : ℕ) → n ≡ get_or (get_or vs x.place z).arcs.to x.door 0 → put vs x n ≡ vs
-  put-same vs x n e =
-      let v = get_or vs x.place z in
-      ap (λ (k : ℕ). set vs x.place (with_targets v (set v.arcs.to x.door k))) e
-      ∙ ap (λ ts. set vs x.place (with_targets v ts)) (set-get_or v.arcs.to x.door 0)
-      ∙ set-get_or vs x.place z
-
-  -- ---- a record
+-- ---- parted
+module _ {S V : Type 0} (stays : Label S V → ℕ → Bool) (a m : ℕ) where
   abbrev P : Node S V → Node S V
   P = parted_node (or_unused stays) a m
 
-  -- its new target by the door k + 1
-  abbrev new : Node S V → ℕ → ℕ
-  new u = by_door (parted_to (or_unused stays) a m u) u
+  abbrev pub renumbered : Told S V → Told S V
+  renumbered x = cond (leaves stays (suc a) x) (record { arc = x.arc; to = suc m; label = x.label }) x
 
-  parted-is : (u : Node S V) → P u ≡ with_targets u (map (new u) (range_with_len 0 16))
-  unfolding parted_node
-  parted-is u = sym (redirect-made (parted_to (or_unused stays) a m u) u) ∙ ap (with_targets u) (append-nil (map (new u) (range_with_len 0 16)))
-
-  module _ (p : ℕ) where
-    abbrev u : Node S V
-    u = at z us p
+  module _ (p : ℕ) (u : Node S V) where
+    -- its new target by the door k + 1
+    abbrev new : ℕ → ℕ
+    new = by_door (parted_to (or_unused stays) a m u) u
 
     abbrev old : ℕ → ℕ
     old k = get_or u.arcs.to k 0
 
-    abbrev arc : ℕ → InArc
-    arc k = record { place = p; door = k; to = old k }
+    abbrev unused : Bool
+    unused = eqb u.label.down.lasts 0
 
-    unused-stays : (k : ℕ) → eqb u.label.down.lasts 0 ≡ true → new u k ≡ old k
+    abbrev arc : ℕ → Told S V
+    arc k = record { arc = record { place = p; door = k }; to = old k; label = u.label }
+
+    parted-is : P u ≡ with_targets u (map new (range_with_len 0 16))
+    unfolding parted_node
+    parted-is = sym (redirect-made (parted_to (or_unused stays) a m u) u) ∙ ap (with_targets u) (append-nil (map new (range_with_len 0 16)))
+
+    unused-stays : (k : ℕ) → unused ≡ true → new k ≡ old k
     unfolding parted_to
     unused-stays k e = go (old k)
       where
@@ -131,10 +78,10 @@ module _ {S V : Type 0} (stays : Label S V → ℕ → Bool) (a m : ℕ) (z : No
             ap (λ (q : Bool). cond (eqb b a && not (q || stays u.label (k + 1))) (suc m) (suc b)) e
             ∙ ap (λ (q : Bool). cond q (suc m) (suc b)) (and-false (eqb b a))
 
-    none-stays : (k : ℕ) → old k ≡ 0 → new u k ≡ 0
+    none-stays : (k : ℕ) → old k ≡ 0 → new k ≡ 0
     none-stays k e = ap (at_door (parted_to (or_unused stays) a m u) (k + 1)) e
 
-    some-sent : (k : ℕ) → eqb u.label.down.lasts 0 ≡ false → old k ≢ 0 → new u k ≡ cond (leaves stays (suc a) z us (arc k)) (suc m) (old k)
+    some-sent : (k : ℕ) → unused ≡ false → old k ≢ 0 → new k ≡ cond (leaves stays (suc a) (arc k)) (suc m) (old k)
     unfolding parted_to
     some-sent k used ne = go (old k) ne
       where
@@ -144,115 +91,292 @@ module _ {S V : Type 0} (stays : Label S V → ℕ → Bool) (a m : ℕ) (z : No
             ap (λ (q : Bool). cond (eqb b a && not (q || stays u.label (k + 1))) (suc m) (suc b)) used
             ∙ ap (λ (q : Bool). cond (q && not (stays u.label (k + 1))) (suc m) (suc b)) (sym (eqb-suc-suc b a))
 
-    -- the record with the first n doors done
-    abbrev done : ℕ → Node S V
-    done n = with_targets u (map (new u) (range_with_len 0 n) ++ drop n u.arcs.to)
+    -- in the list
+    door-renumbered : unused ≡ false → (k : ℕ) → k < 16 → told_arc p (P u) k ≡ map renumbered (told_arc p u k)
+    door-renumbered used k lt =
+        ap (λ (v : Node S V). told_arc p v k) parted-is
+        ∙ ap listed (get_or-map-range_with_len new 0 16 k k 0 lt (zero-add k)) ∙ go (eqb (old k) 0) refl
+      where
+        listed : ℕ → List (Told S V)
+        listed t = cond (eqb t 0) [] (record { arc = record { place = p; door = k }; to = t; label = u.label } ∷ [])
 
-    module _ (long : length u.arcs.to ≡ 16) (vs : List (Node S V)) (lt : p < length vs) where
-      -- one door
-      door-put : (n : ℕ) → n < 16 → put (set vs p (done n)) (arc n) (new u n) ≡ set vs p (done (n + 1))
-      door-put n h =
-          ap (λ v. set (set vs p (done n)) p (with_targets v (set v.arcs.to n (new u n)))) (get_or-set_same vs p (done n) z lt)
-          ∙ set-set vs p (done n) _
-          ∙ ap (λ ts. set vs p (with_targets u ts)) (over-more (new u) u.arcs.to n (omega arith))
-
-      door-kept : (n : ℕ) → n < 16 → new u n ≡ old n → set vs p (done n) ≡ set vs p (done (n + 1))
-      door-kept n h e =
-          sym (put-same (set vs p (done n)) (arc n) (new u n)
-          (e ∙ sym (get_d_over (new u) u.arcs.to n 0) ∙ ap (λ v. get_or v.arcs.to n 0) (sym (get_or-set_same vs p (done n) z lt))))
-          ∙ door-put n h
-
-      door-sent : eqb u.label.down.lasts 0 ≡ false → (n : ℕ) → n < 16 → fold sent (set vs p (done n)) (listed_arc p u n) ≡ set vs p (done (n + 1))
-      door-sent used n h = go (eqb (old n) 0) refl
-        where
-          W : List (Node S V)
-          W = set vs p (done n)
-
-          some : old n ≢ 0 → (q : Bool) → leaves stays (suc a) z us (arc n) ≡ q → cond q (put W (arc n) (suc m)) W ≡ set vs p (done (n + 1))
-          some ne true f = ap (put W (arc n)) (sym (some-sent n used ne ∙ ap (λ (q : Bool). cond q (suc m) (old n)) f)) ∙ door-put n h
-          some ne false f = door-kept n h (some-sent n used ne ∙ ap (λ (q : Bool). cond q (suc m) (old n)) f)
-
-          go : (q : Bool) → eqb (old n) 0 ≡ q → fold sent W (cond q [] (arc n ∷ [])) ≡ set vs p (done (n + 1))
-          go true e = let none : old n ≡ 0 = eqb-true (old n) 0 e in door-kept n h (none-stays n none ∙ sym none)
-          go false e = some (eqb-false (old n) 0 e) (leaves stays (suc a) z us (arc n)) refl
-
-      module _ (is : u ≡ get_or vs p z) where
-        doors-sent : eqb u.label.down.lasts 0 ≡ false → (n : ℕ) → n ≤ 16 → fold sent vs (flat_map (listed_arc p u) (range_with_len 0 n)) ≡ set vs p (done n)
-        doors-sent used zero h = sym (ap (set vs p) is ∙ set-get_or vs p z)
-        doors-sent used (suc n) h =
-            subst (λ (k : ℕ). fold sent vs (flat_map (listed_arc p u) (range_with_len 0 k)) ≡ set vs p (done k)) (add-one n)
-            (folded-counting-more sent (listed_arc p u) vs n ∙ ap (λ ws. fold sent ws (listed_arc p u n)) (doors-sent used n (omega arith)) ∙ door-sent used n h)
-
-        -- all doors
-        node-sent : fold sent vs (listed_node p u) ≡ set vs p (P u)
-        unfolding listed_node
-        node-sent = go (eqb u.label.down.lasts 0) refl
+        some : eqb (old k) 0 ≡ false → (q : Bool) → leaves stays (suc a) (arc k) ≡ q → listed (new k) ≡ cond q (record { arc = record { place = p; door = k }; to = suc m; label = u.label }) (arc k) ∷ []
+        some e q f = ap listed (some-sent k used (eqb-false (old k) 0 e) ∙ ap (λ (q : Bool). cond q (suc m) (old k)) f) ∙ each q
           where
-            go : (q : Bool) → eqb u.label.down.lasts 0 ≡ q → fold sent vs (cond q [] (flat_map (listed_arc p u) (range_with_len 0 16))) ≡ set vs p (P u)
-            go true e =
-                let same : P u ≡ u = parted-is u ∙ ap (with_targets u) (sym (fill_by_all (new u) u.arcs.to 16 0 long (λ k lt. sym (unused-stays k e)))) in
-                sym (ap (set vs p) (same ∙ is) ∙ set-get_or vs p z)
-            go false e =
-                doors-sent e 16 (omega arith)
-                ∙ ap (λ ts. set vs p (with_targets u (map (new u) (range_with_len 0 16) ++ ts))) (drop_all 16 u.arcs.to (omega arith))
-                ∙ ap (λ ts. set vs p (with_targets u ts)) (append-nil (map (new u) (range_with_len 0 16)))
-                ∙ ap (set vs p) (sym (parted-is u))
+            each : (q : Bool) → listed (cond q (suc m) (old k)) ≡ cond q (record { arc = record { place = p; door = k }; to = suc m; label = u.label }) (arc k) ∷ []
+            each true = ap (λ (q : Bool). cond q [] (record { arc = record { place = p; door = k }; to = suc m; label = u.label } ∷ [])) (eqb-suc-zero m)
+            each false = ap (λ (q : Bool). cond q [] (arc k ∷ [])) e
 
-    -- and in the list
-    door-renumbered : eqb u.label.down.lasts 0 ≡ false → (k : ℕ) → k < 16 → listed_arc p (P u) k ≡ map renumbered (listed_arc p u k)
-    door-renumbered used k lt = ap listed (ap (λ v. get_or v.arcs.to k 0) (parted-is u) ∙ get_or-map-range_with_len (new u) 0 16 k k 0 lt (zero-add k)) ∙ go (eqb (old k) 0) refl
-      where
-        listed : ℕ → List InArc
-        listed t = cond (eqb t 0) [] (record { place = p; door = k; to = t } ∷ [])
-
-        some : eqb (old k) 0 ≡ false → (q : Bool) → leaves stays (suc a) z us (arc k) ≡ q → listed (new u k) ≡ cond q (record { place = p; door = k; to = suc m }) (arc k) ∷ []
-        some e true f = ap listed (some-sent k used (eqb-false (old k) 0 e) ∙ ap (λ (q : Bool). cond q (suc m) (old k)) f) ∙ ap (λ (q : Bool). cond q [] (record { place = p; door = k; to = suc m } ∷ [])) (eqb-suc-zero m)
-        some e false f = ap listed (some-sent k used (eqb-false (old k) 0 e) ∙ ap (λ (q : Bool). cond q (suc m) (old k)) f) ∙ ap (λ (q : Bool). cond q [] (arc k ∷ [])) e
-
-        go : (q : Bool) → eqb (old k) 0 ≡ q → listed (new u k) ≡ map renumbered (cond q [] (arc k ∷ []))
+        go : (q : Bool) → eqb (old k) 0 ≡ q → listed (new k) ≡ map renumbered (cond q [] (arc k ∷ []))
         go true e = ap listed (none-stays k (eqb-true (old k) 0 e))
-        go false e = some e (leaves stays (suc a) z us (arc k)) refl
+        go false e = some e (leaves stays (suc a) (arc k)) refl
 
-    node-renumbered : listed_node p (P u) ≡ map renumbered (listed_node p u)
-    unfolding listed_node
-    node-renumbered = ap (λ (v : Node S V). cond (eqb v.label.down.lasts 0) [] (flat_map (listed_arc p (P u)) (range_with_len 0 16))) (parted-is u) ∙ go (eqb u.label.down.lasts 0) refl
+    node-renumbered : told_node p (P u) ≡ map renumbered (told_node p u)
+    unfolding told_node
+    node-renumbered = ap (λ (v : Node S V). cond (eqb v.label.down.lasts 0) [] (flat_map (told_arc p (P u)) (range_with_len 0 16))) parted-is ∙ go unused refl
       where
-        go : (q : Bool) → eqb u.label.down.lasts 0 ≡ q
-            → cond q [] (flat_map (listed_arc p (P u)) (range_with_len 0 16)) ≡ map renumbered (cond q [] (flat_map (listed_arc p u) (range_with_len 0 16)))
+        go : (q : Bool) → unused ≡ q → cond q [] (flat_map (told_arc p (P u)) (range_with_len 0 16)) ≡ map renumbered (cond q [] (flat_map (told_arc p u) (range_with_len 0 16)))
         go true e = refl
-        go false e = flat-range (listed_arc p (P u)) (λ k. map renumbered (listed_arc p u k)) 16 (door-renumbered e) ∙ sym (map-flat renumbered (listed_arc p u) (range_with_len 0 16))
+        go false e = flat-range (told_arc p (P u)) (λ k. map renumbered (told_arc p u k)) 16 (door-renumbered e) ∙ sym (map-flat renumbered (told_arc p u) (range_with_len 0 16))
 
-  -- ---- all records
-  abbrev node : ℕ → List InArc
-  node p = listed_node p (at z us p)
+    -- and what is left of the record
+    door-kept : (k : ℕ) → kept_arc unused (old k) ≡ kept_arc unused (new k)
+    door-kept k = go unused (eqb (old k) 0) refl refl
+      where
+        some : (q : Bool) → eqb (old k) 0 ≡ false → kept_arc false (old k) ≡ kept_arc false (cond q (suc m) (old k))
+        some true e = ap (λ (r : Bool). cond r (old k) 1) e ∙ sym (ap (λ (r : Bool). cond r (suc m) 1) (eqb-suc-zero m))
+        some false e = refl
 
-  module _ (wide : All (λ v. length v.arcs.to ≡ 16) us) where
-    places-sent : (n : ℕ) → n ≤ length us → fold sent us (flat_map node (range_with_len 0 n)) ≡ map P (take n us) ++ drop n us
-    places-sent zero h = refl
-    places-sent (suc n) h =
-        let W = map P (take n us) ++ drop n us in
-        let there : u n ≡ get_or W n z = sym (getD-mapped P us n z (omega arith)) in
-        subst (λ (k : ℕ). fold sent us (flat_map node (range_with_len 0 k)) ≡ map P (take k us) ++ drop k us) (add-one n)
-        (folded-counting-more sent node us n
-        ∙ ap (λ ws. fold sent ws (node n)) (places-sent n (omega arith))
-        ∙ node-sent n (wide n z (omega arith)) W (omega (arith, length-mapped P us n (omega arith))) there
-        ∙ map_over_more P us W n (u n) (omega arith) refl (there ∙ get_or_default W n z (u n) (omega (arith, length-mapped P us n (omega arith)))))
+        go : (q r : Bool) → unused ≡ q → eqb (old k) 0 ≡ r → kept_arc q (old k) ≡ kept_arc q (new k)
+        go true r e f = sym (unused-stays k e)
+        go false true e f = ap (kept_arc false) (eqb-true (old k) 0 f ∙ sym (none-stays k (eqb-true (old k) 0 f)))
+        go false false e f = some (leaves stays (suc a) (arc k)) f ∙ ap (kept_arc false) (sym (some-sent k e (eqb-false (old k) 0 f)))
 
-    pub all-sent : fold sent us (in_arcs us) ≡ map P us
-    all-sent =
-        ap (fold sent us) (in-arcs-at z us)
-        ∙ places-sent (length us) (omega arith)
-        ∙ ap₂ (λ xs ys. map P xs ++ ys) (take_all (length us) us (omega arith)) (drop_all (length us) us (omega arith))
-        ∙ append-nil (map P us)
+    husk-parted : length u.arcs.to ≡ 16 → husk (P u) ≡ husk u
+    husk-parted long =
+        ap husk parted-is
+        ∙ ap (λ ts. (u.label, ts))
+        (map-map (kept_arc unused) new (range_with_len 0 16)
+        ∙ sym (fill_by_all (λ k. kept_arc unused (new k)) (map (kept_arc unused) u.arcs.to) 16 0 (length-map u.arcs.to (kept_arc unused) ∙ long)
+        (λ k lt. get_or-map (kept_arc unused) u.arcs.to k 0 0 (omega (arith, long)) ∙ door-kept k)))
 
-    pub all-renumbered : in_arcs (map P us) ≡ map renumbered (in_arcs us)
-    all-renumbered =
-        let ks = range_with_len 0 (length us) in
-        in-arcs-at z (map P us)
-        ∙ ap (λ (n : ℕ). flat_map (λ p. listed_node p (at z (map P us) p)) (range_with_len 0 n)) (length-map us P)
-        ∙ flat-range (λ p. listed_node p (at z (map P us) p)) (λ p. map renumbered (node p)) (length us) (λ p lt. ap (listed_node p) (get_or-map P us p z z lt) ∙ node-renumbered p)
-        ∙ sym (map-flat renumbered node ks)
-        ∙ ap (map renumbered) (sym (in-arcs-at z us))
+  renumbered-arc : (x : Told S V) → (renumbered x).arc ≡ x.arc
+  renumbered-arc x = go (leaves stays (suc a) x)
+    where
+      go : (q : Bool) → (cond q (record { arc = x.arc; to = suc m; label = x.label }) x).arc ≡ x.arc
+      go true = refl
+      go false = refl
 
-  pub wide-parted : All (λ v. length v.arcs.to ≡ 16) (map P us)
-  wide-parted = All-map (λ v. length v.arcs.to ≡ 16) P us (λ k d lt. ap (λ (v : Node S V). length v.arcs.to) (parted-is (get_or us k d)))
+  arcs-stay : (xs : List (Told S V)) → map (λ x. x.arc) (map renumbered xs) ≡ map (λ x. x.arc) xs
+  arcs-stay [] = refl
+  arcs-stay (x ∷ xs) = ap₂ (λ y ys. y ∷ ys) (renumbered-arc x) (arcs-stay xs)
+
+  -- the first of a list stay
+  pub stays-there : (xs : List (Told S V)) (n i : ℕ) (d : Told S V) → all_stay stays (suc a) (take n xs) ≡ true → i < n → i < length xs → leaves stays (suc a) (get_or xs i d) ≡ false
+  stays-there xs n i d all lt within =
+      let p = λ (x : Told S V). not (leaves stays (suc a) x) in
+      let e : get_or (take n xs) i d ≡ get_or xs i d = get_or-take n xs i d lt in
+      let pass : p (get_or (take n xs) i d) ≡ true = AllPass-from_list_all p (take n xs) all i d (omega (arith, length-take n xs)) in
+      grind (arith, pass, e)
+
+  pub renumbered-there : (x : Told S V) (q : Bool) → leaves stays (suc a) x ≡ q → (renumbered x).to ≡ cond q (suc m) x.to
+  renumbered-there x true e = ap (λ (q : Bool). (cond q (record { arc = x.arc; to = suc m; label = x.label }) x).to) e
+  renumbered-there x false e = ap (λ (q : Bool). (cond q (record { arc = x.arc; to = suc m; label = x.label }) x).to) e
+
+  pub told-parted : (p : ℕ) (us : List (Node S V)) → told_from p (map P us) ≡ map renumbered (told_from p us)
+  unfolding told_from
+  told-parted p [] = refl
+  told-parted p (u ∷ us) = ap₂ (λ xs ys. xs ++ ys) (node-renumbered p u) (told-parted (p + 1) us) ∙ sym (map-append renumbered (told_node p u) (told_from (p + 1) us))
+
+  pub husks-parted : (us : List (Node S V)) → All (λ v. length v.arcs.to ≡ 16) us → map husk (map P us) ≡ map husk us
+  husks-parted [] wide = refl
+  husks-parted (u ∷ us) wide = ap₂ (λ x xs. x ∷ xs) (husk-parted 0 u (All-head (λ v. length v.arcs.to ≡ 16) u us wide)) (husks-parted us (All-tail (λ v. length v.arcs.to ≡ 16) u us wide))
+
+  pub wide-parted : (us : List (Node S V)) → All (λ v. length v.arcs.to ≡ 16) (map P us)
+  wide-parted us = All-map (λ v. length v.arcs.to ≡ 16) P us (λ k d lt. ap (λ (v : Node S V). length v.arcs.to) (parted-is 0 (get_or us k d)))
+
+-- ---- written back
+module _ {S V : Type 0} where
+  put-at : (pre us : List (Node S V)) (u : Node S V) (k t : ℕ) → put_arc (length pre) k t (pre ++ u ∷ us) ≡ pre ++ with_targets u (set u.arcs.to k t) ∷ us
+  put-at [] us u k t = refl
+  put-at (x ∷ pre) us u k t = ap (λ ys. x ∷ ys) (put-at pre us u k t)
+
+  abbrev put_told : List (Node S V) → Told S V → List (Node S V)
+  put_told vs x = put_arc x.arc.place x.arc.door x.to vs
+
+  module _ (pre us : List (Node S V)) (u v : Node S V) (long : length u.arcs.to ≡ 16) (wide : length v.arcs.to ≡ 16) (same : husk v ≡ husk u) where
+    abbrev goes : ℕ → ℕ
+    goes k = get_or v.arcs.to k 0
+
+    abbrev free : Bool
+    free = eqb v.label.down.lasts 0
+
+    -- the record with the first n doors done
+    abbrev done : ℕ → List ℕ
+    done n = map goes (range_with_len 0 n) ++ drop n u.arcs.to
+
+    labels : v.label ≡ u.label
+    labels = ap (λ (h : Label S V × List ℕ). h.0) same
+
+    arcs-kept : (k : ℕ) → k < 16 → kept_arc free (goes k) ≡ kept_arc free (get_or u.arcs.to k 0)
+    arcs-kept k lt =
+        sym (get_or-map (kept_arc free) v.arcs.to k 0 0 (omega (arith, wide)))
+        ∙ ap (λ (h : Label S V × List ℕ). get_or h.1 k 0) same
+        ∙ get_or-map (kept_arc (eqb u.label.down.lasts 0)) u.arcs.to k 0 0 (omega (arith, long))
+        ∙ ap (λ (l : Label S V). kept_arc (eqb l.down.lasts 0) (get_or u.arcs.to k 0)) (sym labels)
+
+    none-kept : (t : ℕ) → 0 ≡ kept_arc false t → t ≡ 0
+    none-kept t f = go (eqb t 0) refl f
+      where
+        go : (q : Bool) → eqb t 0 ≡ q → 0 ≡ cond q t 1 → t ≡ 0
+        go true e f = sym f
+        go false e f = absurd (omega (arith, f))
+
+    -- one door
+    door-put : (n : ℕ) → n < 16 → set (done n) n (goes n) ≡ done (n + 1)
+    door-put n lt = over-more goes u.arcs.to n (omega (arith, long))
+
+    door-written : free ≡ false → (n : ℕ) → n < 16 → fold put_told (pre ++ with_targets u (done n) ∷ us) (told_arc (length pre) v n) ≡ pre ++ with_targets u (done (n + 1)) ∷ us
+    door-written used n lt = go (eqb (goes n) 0) refl
+      where
+        go : (q : Bool) → eqb (goes n) 0 ≡ q → fold put_told (pre ++ with_targets u (done n) ∷ us) (cond q [] (record { arc = record { place = length pre; door = n }; to = goes n; label = v.label } ∷ [])) ≡ pre ++ with_targets u (done (n + 1)) ∷ us
+        go true e =
+            let none : goes n ≡ 0 = eqb-true (goes n) 0 e in
+            let bare : 0 ≡ kept_arc false (get_or u.arcs.to n 0) = ap (kept_arc false) (sym none) ∙ ap (λ (q : Bool). kept_arc q (goes n)) (sym used) ∙ arcs-kept n lt ∙ ap (λ (q : Bool). kept_arc q (get_or u.arcs.to n 0)) used in
+            let is : get_or u.arcs.to n 0 ≡ goes n = none-kept (get_or u.arcs.to n 0) bare ∙ sym none in
+            ap (λ ts. pre ++ with_targets u ts ∷ us) (sym (set-get_or (done n) n 0) ∙ ap (set (done n) n) (get_d_over goes u.arcs.to n 0 ∙ is) ∙ door-put n lt)
+        go false e = put-at pre us (with_targets u (done n)) n (goes n) ∙ ap (λ ts. pre ++ with_targets u ts ∷ us) (door-put n lt)
+
+    doors-written : free ≡ false → (n : ℕ) → n ≤ 16 → fold put_told (pre ++ u ∷ us) (flat_map (told_arc (length pre) v) (range_with_len 0 n)) ≡ pre ++ with_targets u (done n) ∷ us
+    doors-written used zero h = refl
+    doors-written used (suc n) h =
+        subst (λ (k : ℕ). fold put_told (pre ++ u ∷ us) (flat_map (told_arc (length pre) v) (range_with_len 0 k)) ≡ pre ++ with_targets u (done k) ∷ us) (add-one n)
+        (folded-counting-more put_told (told_arc (length pre) v) (pre ++ u ∷ us) n ∙ ap (λ ws. fold put_told ws (told_arc (length pre) v n)) (doors-written used n (omega arith)) ∙ door-written used n (omega arith))
+
+    node-written : fold put_told (pre ++ u ∷ us) (told_node (length pre) v) ≡ pre ++ v ∷ us
+    unfolding told_node
+    node-written = go free refl
+      where
+        go : (q : Bool) → free ≡ q → fold put_told (pre ++ u ∷ us) (cond q [] (flat_map (told_arc (length pre) v) (range_with_len 0 16))) ≡ pre ++ v ∷ us
+        go true e =
+            let bare : (ts : List ℕ) → map (kept_arc true) ts ≡ ts = λ ts. map-id ts in
+            let ts : u.arcs.to ≡ v.arcs.to =
+            sym (bare u.arcs.to) ∙ ap (λ (q : Bool). map (kept_arc q) u.arcs.to) (sym (ap (λ (l : Label S V). eqb l.down.lasts 0) (sym labels) ∙ e))
+            ∙ ap (λ (h : Label S V × List ℕ). h.1) (sym same) ∙ ap (λ (q : Bool). map (kept_arc q) v.arcs.to) e ∙ bare v.arcs.to in
+            ap₂ (λ (l : Label S V) ts. pre ++ record { arcs = record { to = ts }; label = l } ∷ us) (sym labels) ts
+        go false e =
+            let all : done 16 ≡ v.arcs.to =
+            ap (λ ts. map goes (range_with_len 0 16) ++ ts) (drop_all 16 u.arcs.to (omega (arith, long))) ∙ append-nil (map goes (range_with_len 0 16)) ∙ sym (fill_by_all goes v.arcs.to 16 0 wide (λ k lt. refl)) in
+            doors-written e 16 (omega arith) ∙ ap₂ (λ (l : Label S V) ts. pre ++ record { arcs = record { to = ts }; label = l } ∷ us) (sym labels) all
+
+  all-written : (pre us vs : List (Node S V)) → map husk vs ≡ map husk us → All (λ v. length v.arcs.to ≡ 16) us → All (λ v. length v.arcs.to ≡ 16) vs → fold put_told (pre ++ us) (told_from (length pre) vs) ≡ pre ++ vs
+  unfolding told_from
+  all-written pre [] [] same long wide = refl
+  all-written pre [] (v ∷ vs) same long wide = absurd (omega (arith, ap length same))
+  all-written pre (u ∷ us) [] same long wide = absurd (omega (arith, ap length same))
+  all-written pre (u ∷ us) (v ∷ vs) same long wide =
+      let W = λ (x : Node S V). length x.arcs.to ≡ 16 in
+      let next : length pre + 1 ≡ length (pre ++ v ∷ []) = omega (arith, length-append pre (v ∷ [])) in
+      fold-append put_told (pre ++ u ∷ us) (told_node (length pre) v) (told_from (length pre + 1) vs)
+      ∙ ap (λ ws. fold put_told ws (told_from (length pre + 1) vs))
+      (node-written pre us u v (All-head W u us long) (All-head W v vs wide) (ap (λ hs. get_or hs 0 (husk u)) same) ∙ sym (append_assoc pre (v ∷ []) us))
+      ∙ ap (λ (k : ℕ). fold put_told ((pre ++ v ∷ []) ++ us) (told_from k vs)) next
+      ∙ all-written (pre ++ v ∷ []) us vs (ap (drop 1) same) (All-tail W u us long) (All-tail W v vs wide)
+      ∙ append_assoc pre (v ∷ []) vs
+
+  long-kept : (us vs : List (Node S V)) → map husk vs ≡ map husk us → All (λ v. length v.arcs.to ≡ 16) vs → All (λ v. length v.arcs.to ≡ 16) us
+  long-kept us vs same wide k d lt =
+      let many : length vs ≡ length us = sym (length-map vs husk) ∙ ap length same ∙ length-map us husk in
+      let long : (u : Node S V) → length (husk u).1 ≡ length u.arcs.to = λ u. length-map u.arcs.to (kept_arc (eqb u.label.down.lasts 0)) in
+      sym (long (get_or us k d)) ∙ ap (λ (h : Label S V × List ℕ). length h.1) (sym (get_or-map husk us k d (husk d) lt) ∙ ap (λ hs. get_or hs k (husk d)) (sym same) ∙ get_or-map husk vs k d (husk d) (omega (arith, many)))
+      ∙ long (get_or vs k d) ∙ wide k d (omega (arith, many))
+
+  pub written-back : (us vs : List (Node S V)) (list : InArcs) → Lists us vs list → written us list ≡ vs
+  unfolding written
+  written-back us vs list l =
+      ap (fold put_pair us) (ap₂ (λ (xs : List InArc) (ys : List ℕ). zip xs ys) l.told.arcs l.told.to ∙ zip-maps (λ (x : Told S V). x.arc) (λ (x : Told S V). x.to) (told_from 0 vs))
+      ∙ fold-map put_pair (λ (x : Told S V). (x.arc, x.to)) us (told_from 0 vs)
+      ∙ all-written [] us vs l.husks (long-kept us vs l.husks l.wide) l.wide
+
+  pub listed-back : (us vs : List (Node S V)) (list : InArcs) → Lists us vs list → IsListed us list
+  listed-back us vs list l = subst (λ ws. Lists us ws list) (sym (written-back us vs list l)) l
+
+  pub put-set : (us : List (Node S V)) (p k t : ℕ) (z : Node S V) → set us p (with_targets (get_or us p z) (set (get_or us p z).arcs.to k t)) ≡ put_arc p k t us
+  put-set [] p k t z = refl
+  put-set (u ∷ us) zero k t z = refl
+  put-set (u ∷ us) (suc p) k t z = ap (λ ys. u ∷ ys) (put-set us p k t z)
+
+  -- the targets S, once the first m in-arcs are looked at
+  module _ (stays : Label S V → ℕ → Bool) (a n : ℕ) (us : List (Node S V)) (list : InArcs) where
+    abbrev pub IsSent : ℕ → List ℕ → Type 0
+    IsSent m S' =
+        (length S' ≡ 2048) × ((i : ℕ) (d : Told S V) → i < m → i < list.many → get_or S' i 0 ≡ (renumbered stays a n (get_or (told_from 0 (written us list)) i d)).to)
+        × ((i : ℕ) → m ≤ i → get_or S' i 0 ≡ get_or list.to i 0)
+
+    module _ (l : IsListed us list) where
+      same-there : (i : ℕ) (d : Told S V) (lt : i < list.many) → get_or (told_from 0 (written us list)) i d ≡ here us (written us list) list l i lt
+      same-there i d lt = get_or_default (told_from 0 (written us list)) i d (told-one us (written us list) list l i lt) (omega (arith, l.told.many))
+
+      pub sent-first : (from : ℕ) → length list.to ≡ 2048 → all_stay stays (suc a) (take from (told_from 0 (written us list))) ≡ true → IsSent from list.to
+      sent-first from long first = (
+        long,
+        λ i d h lt. to-here us (written us list) list l i lt ∙ ap (λ (x : Told S V). x.to) (sym (same-there i d lt)) ∙ sym (renumbered-there stays a n _ false (stays-there stays a n (told_from 0 (written us list)) from i d first h (omega (arith, l.told.many)))),
+        λ i h. refl,
+      )
+
+      pub sent-next : (m : ℕ) (S' T : List ℕ) (lt : m < list.many) (q : Bool) → leaves stays (suc a) (here us (written us list) list l m lt) ≡ q → T ≡ cond q (set S' m (suc n)) S' → IsSent m S' → IsSent (m + 1) T
+      sent-next m S' T lt q e is g =
+          let few = l.few in
+          let x = here us (written us list) list l m lt in (
+            long q is,
+            λ i d h il. at i d il h (eqb i m) refl,
+            λ i h. other i (omega (arith, h)) q is ∙ g.2 i (omega (arith, h)),
+          )
+        where
+          long : (q : Bool) → T ≡ cond q (set S' m (suc n)) S' → length T ≡ 2048
+          long true is = ap (λ (xs : List ℕ). length xs) is ∙ length-set S' m (suc n) ∙ g.0
+          long false is = ap (λ (xs : List ℕ). length xs) is ∙ g.0
+
+          other : (i : ℕ) → i ≢ m → (q : Bool) → T ≡ cond q (set S' m (suc n)) S' → get_or T i 0 ≡ get_or S' i 0
+          other i ne true is = ap (λ xs. get_or xs i 0) is ∙ get_or-set_other S' m i (suc n) 0 ne
+          other i ne false is = ap (λ xs. get_or xs i 0) is
+
+          this : (q : Bool) → leaves stays (suc a) (here us (written us list) list l m lt) ≡ q → T ≡ cond q (set S' m (suc n)) S' → get_or T m 0 ≡ (renumbered stays a n (here us (written us list) list l m lt)).to
+          this true e is = ap (λ xs. get_or xs m 0) is ∙ get_or-set_same S' m (suc n) 0 (omega (arith, g.0, l.few)) ∙ sym (renumbered-there stays a n _ true e)
+          this false e is = ap (λ xs. get_or xs m 0) is ∙ g.2 m (omega arith) ∙ to-here us (written us list) list l m lt ∙ sym (renumbered-there stays a n _ false e)
+
+          at : (i : ℕ) (d : Told S V) → i < list.many → i < m + 1 → (r : Bool) → eqb i m ≡ r → get_or T i 0 ≡ (renumbered stays a n (get_or (told_from 0 (written us list)) i d)).to
+          at i d il h true f =
+              let im = eqb-true i m f in
+              ap (λ (k : ℕ). get_or T k 0) im ∙ this q e is ∙ ap (λ (y : Told S V). (renumbered stays a n y).to) (sym (same-there m d lt)) ∙ ap (λ (k : ℕ). (renumbered stays a n (get_or (told_from 0 (written us list)) k d)).to) (sym im)
+          at i d il h false f = let ne = eqb-false i m f in other i ne q is ∙ g.1 i d (omega (arith, ne)) il
+
+  -- the in-arcs that leave, sent to the node at place m
+  module _ (stays : Label S V → ℕ → Bool) (a m from : ℕ) (us : List (Node S V)) (list : InArcs) (ts : List ℕ) (l : IsListed us list) where
+    abbrev vs : List (Node S V)
+    vs = written us list
+
+    abbrev told : List (Told S V)
+    told = told_from 0 vs
+
+    abbrev ren : Told S V → Told S V
+    ren = renumbered stays a m
+
+    abbrev next : List (Node S V)
+    next = map (parted_node (or_unused stays) a m) vs
+
+    pub divided : suc m < length list.starts → length ts ≡ length list.to → list.many ≤ length list.to → all_stay stays (suc a) (take from told) ≡ true
+        → ((i : ℕ) (d : Told S V) → i < list.many → get_or ts i 0 ≡ (ren (get_or told i d)).to)
+        → Lists us next (record list { to = ts; starts = set list.starts (suc m) (min (get_or list.starts (suc m) 0) from) })
+    divided big long room first is =
+        let many : list.many ≡ length (map ren told) = l.told.many ∙ sym (length-map told ren) in
+        record {
+          told = record {
+            many = many ∙ ap (λ (xs : List (Told S V)). length xs) (sym (told-parted stays a m 0 vs));
+            arcs = l.told.arcs ∙ sym (arcs-stay stays a m told) ∙ ap (map (λ x. x.arc)) (sym (told-parted stays a m 0 vs));
+            to = same_lists (take list.many ts) (map (λ x. x.to) (map ren told))
+                (length-take-le list.many ts (omega (arith, long)) ∙ many ∙ sym (length-map (map ren told) (λ (x : Told S V). x.to)))
+                (λ k d lt.
+                let kl : k < list.many = omega (arith, length-take list.many ts) in
+                let x = told-one us vs list l k kl in
+                get_or-take list.many ts k d kl ∙ get_or_default ts k d 0 (omega (arith, long)) ∙ is k x kl
+                ∙ ap (λ (y : Told S V). y.to) (sym (get_or-map ren told k x (ren x) (omega (arith, l.told.many))))
+                ∙ sym (get_or-map (λ (y : Told S V). y.to) (map ren told) k (ren x) d (omega (arith, many))))
+                ∙ ap (map (λ x. x.to)) (sym (told-parted stays a m 0 vs));
+          };
+          few = l.few;
+          husks = husks-parted stays a m vs l.wide ∙ l.husks;
+          wide = wide-parted stays a m vs;
+          early = early-set list.starts ts list.many (suc m) from big (λ i lt imp. still i lt imp (leaves stays (suc a) (get_or told i (told-one us vs list l i lt))) refl);
+        }
+      where
+        still : (i : ℕ) (lt : i < list.many) → (get_or ts i 0 ≡ suc m → i < from) → (q : Bool) → leaves stays (suc a) (get_or told i (told-one us vs list l i lt)) ≡ q → get_or list.starts (get_or ts i 0) 0 ≤ i
+        still i lt imp true e =
+            let x = told-one us vs list l i lt in
+            let sent : get_or ts i 0 ≡ suc m = is i x lt ∙ renumbered-there stays a m (get_or told i x) true e in
+            let out : false ≡ true = sym (stays-there stays a m told from i x first (imp sent) (omega (arith, l.told.many))) ∙ e in
+            absurd (grind (arith, out))
+        still i lt imp false e =
+            let x = told-one us vs list l i lt in
+            let kept : get_or ts i 0 ≡ get_or list.to i 0 = is i x lt ∙ renumbered-there stays a m (get_or told i x) false e ∙ sym (to-here us vs list l i lt) in
+            rw kept (l.early i lt)

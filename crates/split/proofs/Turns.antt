@@ -8,6 +8,9 @@ use Rattle.layers.specs.declared.refusal.Refusal.{Refusal}
 use Rattle.layers.specs.declared.refusal.Refusal.TheVariants.{OneGroup, LayerFull}
 use Rattle.layers.specs.Calls.{Outcome}
 use Rattle.layers.specs.Records.{nodes_in}
+use Rattle.split.specs.declared.listing.InArcs.{InArcs}
+use Rattle.split.specs.Listed.{IsListed, written, told_records}
+use Rattle.split.proofs.InArcs.{long-same}
 use Rattle.split.specs.Steps.{node_count, group_check, alike, parted_one, next_records, parts_from}
 use Rattle.layers.specs.Settings.{Setting}
 
@@ -62,6 +65,17 @@ module _ {S V : Type 0} (by : Setting S V) (at a m : ℕ) (xs : List (Node S V))
   pub parts_same : (k : ℕ) (ys : List (Node S V)) (e : Refusal) → a < m → e ≢ LayerFull → Next (Err e) ys → parts_from by at k (suc a) m ys ≡ parts_from by at (suc k) a m xs
   unfolding parts_from
   parts_same k ys e h ne n = grind (arith, nat_tests, n.0, n.1)
+
+-- ---- of a list of in-arcs that are not written back
+module _ {S V : Type 0} (w : ℕ) (xs us : List (Node S V)) (list : InArcs) (front : us ≡ take w xs) (le : w ≤ length xs) (l : IsListed us list) where
+  long-written : length (written (take w xs) list) ≡ w
+  long-written = ap (λ ys. length (written ys list)) (sym front) ∙ long-same us (written us list) list l ∙ ap (λ ys. length ys) front ∙ length-take-le w xs le
+
+  pub told-head : take w (told_records w list xs) ≡ written us list
+  told-head = take_at (written (take w xs) list) (drop w xs) w long-written ∙ ap (λ ys. written ys list) (sym front)
+
+  pub told-tail : drop w (told_records w list xs) ≡ drop w xs
+  told-tail = drop_at (written (take w xs) list) (drop w xs) w long-written
 
 -- ---- the same from where the layer before begins
 module _ {S V : Type 0} (by : Setting S V) (at : ℕ) where

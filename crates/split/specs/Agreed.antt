@@ -11,10 +11,10 @@ use Rattle.split.specs.declared.source.Source.{Source}
 -- what comes by door j from a node with the label l agrees with what comes from s
 unfoldable pub kept_by : {S V : Type 0} → Round → RuleSense S → Source S V → Down S V → ℕ → Bool
 kept_by r rule s l j =
-    bit_of s.door == bit_of j
-    && (bit_or s.label.all (bit_of s.door) == bit_or l.all (bit_of j)
-    && (bit_or s.label.some (bit_of s.door) == bit_or l.some (bit_of j)
-    && (rule.same (rule.step s.label.state s.door) (rule.step l.state j)
+    s.door == j
+    && (bit_or s.label.all (bit_of j) == bit_or l.all (bit_of j)
+    && (bit_or s.label.some (bit_of j) == bit_or l.some (bit_of j)
+    && (rule.same (rule.step s.label.state j) (rule.step l.state j)
     && arrival_finish r s.label s.door == arrival_finish r l j)))
 
 module _ {S V : Type 0} (by : Setting S V) where

@@ -8,7 +8,7 @@ ghost use Rattle.split.specs.Words.{AgreedDone};
 
 use crate::agreement::alike;
 use crate::counting::count_in;
-use crate::listing::{list_layer, room};
+use crate::listing::list_layer;
 use labels::room::has_room;
 use layers::node::Node;
 use layers::setting::Setting;
@@ -31,11 +31,10 @@ fn layer_agreed<R: Rule, T, V: Copy>(
 {
     let us = &nodes[at..at + by.width];
     let count = count_in(nodes, at + by.width, by.width);
-    let mut list = room();
-    let many = list_layer(us, &mut list);
+    let list = list_layer(us);
     let mut all = true;
     for b in 0..count {
-        all &= alike(by, us, &list[..many], b as u8 + 1);
+        all &= alike(by, us, &list, b as u8 + 1);
     }
     all
 }

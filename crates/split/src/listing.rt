@@ -1,64 +1,80 @@
 //! The in-arcs of a layer, listed once: by the place of their source, then by door.
-ghost use Rattle.std.specs.Prelude.{◌≡◌, ◌+◌, ◌*◌, ◌<◌, ◌≤◌, ◌++◌, length, take};
+ghost use Rattle.std.specs.Prelude.{◌≡◌, ◌+◌, ◌<◌, ◌≤◌, List, ◌++◌, length};
 ghost use Rattle.layers.specs.declared.node.Node.{Node as ANode};
-ghost use Rattle.split.specs.Listed.{listed_node, IsListed};
+ghost use Rattle.split.specs.Listed.{Told, told_node, IsTold, IsListed, written, IsEarly};
 
 use layers::node::Node;
 
-/// An in-arc: the place of its source, its door less one, and the number of the node that it leads to.
+/// An in-arc: the place of its source, and its door less one.
 #[derive(Clone, Copy)]
 pub(crate) struct InArc {
     pub(crate) place: u8,
     pub(crate) door: u8,
-    pub(crate) to: u8,
 }
 
-/// Room for the in-arcs of any layer: 16 from each of 128 places.
-pub(crate) fn room() -> [InArc; 2048] {
-    let none = InArc {
-        place: 0,
-        door: 0,
-        to: 0,
-    };
-    [none; 2048]
+/// The first `many` of `arcs`, and the numbers of the nodes that they lead to. None before `starts[t]` leads to node t.
+#[derive(Drop)]
+pub(crate) struct InArcs {
+    pub(crate) arcs: [InArc; 2048],
+    pub(crate) to: [u8; 2048],
+    pub(crate) many: usize,
+    pub(crate) starts: [u16; 256],
 }
 
-/// Lists the arcs of the record u at a place, after the first `many`. Answers how many stand there then.
-#[tactic(auto, unfolding(crate::specs::Listed::listed_node))]
-fn list_node<S: Copy, V: Copy>(u: &Node<S, V>, place: u8, list: &mut [InArc], many: usize) -> usize
-    requires { many + 16 ≤ length list.old }
-    ensures few { result ≤ many + 16 }
-    ensures arcs { take result list.new ≡ take many list.old ++ listed_node place u.now }
+/// Lists the arcs of the record u at a place.
+#[tactic(auto, unfolding(crate::specs::Listed::told_node))]
+fn list_node<S: Copy, V: Copy>(u: &Node<S, V>, place: u8, list: &mut InArcs)
+    requires { list.old.many + 16 ≤ 2048 }
+    ensures few { list.new.many ≤ list.old.many + 16 }
+    ensures told { (told : List (Told S V)) → IsTold list.old told
+        → IsTold list.new (told ++ told_node place u.now) }
     ensures wide { length u.now.arcs.to ≡ 16 }
 {
     let arcs: &[u8] = &u.arcs.to;
-    let mut m = many;
     if u.label.down.lasts == 0 {
-        return m;
+        return;
     }
     for (k, to) in arcs.iter().enumerate() {
         if *to != 0 {
-            list[m] = InArc {
+            let m = list.many;
+            list.arcs[m] = InArc {
                 place,
                 door: k as u8,
-                to: *to,
             };
-            m += 1;
+            list.to[m] = *to;
+            list.many = m + 1;
         }
     }
-    m
 }
 
-/// Lists the arcs of a layer of records. Answers how many there are.
-pub(crate) fn list_layer<S: Copy, V: Copy>(us: &[Node<S, V>], list: &mut [InArc]) -> usize
-    requires few { length us.now ≤ 128 }
-    requires room { length us.now * 16 ≤ length list.old }
-    ensures within { result ≤ length list.new }
-    ensures arcs { IsListed us.now (take result list.new) }
+/// Finds where the in-arcs of each node start.
+fn find_starts(list: &mut InArcs)
+    requires { list.old.many ≤ 2048 }
+    ensures early { IsEarly list.new }
+    ensures same { list.new ≡ record list.old { starts = list.new.starts } }
 {
-    let mut many = 0;
-    for (a, u) in us.iter().enumerate() {
-        many = list_node(u, a as u8, list, many);
+    for m in 0..list.many {
+        let t = list.to[m] as usize;
+        list.starts[t] = list.starts[t].min(m as u16);
     }
-    many
+}
+
+/// Lists the arcs of a layer of records.
+pub(crate) fn list_layer<S: Copy, V: Copy>(us: &[Node<S, V>]) -> InArcs
+    requires few { length us.now ≤ 128 }
+    ensures listed { IsListed us.now result }
+    ensures same { written us.now result ≡ us.now }
+{
+    let none = InArc { place: 0, door: 0 };
+    let mut list = InArcs {
+        arcs: [none; 2048],
+        to: [0; 2048],
+        many: 0,
+        starts: [2048; 256],
+    };
+    for (a, u) in us.iter().enumerate() {
+        list_node(u, a as u8, &mut list);
+    }
+    find_starts(&mut list);
+    list
 }

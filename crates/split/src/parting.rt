@@ -1,19 +1,17 @@
 //! Parting a node: the in-arcs that differ from the first go to a new last node of its layer.
-ghost use Rattle.std.specs.Prelude.{◌≡◌, suc, ◌+◌, ◌-◌, ◌<◌, ◌≤◌, length, take, Some, nat_le};
-ghost use Rattle.layers.specs.Labels.{first_arrival};
+ghost use Rattle.std.specs.Prelude.{◌≡◌, suc, ◌+◌, ◌-◌, ◌<◌, ◌≤◌, length, take, nat_le, slice_index_or, slice_set};
+ghost use Rattle.layers.specs.declared.node.Node.{Node as ANode};
 ghost use Rattle.layers.specs.Settings.{lent_setting};
-ghost use Rattle.labels.specs.Passes.{arrivals};
-ghost use Rattle.split.specs.Agreed.{brought};
-ghost use Rattle.split.specs.Listed.{IsListed};
+ghost use Rattle.split.specs.Listed.{IsListed, told_records};
 ghost use Rattle.split.specs.Steps.{node_count, group_check, alike, parted_one, part_check, part_steps, next_records, parts_from, layer_steps};
 ghost use Rattle.split.specs.Words.{PartDone, LayerDone};
 
-use crate::agreement::first_into;
+use crate::agreement::{finish_of, first_into};
 use crate::by_first::ByFirst;
 use crate::check::{check_node, check_place};
 use crate::counting::count_in;
-use crate::dividing::{all_stay, divide};
-use crate::listing::{InArc, list_layer, room};
+use crate::dividing::{divide, first_leaving, put_back};
+use crate::listing::{InArcs, list_layer};
 use labels::relabel::relabel;
 use layers::node::Node;
 use layers::refusal::Refusal;
@@ -21,39 +19,21 @@ use layers::setting::Setting;
 use rules::rule::Rule;
 use tallies::tally::Tally;
 
-/// Parts the node at place a of the second of the layers at the head of `nodes`, which has room for one more, by the test of
-/// its first in-arc.
-fn part_by<R: Rule, T: Tally>(
-    test: &ByFirst<'_, R, T, R::State, T::Value>,
-    nodes: &mut [Node<R::State, T::Value>],
-    list: &mut [InArc],
-    a: usize,
-    count: usize,
-)
-    requires two_in_bounds { test.now.by.now.width + test.now.by.now.width < length nodes.old }
-    requires width_bound { test.now.by.now.width ≤ 128 }
-    requires a_lt_count { a < count }
-    requires count_lt_width { count < test.now.by.now.width }
-    requires listed { IsListed (take test.now.by.now.width nodes.old) list.old }
-    requires is_first { let s = test.now.by.now in
-        let by = lent_setting s (R.sense s.rule.now) (T.sense s.tally.now) in
-        Some (brought by test.now.first) ≡ first_arrival
-        (arrivals by (suc a) (take by.width nodes.old)) }
-    ensures records { let s = test.now.by.now in
-        let by = lent_setting s (R.sense s.rule.now) (T.sense s.tally.now) in
-        nodes.new ≡ parted_one by 0 a count nodes.old }
-    ensures listed { IsListed (take test.now.by.now.width nodes.new) list.new }
+/// The record at place b becomes that at place a.
+fn copy_record<S: Copy, V: Copy>(vs: &mut [Node<S, V>], a: usize, b: usize)
+    requires a_in_bounds { a < length vs.old }
+    requires b_in_bounds { b < length vs.old }
+    ensures { (z : ANode S V) → vs.new ≡ slice_set vs.old b (slice_index_or vs.old a z) }
 {
-    let (us, vs) = nodes.split_at_mut(test.by.width);
-    divide(test, us, list, a as u8 + 1, count as u8 + 1);
-    vs[count] = vs[a];
+    vs[b] = vs[a];
 }
 
-/// The same, unless its in-arcs agree or the layer is full: then nothing is altered.
+/// Parts the node at place a of the second of the layers at the head of `nodes`, unless its in-arcs agree or the layer is full:
+/// then nothing is altered. The in-arcs are altered in the list alone.
 fn part_node<R: Rule, T: Tally>(
     by: &Setting<'_, R, T>,
     nodes: &mut [Node<R::State, T::Value>],
-    list: &mut [InArc],
+    list: &mut InArcs,
     a: usize,
     count: usize,
 ) -> Result<(), Refusal>
@@ -64,30 +44,56 @@ fn part_node<R: Rule, T: Tally>(
     requires listed { IsListed (take by.now.width nodes.old) list.old }
     ensures answer { let by = lent_setting by.now (R.sense by.now.rule.now)
         (T.sense by.now.tally.now) in
-        result ≡ group_check (alike by 0 (suc a) nodes.old) (nat_le by.width count) }
+        result ≡ group_check (alike by 0 (suc a) (told_records by.width list.old nodes.old))
+        (nat_le by.width count) }
     ensures records { let by = lent_setting by.now (R.sense by.now.rule.now)
-        (T.sense by.now.tally.now) in nodes.new ≡ next_records by 0 a count nodes.old }
+        (T.sense by.now.tally.now) in
+        told_records by.width list.new nodes.new
+        ≡ next_records by 0 a count (told_records by.width list.old nodes.old) }
     ensures listed { IsListed (take by.now.width nodes.new) list.new }
 {
     let t = a as u8 + 1;
-    let us = &nodes[..by.width];
-    match first_into(us, list, t) {
-        None => Err(Refusal::OneGroup),
-        Some(first) => {
-            let test = ByFirst { by, first };
-            if all_stay(&test, us, list, t) {
-                return Err(Refusal::OneGroup);
-            }
-            if count >= by.width {
-                return Err(Refusal::LayerFull);
-            }
-            part_by(&test, nodes, list, a, count);
-            Ok(())
-        }
+    let (us, vs) = nodes.split_at_mut(by.width);
+    let Some(first) = first_into(us, list, t) else {
+        return Err(Refusal::OneGroup);
+    };
+    let finish = finish_of(by.round, &first.label, first.door);
+    let test = ByFirst { by, first, finish };
+    let Some(from) = first_leaving(&test, us, list, t) else {
+        return Err(Refusal::OneGroup);
+    };
+    if count >= by.width {
+        return Err(Refusal::LayerFull);
     }
+    divide(&test, us, list, from, count as u8 + 1);
+    copy_record(vs, a, count);
+    Ok(())
 }
 
-/// The same of the layer after that at `at`, by its in-arcs as they stand.
+/// The same, in the records.
+fn part_second<R: Rule, T: Tally>(
+    by: &Setting<'_, R, T>,
+    nodes: &mut [Node<R::State, T::Value>],
+    a: usize,
+    count: usize,
+) -> Result<(), Refusal>
+    requires two_in_bounds { by.now.width + by.now.width < length nodes.old }
+    requires width_bound { by.now.width ≤ 128 }
+    requires a_lt_count { a < count }
+    requires count_le_width { count ≤ by.now.width }
+    ensures answer { let by = lent_setting by.now (R.sense by.now.rule.now)
+        (T.sense by.now.tally.now) in
+        result ≡ group_check (alike by 0 (suc a) nodes.old) (nat_le by.width count) }
+    ensures records { let by = lent_setting by.now (R.sense by.now.rule.now)
+        (T.sense by.now.tally.now) in nodes.new ≡ next_records by 0 a count nodes.old }
+{
+    let mut list = list_layer(&nodes[..by.width]);
+    let answer = part_node(by, nodes, &mut list, a, count);
+    put_back(&mut nodes[..by.width], &list);
+    answer
+}
+
+/// The same of the layer after that at `at`.
 fn part_at<R: Rule, T: Tally>(
     by: &Setting<'_, R, T>,
     nodes: &mut [Node<R::State, T::Value>],
@@ -105,10 +111,7 @@ fn part_at<R: Rule, T: Tally>(
     ensures records { let by = lent_setting by.now (R.sense by.now.rule.now)
         (T.sense by.now.tally.now) in nodes.new ≡ next_records by at a count nodes.old }
 {
-    let rest = &mut nodes[at..];
-    let mut list = room();
-    let many = list_layer(&rest[..by.width], &mut list);
-    part_node(by, rest, &mut list[..many], a, count)
+    part_second(by, &mut nodes[at..], a, count)
 }
 
 /// Parts node `node` of the layer: the in-arcs that differ from the first go to a new last node, with the same out-arcs, and
@@ -136,7 +139,39 @@ pub fn part<R: Rule, T: Tally>(
     Ok(())
 }
 
-/// Parts the nodes of the second of the layers at the head of `nodes`, as many as it has and gets.
+/// Parts the nodes of the second of the layers at the head of `nodes`, as many as it has and gets. The in-arcs are altered in
+/// the list alone.
+fn part_listed<R: Rule, T: Tally>(
+    by: &Setting<'_, R, T>,
+    nodes: &mut [Node<R::State, T::Value>],
+    list: &mut InArcs,
+) -> bool
+    requires two_in_bounds { by.now.width + by.now.width < length nodes.old }
+    requires width_bound { by.now.width ≤ 128 }
+    requires listed { IsListed (take by.now.width nodes.old) list.old }
+    ensures records { let by = lent_setting by.now (R.sense by.now.rule.now)
+        (T.sense by.now.tally.now) in
+        (result, told_records by.width list.new nodes.new) ≡ parts_from by 0 by.width 0
+        (node_count by.width by.width nodes.old) (told_records by.width list.old nodes.old) }
+    ensures listed { IsListed (take by.now.width nodes.new) list.new }
+{
+    let mut count = count_in(nodes, by.width, by.width);
+    for a in 0..by.width {
+        if count <= a {
+            return false;
+        }
+        match part_node(by, nodes, list, a, count) {
+            Ok(()) => count += 1,
+            Err(e) => match e {
+                Refusal::LayerFull => return true,
+                _ => {}
+            },
+        }
+    }
+    false
+}
+
+/// The same, in the records.
 fn part_from<R: Rule, T: Tally>(
     by: &Setting<'_, R, T>,
     nodes: &mut [Node<R::State, T::Value>],
@@ -147,22 +182,10 @@ fn part_from<R: Rule, T: Tally>(
         (result, nodes.new) ≡ parts_from by 0 by.width 0
         (node_count by.width by.width nodes.old) nodes.old }
 {
-    let mut list = room();
-    let many = list_layer(&nodes[..by.width], &mut list);
-    let mut count = count_in(nodes, by.width, by.width);
-    for a in 0..by.width {
-        if count <= a {
-            return false;
-        }
-        match part_node(by, nodes, &mut list[..many], a, count) {
-            Ok(()) => count += 1,
-            Err(e) => match e {
-                Refusal::LayerFull => return true,
-                _ => {}
-            },
-        }
-    }
-    false
+    let mut list = list_layer(&nodes[..by.width]);
+    let full = part_listed(by, nodes, &mut list);
+    put_back(&mut nodes[..by.width], &list);
+    full
 }
 
 /// Parts each node of the layer whose in-arcs do not agree, one after another, the new ones too, by their arcs alone: no label

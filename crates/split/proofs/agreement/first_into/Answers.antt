@@ -1,58 +1,67 @@
-use Rattle.std.proofs.Common.{◌+◌, Bool, cond, [], ◌∷◌, ◌++◌, get_or, drop, Some, sym, ap, ◌∙◌, arith}
-use Rattle.std.specs.List.{flat_map}
-use Rattle.std.proofs.lemmas.Bool.{eq-eqb}
-use Rattle.std.proofs.lemmas.List.{get_or_default, take_all}
+use Rattle.std.proofs.Common.{◌≢◌, ◌+◌, Some, sym, ap, ◌∙◌, ap₂, arith}
+use Rattle.std.proofs.lemmas.List.{take_all}
+use Rattle.std.proofs.lemmas.List.Elements.{All-more, All-same}
+use Rattle.layers.specs.declared.node.Label.{Label}
 use Rattle.layers.specs.Labels.{first_arrival, arrival_over}
-use Rattle.labels.specs.Passes.{blank_node}
 use Rattle.split.specs.declared.listing.InArc.{InArc}
+use Rattle.split.specs.Listed.{written}
 use Rattle.split.specs.Agreed.{brought}
-use Rattle.split.proofs.InArcs.{within-at, brings, arrivals-listed, first-listed, none-listed}
+use Rattle.split.proofs.InArcs.{told, told-one, within, place-here, door-here, label-here, to-here, arc-here, not-yet, brings-none, first-told, arrivals-told}
 use Rattle.split.proofs.agreement.first_into.Goals as goal
 
 abbrev none : InArc
-none = record { place = 0; door = 0; to = 0 }
+none = record { place = 0; door = 0 }
 
-pub offset_bounds-us-x : goal.offset_bounds-us-x
-offset_bounds-us-x g c =
-    let w = within-at c.args.us.now c.args.list.now c.loop-x.x-index none c.requires.listed.arcs c.loop-x-test.true in omega (arith, w.0)
+pub loop-m-init : goal.loop-m-init
+loop-m-init g c = not-yet c.args.us.now (written c.args.us.now c.args.list.now) c.args.list.now c.requires.listed c.args.t
 
-pub bounds-us-x : goal.bounds-us-x
-bounds-us-x g c = (within-at c.args.us.now c.args.list.now c.loop-x.x-index none c.requires.listed.arcs c.loop-x-test.true).0
+pub offset_bounds-us-place : goal.offset_bounds-us-place
+offset_bounds-us-place g c =
+    let us = c.args.us.now in
+    let h = place-here us (written us c.args.list.now) c.args.list.now c.requires.listed c.loop-m.m c.loop-m-test.true none in omega (arith, h)
 
-pub bounds-us-x-then-x-t : goal.bounds-us-x-then-x-t
-bounds-us-x-then-x-t g c = (within-at c.args.us.now c.args.list.now c.loop-x.x-index none c.requires.listed.arcs c.loop-x-test.true).0
+pub bounds-us-place : goal.bounds-us-place
+bounds-us-place g c = place-here c.args.us.now (written c.args.us.now c.args.list.now) c.args.list.now c.requires.listed c.loop-m.m c.loop-m-test.true none
+
+pub bounds-us-place-then-list-m : goal.bounds-us-place-then-list-m
+bounds-us-place-then-list-m g c = place-here c.args.us.now (written c.args.us.now c.args.list.now) c.args.list.now c.requires.listed c.loop-m.m c.loop-m-test.true none
 
 pub invariant_of-result : goal.invariant_of-result
 invariant_of-result g c =
-    let w = within-at c.args.us.now c.args.list.now c.loop-x.x-index none c.requires.listed.arcs c.loop-x-test.true in record { fits = omega (arith, w.1) }
+    let us = c.args.us.now in
+    let h = door-here us (written us c.args.list.now) c.args.list.now c.requires.listed c.loop-m.m c.loop-m-test.true none in record { fits = omega (arith, h) }
 
-pub loop-x-preserved : goal.loop-x-preserved
-loop-x-preserved g c by =
-    none-listed (blank_node by.rule by.tally) c.args.us.now by c.args.t c.args.list.now c.loop-x.x-index none c.loop-x-test.true (c.loop-x.invariant by) c.if-x-t.false
-
-pub returns-then-x-t : goal.returns-then-x-t
-unfolding brought
-returns-then-x-t g c by =
+pub loop-m-preserved : goal.loop-m-preserved
+loop-m-preserved g c =
     let us = c.args.us.now in
     let list = c.args.list.now in
-    let i = c.loop-x.x-index in
+    let vs = written us list in
+    let m = c.loop-m.m in
+    let l = c.requires.listed in
+    let lt = c.loop-m-test.true in
+    All-more (λ x. x.to ≢ c.args.t) (told us vs list l) m (told-one us vs list l m lt) (within us vs list l m lt) c.loop-m.invariant (λ e. c.if-list-m.false (to-here us vs list l m lt ∙ e))
+
+pub returns-then-list-m : goal.returns-then-list-m
+unfolding brought
+returns-then-list-m g c by =
+    let us = c.args.us.now in
+    let list = c.args.list.now in
+    let vs = written us list in
+    let m = c.loop-m.m in
     let t = c.args.t in
-    let z = blank_node by.rule by.tally in
-    let x = get_or list i none in
-    let rest = flat_map (brings z us by t) (drop (i + 1) list) in
-    let lt = (within-at us list i none c.requires.listed.arcs c.loop-x-test.true).0 in
-    ap (λ u. Some (arrival_over by u.label.down (x.door + 1))) (get_or_default us x.place c.index-us-x.result z lt)
-    ∙ ap (λ (q : Bool). first_arrival (cond q (arrival_over by (get_or us x.place z).label.down (x.door + 1) ∷ []) [] ++ rest)) (sym (eq-eqb x.to t c.if-x-t.true))
-    ∙ ap first_arrival (sym (first-listed z us by t list i none c.loop-x-test.true (c.loop-x.invariant by)))
-    ∙ ap (λ xs. first_arrival (flat_map (brings z us by t) xs)) c.requires.listed.arcs
-    ∙ ap first_arrival (sym (arrivals-listed z us by t c.requires.one_le_t))
+    let l = c.requires.listed in
+    let lt = c.loop-m-test.true in
+    let z = c.index-us-place.result in
+    ap₂ (λ (u : Label g.row.S.Denot g.row.V.Denot) (x : InArc). Some (arrival_over by u.down (x.door + 1))) (label-here us vs list l m lt none z) (arc-here us vs list l m lt none)
+    ∙ sym (first-told by t (told us vs list l) m (told-one us vs list l m lt) (within us vs list l m lt) c.loop-m.invariant (sym (to-here us vs list l m lt) ∙ c.if-list-m.true))
+    ∙ ap first_arrival (sym (arrivals-told by t c.requires.one_le_t 0 vs))
 
 pub returns : goal.returns
 returns g c by =
     let us = c.args.us.now in
     let list = c.args.list.now in
-    let t = c.args.t in
-    let z = blank_node by.rule by.tally in
-    ap first_arrival (sym (c.loop-x.invariant by))
-    ∙ ap (λ xs. first_arrival (flat_map (brings z us by t) xs)) (take_all c.loop-x.x-index list c.loop-x-test.false ∙ c.requires.listed.arcs)
-    ∙ ap first_arrival (sym (arrivals-listed z us by t c.requires.one_le_t))
+    let vs = written us list in
+    let all = told us vs list c.requires.listed in
+    ap first_arrival
+    (sym (arrivals-told by c.args.t c.requires.one_le_t 0 vs
+    ∙ brings-none by c.args.t all (All-same (λ x. x.to ≢ c.args.t) all _ (sym (take_all c.loop-m.m all (omega (arith, c.requires.listed.told.many)))) c.loop-m.invariant)))

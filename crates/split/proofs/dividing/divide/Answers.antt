@@ -1,91 +1,89 @@
-use Rattle.std.proofs.Common.{◌≡◌, ℕ, suc, ◌+◌, ◌-◌, Bool, not, ◌&&◌, cond, eqb, ◌++◌, map, length, get_or, set, take, fold, sym, ap, ap₂, ◌∙◌, append-nil, arith}
-use Rattle.std.proofs.lemmas.List.{get_or_default, take_all, drop_all}
-use Rattle.std.proofs.lemmas.List.Elements.{All-same}
-use Rattle.std.proofs.lemmas.List.Edits.{map_over_more}
-use Rattle.std.proofs.lemmas.List.Sums.{fold_more}
+use Rattle.std.proofs.Common.{◌≡◌, ℕ, suc, ◌+◌, ◌-◌, not, get_or, min, set, take, true, false, refl, sym, ap, ◌∙◌, subst, arith}
 use Rattle.split.specs.declared.listing.InArc.{InArc}
-use Rattle.split.specs.Listed.{leaves, redirected_arc, in_arcs}
-use Rattle.split.specs.Parted.{or_unused, parted_node}
-use Rattle.split.proofs.Divided.{one-of, sent, renumbered, renumbered-at, renumbered-within, sent-labels, all-sent, all-renumbered, wide-parted}
+use Rattle.split.specs.declared.listing.InArcs.{InArcs}
+use Rattle.split.specs.Listed.{told_from, written, all_stay, leaves, Lists}
+use Rattle.split.proofs.InArcs.{place-here, door-here, here, leaves-here, other-here, one-record}
+use Rattle.split.proofs.Divided.{sent-first, sent-next, divided, listed-back, written-back}
 use Rattle.split.proofs.dividing.divide.Goals as goal
-use Rattle.split.proofs.dividing.divide.Goals.{then-leaves, else-leaves}
+use Rattle.split.proofs.dividing.divide.Goals.{then-list-m+then-leaves, else-list-m, else-list-m-via-then-list-m+else-leaves, else-list-m-via-else-list-m}
 
 abbrev none : InArc
-none = record { place = 0; door = 0; to = 0 }
+none = record { place = 0; door = 0 }
+
+pub loop-m-init : goal.loop-m-init
+loop-m-init g c =
+    let us = c.args.us.now in
+    let list = c.args.list.now in
+    let t = get_or list.to c.args.from 0 in
+    let keeps = g.K.Test.keeps c.args.test.now in
+    let back : t ≡ suc (t - 1) = omega (arith, c.requires.one_le_t) in
+    (refl, sent-first keeps (t - 1) (c.args.new - 1) us list c.requires.listed c.args.from (omega arith) (subst (λ (k : ℕ). all_stay keeps k (take c.args.from (told_from 0 (written us list))) ≡ true) back c.requires.first))
 
 pub leaves-requires : goal.leaves-requires
 leaves-requires g c =
     let us = c.args.us.now in
-    let z = one-of us c.requires.one_le_us in
-    let w = renumbered-within (g.K.Test.keeps c.args.test.now) (c.args.t - 1) (c.args.new - 1) z us c.args.list.now c.loop-x.list c.loop-x.us c.loop-x.x-index none
-    (c.loop-x.invariant z).1 c.loop-x-test.true c.requires.listed.arcs c.loop-x.auto.us in
-    record { place_in_bounds = w.0; door_bound = w.1 }
+    let list = c.args.list.now in
+    let same : get_or c.loop-m.list.arcs c.loop-m.m none ≡ get_or list.arcs c.loop-m.m none = ap (λ (l : InArcs). get_or l.arcs c.loop-m.m none) c.loop-m.invariant.0 in
+    record {
+      place_in_bounds = rw same (place-here us (written us list) list c.requires.listed c.loop-m.m c.loop-m-test.true none);
+      door_bound = rw same (door-here us (written us list) list c.requires.listed c.loop-m.m c.loop-m-test.true none);
+    }
 
-pub send-requires : goal.send-requires
-send-requires g c =
-    let us = c.args.us.now in
-    let z = one-of us c.requires.one_le_us in
-    let w = renumbered-within (g.K.Test.keeps c.args.test.now) (c.args.t - 1) (c.args.new - 1) z us c.args.list.now c.loop-x.list c.loop-x.us c.loop-x.x-index none
-    (c.loop-x.invariant z).1 c.loop-x-test.true c.requires.listed.arcs c.loop-x.auto.us in
-    record { place_in_bounds = w.0; door_bound = w.1 }
-
-pub loop-x-preserved : goal.loop-x-preserved
-loop-x-preserved g c z =
+pub loop-m-preserved : goal.loop-m-preserved
+loop-m-preserved g c =
     let us = c.args.us.now in
     let list = c.args.list.now in
-    let i = c.loop-x.x-index in
-    let W = c.loop-x.us in
-    let L = c.loop-x.list in
+    let vs = written us list in
+    let l = c.requires.listed in
+    let m = c.loop-m.m in
+    let lt = c.loop-m-test.true in
+    let L = c.loop-m.list in
     let keeps = g.K.Test.keeps c.args.test.now in
-    let t = c.args.t in
+    let t = get_or list.to c.args.from 0 in
     let a = t - 1 in
-    let m = c.args.new - 1 in
-    let inv = c.loop-x.invariant z in
-    let lt = c.loop-x-test.true in
-    let x = get_or L i none in
-    let x0 = get_or list i none in
-    let same : x ≡ x0 = renumbered-at keeps a m z us list L i none inv.1 lt in
+    let n = c.args.new - 1 in
     let back : t ≡ suc a = omega (arith, c.requires.one_le_t) in
-    let to : c.args.new ≡ suc m = omega (arith, c.requires.one_le_new) in
-    let here : c.leaves.result ≡ leaves keeps (suc a) z us x0 =
-    c.leaves.ensures z ∙ ap (leaves keeps t z W) same
-    ∙ ap (λ l. eqb x0.to t && not (keeps l (x0.door + 1))) (ap (λ vs. (get_or vs x0.place z).label) inv.0 ∙ sent-labels keeps a m z us (take i list) us x0.place)
-    ∙ ap (λ (k : ℕ). leaves keeps k z us x0) back in
-    let records : c.if-leaves.us ≡ sent keeps a m z us W x0 =
-    elim c.if-leaves.branch [
-      | then-leaves w ↦ w.us-is ∙ w.send.ensures.records z ∙ ap (λ y. redirected_arc z W y c.args.new) same ∙ ap (redirected_arc z W x0) to
-          ∙ ap (λ (q : Bool). cond q (redirected_arc z W x0 (suc m)) W) (sym w.if-leaves.true ∙ here)
-      | else-leaves w ↦ w.us-is ∙ ap (λ (q : Bool). cond q (redirected_arc z W x0 (suc m)) W) (sym w.if-leaves.false ∙ here)
-    ] in
-    let listed : c.if-leaves.list ≡ set L i (renumbered keeps a m z us x0) =
-    elim c.if-leaves.branch [
-      | then-leaves w ↦ w.list-is ∙ ap (set L i) (w.send.ensures.arc ∙ ap (λ (y : InArc). record y { to = c.args.new }) same ∙ ap (λ (k : ℕ). record x0 { to = k }) to
-          ∙ ap (λ (q : Bool). cond q (record x0 { to = suc m }) x0) (sym w.if-leaves.true ∙ here))
-      | else-leaves w ↦ w.list-is ∙ ap (set L i) (same ∙ ap (λ (q : Bool). cond q (record x0 { to = suc m }) x0) (sym w.if-leaves.false ∙ here))
-    ] in (
-      records ∙ ap (λ vs. sent keeps a m z us vs x0) inv.0 ∙ sym (fold_more (sent keeps a m z us) us list i none lt),
-      listed ∙ map_over_more (renumbered keeps a m z us) list L i x0 lt inv.1 (sym same ∙ get_or_default L i none x0 (omega (arith, c.loop-x.auto.list))),
-    )
+    let new : c.args.new ≡ suc n = omega (arith, c.requires.one_le_new) in
+    let old = c.loop-m.invariant in
+    let x = here us vs list l m lt in
+    let z = one-record us vs list l m lt in
+    let at : get_or L.to m 0 ≡ get_or list.to m 0 = old.1.2 m (omega arith) in
+    let said : get_or L.to m 0 ≡ t → leaves keeps (suc a) x ≡ not (keeps (get_or us (get_or L.arcs m none).place z).label ((get_or L.arcs m none).door + 1)) =
+    λ e. leaves-here us vs list l m lt keeps (suc a) none z (sym at ∙ e ∙ back) ∙ ap (λ (k : InArcs). not (keeps (get_or us (get_or k.arcs m none).place z).label ((get_or k.arcs m none).door + 1))) (sym old.0) in
+    elim c.if-list-m.branch [
+      | then-list-m+then-leaves w ↦ (
+        w.list-is ∙ ap (λ (k : InArcs). record k { to = set L.to m c.args.new }) old.0 ∙ ap (λ (k : InArcs). record list { to = k.to }) (sym w.list-is),
+        sent-next keeps a n us list l m L.to c.if-list-m.list.to lt true (said w.if-list-m.true ∙ sym (w.leaves.ensures z) ∙ w.if-leaves.true) (ap (λ (k : InArcs). k.to) w.list-is ∙ ap (set L.to m) new) old.1,
+      )
+      | else-list-m w ↦ (
+        w.list-is ∙ old.0 ∙ ap (λ (k : InArcs). record list { to = k.to }) (sym w.list-is),
+        sent-next keeps a n us list l m L.to c.if-list-m.list.to lt false (elim w.else-list-m.branch [
+          | else-list-m-via-then-list-m+else-leaves w' ↦ said w'.if-list-m.true ∙ sym (w'.leaves.ensures z) ∙ w'.if-leaves.false
+          | else-list-m-via-else-list-m w' ↦ other-here us vs list l m lt keeps (suc a) (λ e. w'.if-list-m.false (at ∙ e ∙ sym back))
+        ]) (ap (λ (k : InArcs). k.to) w.list-is) old.1,
+      )
+    ]
 
 pub returns : goal.returns
 returns g c =
     let us = c.args.us.now in
     let list = c.args.list.now in
-    let z = one-of us c.requires.one_le_us in
     let keeps = g.K.Test.keeps c.args.test.now in
-    let a = c.args.t - 1 in
-    let m = c.args.new - 1 in
-    let i = c.loop-x.x-index in
-    let inv = c.loop-x.invariant z in
-    let past = c.loop-x-test.false in
-    let listed = c.requires.listed in
-    let done : c.loop-x.us ≡ map (parted_node (or_unused keeps) a m) us =
-    inv.0 ∙ ap (fold (sent keeps a m z us) us) (take_all i list past ∙ listed.arcs) ∙ all-sent keeps a m z us listed.wide in
-    record {
-      records = done;
-      listed = record {
-        arcs = inv.1 ∙ ap₂ (λ xs ys. map (renumbered keeps a m z us) xs ++ ys) (take_all i list past ∙ listed.arcs) (drop_all i list past)
-            ∙ append-nil (map (renumbered keeps a m z us) (in_arcs us)) ∙ sym (all-renumbered keeps a m z us listed.wide) ∙ ap in_arcs (sym done);
-        wide = All-same (λ v. length v.arcs.to ≡ 16) c.loop-x.us (map (parted_node (or_unused keeps) a m) us) done (wide-parted keeps a m z us);
-      };
-    }
+    let t = get_or list.to c.args.from 0 in
+    let a = t - 1 in
+    let n = c.args.new - 1 in
+    let back : t ≡ suc a = omega (arith, c.requires.one_le_t) in
+    let new : c.args.new ≡ suc n = omega (arith, c.requires.one_le_new) in
+    let old = c.loop-m.invariant in
+    let L = c.loop-m.list in
+    let T = L.to in
+    let from = c.args.from in
+    let made : Lists us _ (record list { to = T; starts = set list.starts (suc n) (min (get_or list.starts (suc n) 0) from) }) =
+    divided keeps a n from us list T c.requires.listed (omega (arith, c.requires.one_le_new)) (omega (arith, old.1.0)) (omega (arith, c.requires.listed.few))
+    (subst (λ (k : ℕ). all_stay keeps k (take from (told_from 0 (written us list))) ≡ true) back c.requires.first) (λ i d lt. old.1.1 i d (omega (arith, lt, c.loop-m-test.false)) lt) in
+    let same : record L { starts = set L.starts c.args.new c.min.result } ≡ record list { to = T; starts = set list.starts (suc n) (min (get_or list.starts (suc n) 0) from) } =
+    ap (λ (v : ℕ). record L { starts = set L.starts c.args.new v }) c.min.ensures
+    ∙ ap (λ (k : InArcs). record { arcs = k.arcs; to = T; many = k.many; starts = set k.starts c.args.new (min (get_or k.starts c.args.new 0) from) }) old.0
+    ∙ ap (λ (b : ℕ). record list { to = T; starts = set list.starts b (min (get_or list.starts b 0) from) }) new in
+    let lists = subst (Lists us _) (sym same) made in
+    record { records = written-back us _ _ lists; listed = listed-back us _ _ lists }

@@ -1,36 +1,37 @@
-use Rattle.std.proofs.Common.{◌≡◌, ℕ, [], ◌++◌, length, get_or, take, sym, ap, ◌∙◌, zero-add, arith}
-use Rattle.std.specs.List.{enumerate_from, flat_map}
-use Rattle.std.proofs.lemmas.List.{flat_map_more, get_or_read, take_more, take_all}
-use Rattle.std.proofs.lemmas.List.FromFn.{length-enumerate_from, get_or-enumerate_from}
-use Rattle.std.proofs.lemmas.List.Elements.{All-more, All-same}
-use Rattle.layers.specs.declared.node.Node.{Node}
-use Rattle.split.specs.Listed.{listed_node, in_arcs}
+use Rattle.std.proofs.Common.{◌≡◌, length, take, refl, sym, ap, ◌∙◌, subst, arith}
+use Rattle.std.proofs.lemmas.List.{take_all}
+use Rattle.std.proofs.lemmas.List.Elements.{All-more, All-nil, All-same}
+use Rattle.split.specs.declared.listing.InArcs.{InArcs}
+use Rattle.split.specs.Listed.{told_from, IsTold, Lists}
+use Rattle.split.proofs.InArcs.{told_more}
+use Rattle.split.proofs.Divided.{listed-back, written-back}
 use Rattle.split.proofs.listing.list_layer.Goals as goal
+
+pub loop-a-init : goal.loop-a-init
+unfolding told_from
+loop-a-init g c = (omega arith, All-nil (λ u. length u.arcs.to ≡ 16), record { many = refl; arcs = refl; to = refl })
 
 pub loop-a-preserved : goal.loop-a-preserved
 loop-a-preserved g c =
-    let F = λ (p : ℕ × Node g.row.S.Denot g.row.V.Denot). listed_node p.0 p.1 in
     let us = c.args.us.now in
     let a = c.loop-a.a in
-    let u = c.index-us-a.result in
-    let E = enumerate_from 0 us in
-    let here : (a, u) ≡ get_or E a (0, u) =
-    ap (λ v. (a, v)) (get_or_read us a u (omega arith) c.index-us-a.is u) ∙ ap (λ (k : ℕ). (k, get_or us a u)) (sym (zero-add a)) ∙ sym (get_or-enumerate_from 0 us a (0, u) (omega arith)) in (
-      omega arith,
-      All-more (λ v. length v.arcs.to ≡ 16) us a u (omega arith) c.loop-a.invariant.1 (ap (λ v. length v.arcs.to) (sym c.index-us-a.is) ∙ c.list_node-many.ensures.wide),
-      c.list_node-many.ensures.arcs
-          ∙ ap (λ xs. xs ++ listed_node a u) c.loop-a.invariant.2
-          ∙ ap (λ p. flat_map F (take a E) ++ F p) here
-          ∙ flat_map_more F [] (take a E) (get_or E a (0, u))
-          ∙ ap (flat_map F) (sym (take_more E a (0, u) (omega (arith, length-enumerate_from 0 us)))),
+    let u = c.index-us-a.result in (
+      omega (arith, c.list_node.ensures.few),
+      All-more (λ v. length v.arcs.to ≡ 16) us a u (omega arith) c.loop-a.invariant.1 (ap (λ v. length v.arcs.to) (sym c.index-us-a.is) ∙ c.list_node.ensures.wide),
+      subst (IsTold c.list_node.new.list) (sym (told_more us a u (omega arith) c.index-us-a.is)) (c.list_node.ensures.told (told_from 0 (take a us)) c.loop-a.invariant.2),
     )
 
-pub returns-clause-arcs : goal.returns-clause-arcs
-unfolding in_arcs
-returns-clause-arcs g c =
+pub returns : goal.returns
+returns g c =
     let us = c.args.us.now in
-    let E = enumerate_from 0 us in
-    record {
-      arcs = c.loop-a.invariant.2 ∙ ap (flat_map (λ p. listed_node p.0 p.1)) (take_all c.loop-a.a E (omega (arith, length-enumerate_from 0 us)));
-      wide = All-same (λ v. length v.arcs.to ≡ 16) us (take c.loop-a.a us) (sym (take_all c.loop-a.a us (omega arith))) c.loop-a.invariant.1;
-    }
+    let list = c.find_starts.new.list in
+    let all : take c.loop-a.a us ≡ us = take_all c.loop-a.a us (omega arith) in
+    let told : IsTold c.loop-a.list (told_from 0 us) = subst (λ vs. IsTold c.loop-a.list (told_from 0 vs)) all c.loop-a.invariant.2 in
+    let lists : Lists us us list = record {
+      told = subst (λ (l : InArcs). IsTold l (told_from 0 us)) (sym c.find_starts.ensures.same) (record { many = told.many; arcs = told.arcs; to = told.to });
+      few = omega (arith, ap (λ (l : InArcs). l.many) c.find_starts.ensures.same, c.loop-a.invariant.0, c.requires.few);
+      husks = refl;
+      wide = All-same (λ v. length v.arcs.to ≡ 16) us (take c.loop-a.a us) (sym all) c.loop-a.invariant.1;
+      early = c.find_starts.ensures.early;
+    } in
+    record { listed = listed-back us us list lists; same = written-back us us list lists }

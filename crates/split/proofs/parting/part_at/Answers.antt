@@ -17,6 +17,6 @@ returns g c =
     let zs = take (length xs - at) (drop at xs) in
     let same : zs ≡ drop at xs = take_all (length xs - at) (drop at xs) (omega (arith, length-drop at xs)) in
     record {
-      answer = c.part_node.ensures.answer ∙ ap (λ (vs : List (Node g.row.R-State.Denot g.row.T-Value.Denot)). group_check (alike by 0 (suc a) vs) (leb by.width m)) same;
-      records = rest_put at xs c.part_node.new.nodes ∙ ap (λ ys. take at xs ++ ys) (c.part_node.ensures.records ∙ ap (next_records by 0 a m) same) ∙ next-from by at a m xs;
+      answer = c.part_second.ensures.answer ∙ ap (λ (vs : List (Node g.row.R-State.Denot g.row.T-Value.Denot)). group_check (alike by 0 (suc a) vs) (leb by.width m)) same;
+      records = rest_put at xs c.part_second.new.nodes ∙ ap (λ ys. take at xs ++ ys) (c.part_second.ensures.records ∙ ap (next_records by 0 a m) same) ∙ next-from by at a m xs;
     }

@@ -1,66 +1,135 @@
-use Rattle.std.proofs.Common.{◌≡◌, ℕ, suc, ◌+◌, true, false, take, sym, ap, ◌∙◌, add-one, arith}
-use Rattle.layers.specs.Labels.{first_arrival}
-use Rattle.layers.specs.Settings.{lent_setting}
+use Rattle.std.proofs.Common.{◌≡◌, ℕ, suc, ◌+◌, ◌-◌, ◌≤◌, Bool, List, ◌++◌, map, length, get_or, set, take, drop, sym, ap, ◌∙◌, subst, ap₂, add-one, arith}
+use Rattle.std.proofs.lemmas.List.{take_at, drop_at, take-append-drop, length-take-le}
+use Rattle.layers.specs.declared.node.Node.{Node}
+use Rattle.layers.specs.declared.node.Label.{Label}
+use Rattle.layers.specs.Labels.{all_agree, first_arrival}
+use Rattle.layers.specs.Settings.{Setting, lent_setting}
 use Rattle.labels.specs.Passes.{arrivals, blank_node}
-use Rattle.split.specs.Steps.{alike}
+use Rattle.split.specs.declared.listing.InArcs.{InArcs}
+use Rattle.split.specs.Agreed.{kept_by}
+use Rattle.split.specs.Listed.{IsListed, written, told_records}
+use Rattle.split.specs.Parted.{or_unused, parted_node, parted_second}
+use Rattle.split.specs.Steps.{alike, parted_one, kept_first}
 use Rattle.split.proofs.Asking.{none-agree}
-use Rattle.split.proofs.Meets.{stay-said}
-use Rattle.split.proofs.Turns.{next-alike, next-full, next-parted}
+use Rattle.split.proofs.Meets.{stay-said, kept-same}
+use Rattle.split.proofs.Turns.{next-alike, next-full, next-parted, told-head, told-tail}
 use Rattle.split.proofs.parting.part_node.Goals as goal
 
-pub returns-in-None : goal.returns-in-None
-returns-in-None g c =
-    let by = lent_setting c.args.by.now (g.R.Rule.sense c.args.by.now.rule.now) (g.T.Tally.sense c.args.by.now.tally.now) in
-    let xs = c.args.nodes.now in
-    let a = c.args.a in
-    let same : alike by 0 (suc a) xs ≡ true = ap (λ (t : ℕ). alike by 0 t xs) (sym (add-one a)) ∙ none-agree by _ (c.in-None.ensures by) in
-    let n = next-alike by 0 a c.args.count xs same in
-    record { answer = n.0; records = n.1; listed = c.requires.listed }
+-- whether the in-arcs agree, of the records with the list written back
+agree-said : {S V : Type 0} (by : Setting S V) (xs us : List (Node S V)) (list : InArcs) (a : ℕ) → us ≡ take by.width xs → by.width ≤ length xs → IsListed us list
+    → alike by 0 (suc a) (told_records by.width list xs) ≡ all_agree by.rule (arrivals by (a + 1) (written us list))
+agree-said by xs us list a front le l = ap₂ (λ (t : ℕ) ys. all_agree by.rule (arrivals by t ys)) (sym (add-one a)) (told-head by.width xs us list front le l)
 
-pub returns-then-all_stay : goal.returns-then-all_stay
-returns-then-all_stay g c =
+whole : {X : Type 0} (w : ℕ) (xs us vs : List X) → us ≡ take w xs → vs ≡ drop w xs → us ++ vs ≡ xs
+whole w xs us vs e f = ap₂ (λ ys zs. ys ++ zs) e f ∙ take-append-drop w xs
+
+pub returns-in_default-clause-answer : goal.returns-in_default-clause-answer
+returns-in_default-clause-answer g c =
     let by = lent_setting c.args.by.now (g.R.Rule.sense c.args.by.now.rule.now) (g.T.Tally.sense c.args.by.now.tally.now) in
     let xs = c.args.nodes.now in
+    let list = c.args.list.now in
+    let front = c.split_at_mut-us.ensures.front in
+    let l = subst (λ ys. IsListed ys list) (sym front) c.requires.listed in
+    let same = agree-said by xs _ list c.args.a front (omega arith) l ∙ none-agree by _ (c.in_default.ensures by) in
+    (next-alike by 0 c.args.a c.args.count (told_records by.width list xs) same).0
+
+pub returns-in_default-clause-records : goal.returns-in_default-clause-records
+returns-in_default-clause-records g c =
+    let by = lent_setting c.args.by.now (g.R.Rule.sense c.args.by.now.rule.now) (g.T.Tally.sense c.args.by.now.tally.now) in
+    let xs = c.args.nodes.now in
+    let list = c.args.list.now in
+    let front = c.split_at_mut-us.ensures.front in
+    let l = subst (λ ys. IsListed ys list) (sym front) c.requires.listed in
+    let same = agree-said by xs _ list c.args.a front (omega arith) l ∙ none-agree by _ (c.in_default.ensures by) in
+    ap (told_records by.width list) (whole by.width xs _ _ front c.split_at_mut-us.ensures.back) ∙ (next-alike by 0 c.args.a c.args.count (told_records by.width list xs) same).1
+
+pub returns-in_default-first_leaving-clause-answer : goal.returns-in_default-first_leaving-clause-answer
+returns-in_default-first_leaving-clause-answer g c =
+    let by = lent_setting c.args.by.now (g.R.Rule.sense c.args.by.now.rule.now) (g.T.Tally.sense c.args.by.now.tally.now) in
+    let xs = c.args.nodes.now in
+    let list = c.args.list.now in
+    let us = c.split_at_mut-us.result.0.now in
+    let front = c.split_at_mut-us.ensures.front in
+    let l = subst (λ ys. IsListed ys list) (sym front) c.requires.listed in
+    let said = stay-said by (g.met.R.Rule.reflexive c.args.by.now.rule.now) (written us list) c.in-Some.first (c.args.a + 1) (omega arith) (c.in-Some.ensures by) in
+    let same = agree-said by xs us list c.args.a front (omega arith) l ∙ sym said ∙ c.in_default-first_leaving.ensures in
+    (next-alike by 0 c.args.a c.args.count (told_records by.width list xs) same).0
+
+pub returns-in_default-first_leaving-clause-records : goal.returns-in_default-first_leaving-clause-records
+returns-in_default-first_leaving-clause-records g c =
+    let by = lent_setting c.args.by.now (g.R.Rule.sense c.args.by.now.rule.now) (g.T.Tally.sense c.args.by.now.tally.now) in
+    let xs = c.args.nodes.now in
+    let list = c.args.list.now in
+    let us = c.split_at_mut-us.result.0.now in
+    let front = c.split_at_mut-us.ensures.front in
+    let l = subst (λ ys. IsListed ys list) (sym front) c.requires.listed in
+    let said = stay-said by (g.met.R.Rule.reflexive c.args.by.now.rule.now) (written us list) c.in-Some.first (c.args.a + 1) (omega arith) (c.in-Some.ensures by) in
+    let same = agree-said by xs us list c.args.a front (omega arith) l ∙ sym said ∙ c.in_default-first_leaving.ensures in
+    ap (told_records by.width list) (whole by.width xs _ _ front c.split_at_mut-us.ensures.back) ∙ (next-alike by 0 c.args.a c.args.count (told_records by.width list xs) same).1
+
+pub returns-then-count-by-clause-answer : goal.returns-then-count-by-clause-answer
+returns-then-count-by-clause-answer g c =
+    let by = lent_setting c.args.by.now (g.R.Rule.sense c.args.by.now.rule.now) (g.T.Tally.sense c.args.by.now.tally.now) in
+    let xs = c.args.nodes.now in
+    let list = c.args.list.now in
+    let us = c.split_at_mut-us.result.0.now in
+    let front = c.split_at_mut-us.ensures.front in
+    let l = subst (λ ys. IsListed ys list) (sym front) c.requires.listed in
+    let said = stay-said by (g.met.R.Rule.reflexive c.args.by.now.rule.now) (written us list) c.in-Some.first (c.args.a + 1) (omega arith) (c.in-Some.ensures by) in
+    let apart = agree-said by xs us list c.args.a front (omega arith) l ∙ sym said ∙ c.in-Some-first_leaving.ensures.2 in
+    (next-full by 0 c.args.a c.args.count (told_records by.width list xs) apart c.if-count-by.true).0
+
+pub returns-then-count-by-clause-records : goal.returns-then-count-by-clause-records
+returns-then-count-by-clause-records g c =
+    let by = lent_setting c.args.by.now (g.R.Rule.sense c.args.by.now.rule.now) (g.T.Tally.sense c.args.by.now.tally.now) in
+    let xs = c.args.nodes.now in
+    let list = c.args.list.now in
+    let us = c.split_at_mut-us.result.0.now in
+    let front = c.split_at_mut-us.ensures.front in
+    let l = subst (λ ys. IsListed ys list) (sym front) c.requires.listed in
+    let said = stay-said by (g.met.R.Rule.reflexive c.args.by.now.rule.now) (written us list) c.in-Some.first (c.args.a + 1) (omega arith) (c.in-Some.ensures by) in
+    let apart = agree-said by xs us list c.args.a front (omega arith) l ∙ sym said ∙ c.in-Some-first_leaving.ensures.2 in
+    ap (told_records by.width list) (whole by.width xs _ _ front c.split_at_mut-us.ensures.back) ∙ (next-full by 0 c.args.a c.args.count (told_records by.width list xs) apart c.if-count-by.true).1
+
+pub returns : goal.returns
+unfolding parted_one parted_second
+returns g c =
+    let by = lent_setting c.args.by.now (g.R.Rule.sense c.args.by.now.rule.now) (g.T.Tally.sense c.args.by.now.tally.now) in
+    let xs = c.args.nodes.now in
+    let w = by.width in
     let a = c.args.a in
+    let m = c.args.count in
     let z = blank_node by.rule by.tally in
-    let said = stay-said by (g.met.R.Rule.reflexive c.args.by.now.rule.now) z (take by.width xs) c.args.list.now c.in-Some.first (a + 1) c.all_stay.result
-    (omega arith) c.requires.listed.arcs (c.in-Some.ensures by) (c.all_stay.ensures z) in
-    let same : alike by 0 (suc a) xs ≡ true = ap (λ (t : ℕ). alike by 0 t xs) (sym (add-one a)) ∙ sym said ∙ c.if-all_stay.true in
-    let n = next-alike by 0 a c.args.count xs same in
-    record { answer = n.0; records = n.1; listed = c.requires.listed }
-
-pub returns-then-count-by : goal.returns-then-count-by
-returns-then-count-by g c =
-    let by = lent_setting c.args.by.now (g.R.Rule.sense c.args.by.now.rule.now) (g.T.Tally.sense c.args.by.now.tally.now) in
-    let xs = c.args.nodes.now in
-    let a = c.args.a in
-    let z = blank_node by.rule by.tally in
-    let said = stay-said by (g.met.R.Rule.reflexive c.args.by.now.rule.now) z (take by.width xs) c.args.list.now c.in-Some.first (a + 1) c.all_stay.result
-    (omega arith) c.requires.listed.arcs (c.in-Some.ensures by) (c.all_stay.ensures z) in
-    let apart : alike by 0 (suc a) xs ≡ false = ap (λ (t : ℕ). alike by 0 t xs) (sym (add-one a)) ∙ sym said ∙ c.if-all_stay.false in
-    let n = next-full by 0 a c.args.count xs apart c.if-count-by.true in
-    record { answer = n.0; records = n.1; listed = c.requires.listed }
-
-pub part_by-requires : goal.part_by-requires
-part_by-requires g c =
-    let by = lent_setting c.args.by.now (g.R.Rule.sense c.args.by.now.rule.now) (g.T.Tally.sense c.args.by.now.tally.now) in
+    let list = c.args.list.now in
+    let next = c.divide.new.list in
+    let us = c.split_at_mut-us.result.0.now in
+    let vs = c.split_at_mut-us.result.1.now in
+    let front : us ≡ take w xs = c.split_at_mut-us.ensures.front in
+    let back : vs ≡ drop w xs = c.split_at_mut-us.ensures.back in
+    let l = subst (λ ys. IsListed ys list) (sym front) c.requires.listed in
+    let le : w ≤ length xs = omega arith in
+    let R = told_records w list xs in
+    let long : length us ≡ w = ap (λ ys. length ys) front ∙ length-take-le w xs le in
+    let said = stay-said by (g.met.R.Rule.reflexive c.args.by.now.rule.now) (written us list) c.in-Some.first (a + 1) (omega arith) (c.in-Some.ensures by) in
+    let e = c.in-Some-first_leaving.ensures in
+    let apart = agree-said by xs us list a front le l ∙ sym said ∙ e.2 in
+    let n = next-parted by 0 a m R apart c.if-count-by.false in
+    let head : take w R ≡ written us list = told-head w xs us list front le l in
+    let tail : drop w R ≡ vs = told-tail w xs us list front le l ∙ sym back in
+    let rest = c.copy_record.new.vs in
+    let o = first_arrival (arrivals by (suc a) (take w R)) in
+    let first = c.in-Some.ensures by ∙ ap₂ (λ (t : ℕ) ys. first_arrival (arrivals by t ys)) (add-one a) (sym head) in
+    let keeps : Label g.row.R-State.Denot g.row.T-Value.Denot → ℕ → Bool = or_unused (λ u j. kept_by by.round by.rule c.in-Some.first u.down j) in
+    let stays : keeps ≡ kept_first by o = kept-same by c.in-Some.first o first in
+    let old : get_or list.to c.in-Some-first_leaving.from 0 - 1 ≡ a = omega (arith, e.1) in
+    let new : m + 1 - 1 ≡ m = omega arith in
+    let P : (Label g.row.R-State.Denot g.row.T-Value.Denot → ℕ → Bool) → ℕ → ℕ → List (Node g.row.R-State.Denot g.row.T-Value.Denot) → List (Node g.row.R-State.Denot g.row.T-Value.Denot) = λ f i j ys. map (parted_node f i j) ys in
+    let made : written us next ≡ map (parted_node (kept_first by o) a m) (take w R) =
+    c.divide.ensures.records ∙ ap₂ (λ i j. P keeps i j (written us list)) old new ∙ ap₂ (λ f ys. P f a m ys) stays (sym head) in
+    let last : rest ≡ set (drop w R) m (get_or (drop w R) a z) =
+    c.copy_record.ensures z ∙ ap (λ ys. set ys m (get_or ys a z)) (sym tail) in
     record {
-      two_in_bounds = c.requires.two_in_bounds;
-      width_bound = c.requires.width_bound;
-      a_lt_count = c.requires.a_lt_count;
-      count_lt_width = c.if-count-by.false;
-      listed = c.requires.listed;
-      is_first = c.in-Some.ensures by ∙ ap (λ (t : ℕ). first_arrival (arrivals by t (take by.width c.args.nodes.now))) (add-one c.args.a);
+      answer = n.0;
+      records = ap₂ (λ ys zs. ys ++ zs) (ap (λ ys. written ys next) (take_at us rest w long) ∙ made) (drop_at us rest w long ∙ last) ∙ n.1;
+      listed = subst (λ ys. IsListed ys next) (sym (take_at us rest w long)) c.divide.ensures.listed;
     }
-
-pub returns-else-count-by : goal.returns-else-count-by
-returns-else-count-by g c =
-    let by = lent_setting c.args.by.now (g.R.Rule.sense c.args.by.now.rule.now) (g.T.Tally.sense c.args.by.now.tally.now) in
-    let xs = c.args.nodes.now in
-    let a = c.args.a in
-    let z = blank_node by.rule by.tally in
-    let said = stay-said by (g.met.R.Rule.reflexive c.args.by.now.rule.now) z (take by.width xs) c.args.list.now c.in-Some.first (a + 1) c.all_stay.result
-    (omega arith) c.requires.listed.arcs (c.in-Some.ensures by) (c.all_stay.ensures z) in
-    let apart : alike by 0 (suc a) xs ≡ false = ap (λ (t : ℕ). alike by 0 t xs) (sym (add-one a)) ∙ sym said ∙ c.if-all_stay.false in
-    let n = next-parted by 0 a c.args.count xs apart c.if-count-by.false in
-    record { answer = n.0; records = c.part_by.ensures.records ∙ n.1; listed = c.part_by.ensures.listed }
