@@ -3,6 +3,7 @@ use Rattle.std.proofs.Common.{◌≡◌, ℕ, ◌+◌, ◌<◌, ◌≤◌, Bool,
 use mir.Val.{bool_byte}
 use Rattle.std.specs.List.{range_with_len, filter, flat_map}
 use Rattle.std.proofs.lemmas.Bool.{cases_eq, eq-eqb, ne_eqb}
+use Rattle.std.proofs.lemmas.Grind.{common_steps}
 use Rattle.std.proofs.lemmas.List.{take-set, take_more_set}
 use Rattle.std.proofs.lemmas.List.Elements.{filter-append}
 use Rattle.labels.specs.Passes.{doors_out}
@@ -40,3 +41,7 @@ brought_out F to none = go (range_with_len 0 16)
     go [] = refl
     go (k ∷ ks) =
         ⊎_elim (λ e. rw (eq-eqb (get_or to k 0) 0 e) (ap (λ xs. xs ++ flat_map F ks) (none k e) ∙ go ks)) (λ n. rw (ne_eqb (get_or to k 0) 0 n) (ap (λ xs. F k ++ xs) (go ks))) (cases_eq (get_or to k 0) 0)
+
+-- each is one of the sixteen
+pub listed_door : (xs : List ℕ) (m i : ℕ) → ((a : ℕ) → a < m → get_or xs a 0 < 16) → i < length (take m xs) → get_or (take m xs) i 0 < 16
+listed_door xs m i h lt = grind (arith, common_steps, h i)
