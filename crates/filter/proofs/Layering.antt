@@ -1,5 +1,6 @@
 -- A filter, one layer more.
-use Rattle.std.proofs.Common.{◌≡◌, ℕ, zero, suc, ◌+◌, ◌-◌, ◌*◌, ◌≢◌, Bool, ◌&&◌, List, [], ◌∷◌, ◌++◌, map, length, take, drop, Option, refl, sym, subst, add-one, arith}
+use Rattle.std.proofs.Common.{◌≡◌, ℕ, zero, suc, ◌+◌, ◌-◌, ◌*◌, ◌≢◌, Bool, ◌&&◌, List, [], ◌∷◌, ◌++◌, map, length, take, drop, Option, refl, sym, subst, ap, ◌∙◌, add-one, arith, take-append-drop}
+use Rattle.std.proofs.Math.Seq.{take-add}
 use Rattle.std.specs.List.{AllByRecursion as All, list_all}
 use Rattle.layers.specs.declared.node.Node.{Node}
 use Rattle.layers.specs.declared.node.Down.{Down}
@@ -30,30 +31,17 @@ module _ {S V : Type 0} (goes : ℕ → ℕ → ℕ → Option (Down S V) → Op
   stay-step (suc n) k xs row rest s = let m : suc n - 1 ≡ n = omega arith in rw (s.nodes, s.front, s.back, m, add-one i) refl
 
 -- what holds of all records of the layers holds of those of the first, and of the others
-all-none : {X : Type 0} (P : X → Type 0) (m : ℕ) → All P (take m [])
-all-none P zero = tt
-all-none P (suc m) = tt
-
-all-both : {X : Type 0} (P : X → Type 0) (w m : ℕ) (xs : List X) → All P (take (w + m) xs) → All P (take w xs) × All P (take m (drop w xs))
-all-both P zero m [] h = (tt, all-none P m)
-all-both P zero m (x ∷ xs) h = (tt, subst (λ (k : ℕ). All P (take k (x ∷ xs))) (omega arith) h)
-all-both P (suc w) m [] h = (tt, all-none P m)
-all-both P (suc w) m (x ∷ xs) h =
-    let e : suc w + m ≡ suc (w + m) = omega arith in
-    let p : All P (take (suc (w + m)) (x ∷ xs)) = subst (λ (k : ℕ). All P (take k (x ∷ xs))) e h in
-    let q = all-both P w m xs p.1 in
-    ((p.0, q.0), q.1)
-
-all-first : {X : Type 0} (P : X → Type 0) (k : ℕ) (xs : List X) → All P xs → All P (take k xs)
-all-first P zero xs h = tt
-all-first P (suc k) [] h = tt
-all-first P (suc k) (x ∷ xs) h = (h.0, all-first P k xs h.1)
+all-parts : {X : Type 0} (P : X → Type 0) (xs ys : List X) → All P (xs ++ ys) → All P xs × All P ys
+all-parts P [] ys h = (tt, h)
+all-parts P (x ∷ xs) ys h = let q = all-parts P xs ys h.1 in ((h.0, q.0), q.1)
 
 all-layers : {X : Type 0} (P : X → Type 0) (w left : ℕ) (xs : List X) → left ≢ 0 → All P (take (left * w) xs) → All P (take w xs) × All P (take ((left - 1) * w) (drop w xs))
-all-layers P w left xs ne h = all-both P w ((left - 1) * w) xs (subst (λ (k : ℕ). All P (take k xs)) (omega (arith, one_more left w ne)) h)
+all-layers P w left xs ne h =
+    let more : left * w ≡ w + (left - 1) * w = omega (arith, one_more left w ne) in
+    all-parts P (take w xs) (take ((left - 1) * w) (drop w xs)) (subst (All P) (ap (λ k. take k xs) more ∙ take-add w ((left - 1) * w) xs) h)
 
 pub fits_here : {X : Type 0} (P : X → Type 0) (w left k : ℕ) (xs row : List X) → left ≢ 0 → row ≡ take w xs → All P (take (left * w) xs) → All P (take k row)
-fits_here P w left k xs row ne front h = all-first P k row (subst (All P) (sym front) (all-layers P w left xs ne h).0)
+fits_here P w left k xs row ne front h = (all-parts P (take k row) (drop k row) (subst (All P) (sym (take-append-drop k row ∙ front)) (all-layers P w left xs ne h).0)).0
 
 pub fits_later : {X : Type 0} (P : X → Type 0) (w left : ℕ) (xs rest : List X) → left ≢ 0 → rest ≡ drop w xs → All P (take (left * w) xs) → All P (take ((left - 1) * w) rest)
 fits_later P w left xs rest ne back h = subst (λ ys. All P (take ((left - 1) * w) ys)) (sym back) (all-layers P w left xs ne h).1

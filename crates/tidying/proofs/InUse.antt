@@ -30,10 +30,6 @@ module _ {S V : Type 0} where
   nodes-past [] = refl
   nodes-past (u ∷ us) = elim (cases_Bool (is_used u)) [ inl e ↦ rw e (nodes-past us) | inr e ↦ rw (e, e) refl ]
 
-  -- a pass over the first k places, which are the nodes
-  pub pass-done : (f : List (Node S V) → List (Node S V)) (us row ys : List (Node S V)) (k : ℕ) → row ≡ us → k ≡ length (nodes_in row) → take k row ≡ nodes_in row → ys ≡ f (take k row) → ys ++ drop k row ≡ on_nodes f us
-  pass-done f us row ys k whole many first done = rw (done, first, many, whole) refl
-
   module _ (f : Node S V → Node S V) where
     pub mapped-long : (us : List (Node S V)) → length (on_nodes (map f) us) ≡ length us
     mapped-long us = omega (arith, length-append (map f (nodes_in us)) (drop (length (nodes_in us)) us), length-map (nodes_in us) f, length-drop (length (nodes_in us)) us, standing-short us)

@@ -37,14 +37,6 @@ pub arcs_counted : {S V : Type 0} (x : Node S V) → length x.arcs.to ≡ 16 →
 unfolding arcs_of
 arcs_counted x long = doors-counted (targets x) ∙ ap (sum_by one_if) (targets_read x long)
 
--- read door by door, and written so
-pub arcs_read : {S V : Type 0} (x : Node S V) → arcs_of x ≡ sum_by one_if (map (λ k. get_or x.arcs.to k 0) (range_with_len 0 16))
-unfolding arcs_of targets
-arcs_read x = doors-counted (targets x)
-
-pub arcs_written : {S V : Type 0} (f : ℕ → ℕ) (x : Node S V) → x.arcs.to ≡ map f (range_with_len 0 16) → arcs_of x ≡ sum_by one_if (map f (range_with_len 0 16))
-arcs_written f x e = arcs_counted x (ap length e) ∙ ap (sum_by one_if) e
-
 pub arcs-summed : {S V : Type 0} (xs : List (Node S V)) → arcs_within xs ≡ sum_by arcs_of xs
 unfolding arcs_within arcs_of count_layer
 arcs-summed [] = refl
