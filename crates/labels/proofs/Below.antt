@@ -1,97 +1,27 @@
 -- What the passes keep, and that labels that stand need not be worked out anew.
-use Rattle.std.proofs.Common.{◌≡◌, ℕ, zero, suc, ◌+◌, ◌-◌, ◌*◌, ◌≤◌, true, ◌&&◌, List, [], ◌∷◌, ◌++◌, map, length, get_or, take, drop, sym, refl, ap, ◌∙◌, subst, ap₂, suc-mul, zero-mul, zero-add, arith}
-use Rattle.std.specs.List.{range_with_len, AllByRecursion as All}
-use Rattle.std.proofs.lemmas.List.{same_lists, get_or-map, length-map, map-append, take-map, take-take, take-append-drop, append_assoc, length-append, take_at, drop_at, drop-drop, drop-take, length-take-le, length-drop}
+use Rattle.std.proofs.Common.{◌≡◌, ℕ, zero, suc, ◌+◌, ◌-◌, ◌*◌, ◌≤◌, true, ◌&&◌, leb, List, [], ◌∷◌, ◌++◌, map, length, take, drop, sym, refl, ap, ◌∙◌, subst, ap₂, suc-mul, zero-mul, zero-add, arith}
+use Rattle.std.specs.List.{AllByRecursion as All}
+use Rattle.std.proofs.lemmas.List.{take-take, take-append-drop, append_assoc, length-append, take_at, drop_at, drop-drop, drop-take, length-take-le, length-drop}
 use Rattle.std.proofs.lemmas.Bool.{cond-true, and_from, le-leb}
-use Rattle.std.proofs.lemmas.List.FromFn.{get_or-map-range_with_len, length-map-range_with_len}
 use Rattle.std.proofs.Math.Seq.{take-add}
 use Rattle.std.proofs.Math.Nat.{mul-le-mul_right}
 use Rattle.round.specs.Clock.{latest_finish}
 use Rattle.layers.specs.declared.node.Node.{Node}
-use Rattle.layers.specs.declared.node.Arcs.{Arcs}
-use Rattle.layers.specs.declared.node.Label.{Label}
-use Rattle.layers.specs.declared.node.Down.{Down}
-use Rattle.layers.specs.declared.node.Up.{Up}
 use Rattle.layers.specs.Net.{Net}
 use Rattle.layers.specs.Lawful.{IsLawful}
 use Rattle.layers.specs.Records.{arcs_read, laid_arcs}
 use Rattle.layers.specs.Calls.{records_with}
 use Rattle.layers.specs.Settings.{Setting}
-use Rattle.labels.specs.Passes.{Early, part, with_down, with_up, blank_node, cleared, first_layer, next_layer, labelled, labelled_after, pass_down, risen, risen_from, pass_up, relabelled, fits, may_follow, relabelled_below, below_steps, HasUps, HasDownsBefore}
-use Rattle.labels.proofs.Climbs.{down_of, up_of}
+use Rattle.labels.specs.Passes.{Early, part, first_layer, next_layer, labelled_after, pass_down, renewed_after, pass_up, relabelled_used, relabelled, fits, below_steps, HasUps, HasDownsBefore, HasPlaces}
+use Rattle.labels.proofs.Climbs.{arcs_of, down_of, up_of}
 use Rattle.labels.proofs.Earlies.{first-long, next-long, next-early, first_early}
-use Rattle.labels.proofs.Laying.{arcs_of, relabelled-read}
-use Rattle.labels.proofs.Rooms.{room-facts, in_time-from}
-
-module _ {S V : Type 0} where
-  -- records are the same by their arcs and their labels
-  pub same-records : (xs ys : List (Node S V)) → map arcs_of xs ≡ map arcs_of ys → map down_of xs ≡ map down_of ys → map up_of xs ≡ map up_of ys → xs ≡ ys
-  same-records [] [] a d u = refl
-  same-records [] (y ∷ ys) a d u = absurd cc
-  same-records (x ∷ xs) [] a d u = absurd cc
-  same-records (x ∷ xs) (y ∷ ys) a d u =
-      let rest : map arcs_of xs ≡ map arcs_of ys = cc in
-      let ds : map down_of xs ≡ map down_of ys = cc in
-      let us : map up_of xs ≡ map up_of ys = cc in
-      let arcs : x.arcs ≡ y.arcs = cc in
-      let down : x.label.down ≡ y.label.down = cc in
-      let up : x.label.up ≡ y.label.up = cc in
-      ap₂ (λ z zs. z ∷ zs) (ap₂ (λ (o : Arcs) (l : Label S V). record { arcs = o; label = l }) arcs (ap₂ (λ (o : Down S V) (u : Up). record { down = o; up = u }) down up)) (same-records xs ys rest ds us)
-
-  fronts : {X : Type 0} (f : Node S V → X) (k : ℕ) (xs ys : List (Node S V)) → map f xs ≡ map f ys → map f (take k xs) ≡ map f (take k ys)
-  fronts f k xs ys e = sym (take-map f k xs) ∙ ap (take k) e ∙ take-map f k ys
-
-  -- two parts, each the same to f
-  pub in-parts : {X : Type 0} (f : Node S V → X) (k : ℕ) (A B xs : List (Node S V)) → map f A ≡ map f (take k xs) → map f B ≡ map f (drop k xs) → map f (A ++ B) ≡ map f xs
-  in-parts f k A B xs a b = map-append f A B ∙ ap₂ (λ ys zs. ys ++ zs) a b ∙ sym (map-append f (take k xs) (drop k xs)) ∙ ap (map f) (take-append-drop k xs)
-
-  -- ---- the pass up keeps what is not an upward set
-  module _ {X : Type 0} (f : Node S V → X) (h : (x : Node S V) (u : Up) → f (with_up x u) ≡ f x) where
-    all-kept : (F : Node S V → Up) (us : List (Node S V)) → map f (map (λ u. with_up u (F u)) us) ≡ map f us
-    all-kept F [] = refl
-    all-kept F (u ∷ us) = ap₂ (λ y ys. y ∷ ys) (h u (F u)) (all-kept F us)
-
-    rises_keep : (w k : ℕ) (xs : List (Node S V)) → map f (risen_from w k xs) ≡ map f xs
-    unfolding risen_from risen
-    rises_keep w zero xs = in-parts f w _ _ xs (all-kept _ (take w xs)) (in-parts f 1 _ _ (drop w xs) (all-kept _ (take 1 (drop w xs))) refl)
-    rises_keep w (suc k) xs = in-parts f w _ _ xs (all-kept _ (take w xs)) (rises_keep w k (drop w xs))
+use Rattle.labels.proofs.Keeps.{same-records, fronts, rises_keep, down_keeps}
+use Rattle.labels.proofs.Laying.{passed, passed-lawful, used-lawful, relabelled-lawful, read-arranged, ready-spare, has-ready}
+use Rattle.labels.proofs.Places.{Ready, after-is}
+use Rattle.labels.proofs.Rests.{layers_in}
+use Rattle.labels.proofs.Rooms.{room-facts}
 
 module _ {S V : Type 0} (by : Setting S V) where
-  -- ---- the pass down keeps what is not a downward label
-  module _ {X : Type 0} (f : Node S V → X) (h : (x : Node S V) (l : Down S V) → f (with_down x l) ≡ f x) where
-    next-keeps : (us vs : List (Node S V)) → map f (next_layer by us vs) ≡ map f vs
-    unfolding next_layer labelled
-    next-keeps us vs =
-        let g = labelled by us vs in
-        let n = length vs in
-        let z = blank_node by.rule by.tally in
-        let long : length (map f (map g (range_with_len 0 n))) ≡ n = length-map (map g (range_with_len 0 n)) f ∙ length-map-range_with_len g 0 n in
-        same_lists (map f (map g (range_with_len 0 n))) (map f vs) (long ∙ sym (length-map vs f))
-        (λ b d lt.
-        get_or-map f (map g (range_with_len 0 n)) b z d (omega (arith, long, length-map-range_with_len g 0 n))
-        ∙ ap f (get_or-map-range_with_len g 0 n b b z (omega (arith, long)) (omega arith))
-        ∙ h (get_or vs b z) (g b).label.down ∙ sym (get_or-map f vs b z d (omega (arith, long))))
-
-    after-keeps : (k : ℕ) (xs : List (Node S V)) → map f (labelled_after by k xs) ≡ map f xs
-    unfolding labelled_after
-    after-keeps zero xs = let us = take by.width xs in let rest = drop by.width xs in in-parts f by.width _ _ xs refl (in-parts f 1 _ _ rest (next-keeps us (take 1 rest)) refl)
-    after-keeps (suc k) xs =
-        let us = take by.width xs in
-        let rest = drop by.width xs in
-        in-parts f by.width _ _ xs refl (after-keeps k (next_layer by us (take by.width rest) ++ drop by.width rest) ∙ in-parts f by.width _ _ rest (next-keeps us (take by.width rest)) refl)
-
-    first-keeps : (us : List (Node S V)) → map f (first_layer by.rule by.tally us) ≡ map f us
-    first-keeps [] = refl
-    first-keeps (u ∷ us) = ap₂ (λ y ys. y ∷ ys) (h u _) (rest us)
-      where
-        rest : (us : List (Node S V)) → map f (map (cleared by.rule by.tally) us) ≡ map f us
-        rest [] = refl
-        rest (u ∷ us) = ap₂ (λ y ys. y ∷ ys) (h u _) (rest us)
-
-    down_keeps : (xs : List (Node S V)) → map f (pass_down by xs) ≡ map f xs
-    unfolding pass_down
-    down_keeps xs = after-keeps (by.round.n - 1) _ ∙ in-parts f by.width _ _ xs (first-keeps (take by.width xs)) refl
-
   -- ---- labels that stand
   -- the layer in front stays
   after-front : (k : ℕ) (xs : List (Node S V)) → by.width ≤ length xs → take by.width (labelled_after by k xs) ≡ take by.width xs
@@ -159,8 +89,12 @@ module _ {S V : Type 0} (by : Setting S V) where
         rw (one, ← e') ih.1,
       )
 
-  stood-down : (i : ℕ) (xs : List (Node S V)) → 1 ≤ i → i ≤ by.round.n → StoodFirst (i - 1) xs → (pass_down by xs ≡ relabelled_below by i xs) × All (Early (latest_finish (i - 1))) (part ((i - 1) * by.width) by.width xs)
-  unfolding pass_down relabelled_below
+  -- the downward labels from layer i on, over all places
+  abbrev below : ℕ → List (Node S V) → List (Node S V)
+  below i xs = let at = (i - 1) * by.width in take at xs ++ labelled_after by (by.round.n - i) (drop at xs)
+
+  stood-down : (i : ℕ) (xs : List (Node S V)) → 1 ≤ i → i ≤ by.round.n → StoodFirst (i - 1) xs → (pass_down by xs ≡ below i xs) × All (Early (latest_finish (i - 1))) (part ((i - 1) * by.width) by.width xs)
+  unfolding pass_down
   stood-down i xs low high h =
       let w = by.width in
       let n = by.round.n in
@@ -173,30 +107,48 @@ module _ {S V : Type 0} (by : Setting S V) where
   layer-more i low = let e : i ≡ suc (i - 1) = omega arith in ap (λ (k : ℕ). k * by.width) e ∙ suc-mul (i - 1) by.width
 
   -- if the upward sets stand too
-  risen-is : (xs : List (Node S V)) → map up_of xs ≡ map up_of (relabelled by xs) → pass_down by xs ≡ relabelled by xs
-  unfolding relabelled
+  risen-is : (xs : List (Node S V)) → map up_of xs ≡ map up_of (passed by xs) → pass_down by xs ≡ passed by xs
+  unfolding pass_up
   risen-is xs ups =
       let P = pass_down by xs in
       let k = by.round.n - 1 in
-      same-records P (pass_up by.round.n by.width P) (sym (rises_keep arcs_of (λ x u. refl) by.width k P)) (sym (rises_keep down_of (λ x u. refl) by.width k P)) (down_keeps up_of (λ x l. refl) xs ∙ ups)
+      same-records P (pass_up by.round.n by.width P) (sym (rises_keep arcs_of (λ x u. refl) by.width k P)) (sym (rises_keep down_of (λ x u. refl) by.width k P)) (down_keeps by up_of (λ x l. refl) xs ∙ ups)
 
-  pub below-stood : (i : ℕ) (xs : List (Node S V)) → fits by.round.n by.width (length xs) ≡ true → 1 ≤ i → i ≤ by.round.n → map up_of xs ≡ map up_of (relabelled by xs) → StoodFirst (i - 1) xs → below_steps by i xs ≡ relabelled by xs
+  ready-on : (i : ℕ) (Ls : Net) (xs : List (Node S V)) → Ready by Ls xs → Ready by (drop i Ls) (drop (i * by.width) xs)
+  ready-on zero Ls xs r = let none : 0 * by.width ≡ 0 = zero-mul by.width in rw none r
+  ready-on (suc i) [] xs r = tt
+  ready-on (suc i) (L ∷ Ls) xs r =
+      let less : by.width + i * by.width ≡ suc i * by.width = omega (arith, suc-mul i by.width) in
+      subst (Ready by (drop i Ls)) (drop-drop (i * by.width) by.width xs ∙ ap (λ (k : ℕ). drop k xs) less) (ready-on i Ls (drop by.width xs) r.1)
+
+  pub below-stood : (i : ℕ) (Ls : Net) (xs : List (Node S V)) → fits by.round.n by.width (length xs) ≡ true → length Ls ≡ by.round.n → Ready by Ls xs → 1 ≤ i → i ≤ by.round.n
+      → map up_of xs ≡ map up_of (passed by xs) → StoodFirst (i - 1) xs → below_steps by i xs ≡ passed by xs
   unfolding below_steps
-  below-stood i xs fit low high ups h =
+  below-stood i Ls xs fit deep ready low high ups h =
+      let w = by.width in
+      let n = by.round.n in
+      let at = (i - 1) * w in
       let r = stood-down i xs low high h in
-      let may : may_follow by i xs ≡ true = and_from _ _ (le-leb 1 i low) (and_from _ _ (le-leb i by.round.n high) (in_time-from (latest_finish (i - 1)) _ r.1)) in
-      cond-true (fits by.round.n by.width (length xs) && may_follow by i xs) _ _ (and_from _ _ fit may) ∙ sym r.0 ∙ risen-is xs ups
+      let may : (fits n w (length xs) && (leb 1 i && leb i n)) ≡ true = and_from _ _ fit (and_from _ _ (le-leb 1 i low) (le-leb i n high)) in
+      let few : length (drop i Ls) ≡ n - i = length-drop i Ls ∙ ap (λ (k : ℕ). k - i) deep in
+      let on : Ready by (drop i Ls) (drop w (drop at xs)) = rw (drop-drop w at xs, ← layer-more i low) (ready-on i Ls xs ready) in
+      let same : renewed_after by (n - i) (drop at xs) ≡ labelled_after by (n - i) (drop at xs) =
+      ap (λ (k : ℕ). renewed_after by k (drop at xs)) (sym few)
+      ∙ after-is by (drop i Ls) (i - 1) (drop at xs) (omega (arith, by.round.most, few)) r.1 on
+      (rw few (omega (arith, layers_in i n w low high, length-drop at xs, (room-facts n w (length xs) fit).enough)))
+      ∙ ap (λ (k : ℕ). labelled_after by k (drop at xs)) few in
+      cond-true (fits n w (length xs) && (leb 1 i && leb i n)) _ _ may ∙ ap (λ ys. take at xs ++ ys) same ∙ sym r.0 ∙ risen-is xs ups
 
   -- if the passes leave the upward sets, and the downward labels of the layers before layer i, these stand
-  pub stood-laid : (i : ℕ) (xs : List (Node S V)) → 1 ≤ i → i ≤ by.round.n → by.round.n * by.width + 1 ≤ length xs → map up_of xs ≡ map up_of (relabelled by xs)
-      → map down_of (take (i * by.width) xs) ≡ map down_of (take (i * by.width) (relabelled by xs)) → StoodFirst (i - 1) xs
+  pub stood-laid : (i : ℕ) (xs : List (Node S V)) → 1 ≤ i → i ≤ by.round.n → by.round.n * by.width + 1 ≤ length xs → map up_of xs ≡ map up_of (passed by xs)
+      → map down_of (take (i * by.width) xs) ≡ map down_of (take (i * by.width) (passed by xs)) → StoodFirst (i - 1) xs
   unfolding pass_down
   stood-laid i xs low high fit ups downs =
       let w = by.width in
       let n = by.round.n in
       let P = pass_down by xs in
       let stands : take (i * w) xs ≡ take (i * w) P =
-      same-records (take (i * w) xs) (take (i * w) P) (fronts arcs_of (i * w) xs P (sym (down_keeps arcs_of (λ x l. refl) xs))) (downs ∙ ap (λ ys. map down_of (take (i * w) ys)) (sym (risen-is xs ups))) (fronts up_of (i * w) xs P (sym (down_keeps up_of (λ x l. refl) xs))) in
+      same-records (take (i * w) xs) (take (i * w) P) (fronts arcs_of (i * w) xs P (sym (down_keeps by arcs_of (λ x l. refl) xs))) (downs ∙ ap (λ ys. map down_of (take (i * w) ys)) (sym (risen-is xs ups))) (fronts up_of (i * w) xs P (sym (down_keeps by up_of (λ x l. refl) xs))) in
       let some : i * w ≡ suc (i - 1) * w = (let e : i ≡ suc (i - 1) = omega arith in ap (λ (k : ℕ). k * w) e) in
       let least : w ≤ i * w = omega (arith, layer-more i low) in
       let most : i * w ≤ n * w = mul-le-mul_right w high in
@@ -211,9 +163,21 @@ module _ {S V : Type 0} (by : Setting S V) where
 
   -- of arcs that a diagram may have
   pub below-laid : (i : ℕ) (Ls : Net) (xs : List (Node S V)) → fits by.round.n by.width (length xs) ≡ true → 1 ≤ i → i ≤ by.round.n → IsLawful by.round.n by.width Ls
-      → arcs_read (take (by.round.n * by.width + 1) xs) ≡ laid_arcs by.width Ls → HasUps by Ls xs → HasDownsBefore by i Ls xs → below_steps by i xs ≡ records_with by xs Ls
-  below-laid i Ls xs fit low high p e ups downs =
+      → arcs_read (take (by.round.n * by.width + 1) xs) ≡ laid_arcs by.width Ls → HasUps by Ls xs → HasDownsBefore by i Ls xs → HasPlaces by Ls xs → below_steps by i xs ≡ records_with by xs Ls
+  below-laid i Ls xs fit low high p e ups downs has =
       let room = (room-facts by.round.n by.width (length xs) fit).enough in
-      let is : relabelled by xs ≡ records_with by xs Ls = relabelled-read by Ls xs p room e in
+      let ready = has-ready by Ls xs p room has in
+      let is : passed by xs ≡ records_with by xs Ls = passed-lawful by Ls xs p (read-arranged by Ls xs p room e) (ready-spare by Ls xs ready) in
       let up = ups ∙ ap (map up_of) (sym is) in
-      below-stood i xs fit low high up (stood-laid i xs low high room up (downs ∙ ap (λ ys. map down_of (take (i * by.width) ys)) (sym is))) ∙ is
+      below-stood i Ls xs fit p.deep ready low high up (stood-laid i xs low high room up (downs ∙ ap (λ ys. map down_of (take (i * by.width) ys)) (sym is))) ∙ is
+
+  -- the two public calls, of arcs that are read off the list
+  pub used-read : (Ls : Net) (xs : List (Node S V)) → fits by.round.n by.width (length xs) ≡ true → IsLawful by.round.n by.width Ls
+      → arcs_read (take (by.round.n * by.width + 1) xs) ≡ laid_arcs by.width Ls → HasPlaces by Ls xs → relabelled_used by xs ≡ records_with by xs Ls
+  used-read Ls xs fit p e has =
+      let room = (room-facts by.round.n by.width (length xs) fit).enough in
+      used-lawful by Ls xs p (read-arranged by Ls xs p room e) (has-ready by Ls xs p room has)
+
+  pub relabelled-read : (Ls : Net) (xs : List (Node S V)) → fits by.round.n by.width (length xs) ≡ true → IsLawful by.round.n by.width Ls
+      → arcs_read (take (by.round.n * by.width + 1) xs) ≡ laid_arcs by.width Ls → relabelled by xs ≡ records_with by xs Ls
+  relabelled-read Ls xs fit p e = relabelled-lawful by Ls xs p (read-arranged by Ls xs p (room-facts by.round.n by.width (length xs) fit).enough e)

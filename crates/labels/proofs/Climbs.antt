@@ -4,6 +4,7 @@ use Rattle.std.specs.List.{range_with_len, flat_map}
 use Rattle.std.proofs.lemmas.List.{get_or_past, get_or-map, length-map, take-map, drop-map}
 use Rattle.std.proofs.lemmas.Simd.{map-map}
 use Rattle.std.proofs.lemmas.Bool.{cases_lt, ne_eqb}
+use Rattle.layers.specs.declared.node.Arcs.{Arcs}
 use Rattle.layers.specs.declared.node.Node.{Node}
 use Rattle.layers.specs.declared.node.Down.{Down}
 use Rattle.layers.specs.declared.node.Up.{Up}
@@ -101,6 +102,9 @@ numbered-map : {X Y : Type 0} (f : X → Y) (t : ℕ) (vs : List X) → map f (n
 numbered-map f t vs = map-cond f (eqb t 0) (take 1 (drop (t - 1) vs)) ∙ ap (λ ys. cond (eqb t 0) [] ys) (sym (take-map f 1 (drop (t - 1) vs)) ∙ ap (take 1) (sym (drop-map f (t - 1) vs)))
 
 module _ {S V : Type 0} where
+  abbrev pub arcs_of : Node S V → Arcs
+  arcs_of x = x.arcs
+
   abbrev pub down_of : Node S V → Down S V
   down_of x = x.label.down
 

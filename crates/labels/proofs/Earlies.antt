@@ -1,6 +1,6 @@
 -- No finish of a layer is above what the clock allows after so many steps.
-use Rattle.std.proofs.Common.{◌≡◌, ℕ, zero, suc, ◌+◌, ◌-◌, ◌≤◌, ◌≢◌, List, [], ◌∷◌, ◌++◌, map, length, take, drop, sym, refl, ap, ◌∙◌, subst, arith}
-use Rattle.std.proofs.lemmas.List.{length-map, take_at, length-take-le}
+use Rattle.std.proofs.Common.{◌≡◌, ℕ, zero, suc, ◌+◌, ◌-◌, ◌≤◌, ◌≢◌, List, [], ◌∷◌, ◌++◌, map, length, take, drop, sym, refl, ap, subst, arith}
+use Rattle.std.proofs.lemmas.List.{length-map}
 use Rattle.std.specs.List.{range_with_len, AllByRecursion as All}
 use Rattle.std.proofs.ByRecursion.{All-from_get_or}
 use Rattle.std.proofs.lemmas.List.FromFn.{get_or-map-range_with_len, length-map-range_with_len}
@@ -12,8 +12,8 @@ use Rattle.tallies.specs.Tallies.{TallySense}
 use Rattle.layers.specs.declared.node.Node.{Node}
 use Rattle.layers.specs.declared.node.Down.{Down}
 use Rattle.layers.specs.Labels.{leg, arrival_over, merge, blank_label}
-use Rattle.labels.specs.Passes.{arrivals, cleared, with_down, Early, blank_node, gathered, labelled, next_layer, labelled_after, first_layer}
-use Rattle.labels.proofs.Folds.{all_mono, folded_keeps}
+use Rattle.labels.specs.Passes.{arrivals, cleared, with_down, Early, blank_node, gathered, labelled, next_layer, next_renewed, renewed_after, first_layer}
+use Rattle.labels.proofs.Folds.{folded_keeps}
 use Rattle.labels.proofs.Scattered.{all-arrivals}
 use Rattle.labels.proofs.Legs.{leg-most}
 use Rattle.layers.specs.Settings.{Setting}
@@ -63,28 +63,9 @@ module _ {S V : Type 0} (by : Setting S V) where
   unfolding next_layer
   next-long us vs = length-map-range_with_len (labelled by us vs) 0 (length vs)
 
--- with so many layers between this one and the end, of at most sixteen
-pub early_at_last : {S V : Type 0} (later : ℕ) (us : List (Node S V)) → All (Early (latest_finish (15 - later))) us → All (Early (latest_finish 15)) us
-early_at_last later us h = all_mono (Early (latest_finish (15 - later))) (Early (latest_finish 15)) (λ u e. omega arith) us h
-
--- and the layer after it
-pub early_on : {S V : Type 0} (by : Setting S V) (later : ℕ) (us rest : List (Node S V)) → later ≢ 0 → later ≤ 15 → by.width ≤ length rest
-    → All (Early (latest_finish (15 - later))) us
-    → All (Early (latest_finish (15 - (later - 1)))) (take by.width (next_layer by us (take by.width rest) ++ drop by.width rest))
-early_on by later us rest ne most room h =
-    let N = next_layer by us (take by.width rest) in
-    let k : suc (15 - later) ≡ 15 - (later - 1) = omega arith in
-    rw (take_at N (drop by.width rest) by.width (next-long by us (take by.width rest) ∙ length-take-le by.width rest room), ← k)
-    (next-early by (15 - later) us (take by.width rest) h)
-
 pub after_more : {S V : Type 0} (by : Setting S V) (k : ℕ) (xs : List (Node S V)) → k ≢ 0
-    → labelled_after by k xs
-    ≡ take by.width xs ++ labelled_after by (k - 1) (next_layer by (take by.width xs) (take by.width (drop by.width xs)) ++ drop by.width (drop by.width xs))
-unfolding labelled_after
+    → renewed_after by k xs
+    ≡ take by.width xs ++ renewed_after by (k - 1) (next_renewed by (take by.width xs) (take by.width (drop by.width xs)) ++ drop by.width (drop by.width xs))
+unfolding renewed_after
 after_more by zero xs ne = absurd (ne refl)
 after_more by (suc k) xs ne = let e : suc k - 1 ≡ k = omega arith in rw e
-
-pub early_first : {S V : Type 0} (by : Setting S V) (n : ℕ) (us rest : List (Node S V)) → length us ≡ by.width
-    → All (Early (latest_finish n)) (take by.width (first_layer by.rule by.tally us ++ rest))
-early_first by n us rest e = rw (take_at (first_layer by.rule by.tally us) rest by.width (first-long by.rule by.tally us ∙ e))
-    (all_mono (Early (latest_finish 0)) (Early (latest_finish n)) (λ u h. omega arith) (first_layer by.rule by.tally us) (first_early by us))

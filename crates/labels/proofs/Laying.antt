@@ -1,13 +1,15 @@
 -- The two passes over records with the arcs of a net leave the net laid out with its labels.
-use Rattle.std.proofs.Common.{◌≡◌, ℕ, zero, suc, ◌+◌, ◌-◌, ◌*◌, ◌<◌, ◌≤◌, Bool, true, false, cond, eqb, List, [], ◌∷◌, ◌++◌, map, length, get_or, take, drop, Some, None, fold, Option, sym, refl, ap, ◌∙◌, subst, ap₂, inl, ⊎_elim, append_assoc, suc-mul, zero-mul, add-one, arith}
+use Rattle.std.proofs.Common.{◌≡◌, ℕ, zero, suc, ◌+◌, ◌-◌, ◌*◌, ◌<◌, ◌≤◌, Bool, true, false, cond, not, eqb, List, [], ◌∷◌, ◌++◌, map, length, get_or, take, drop, Some, None, fold, Option, sym, refl, ap, ◌∙◌, subst, ap₂, inl, ⊎_elim, append_assoc, suc-mul, zero-mul, add-one, arith}
 use Rattle.std.specs.List.{range_with_len, flat_map}
 use Rattle.std.proofs.lemmas.List.FromFn.{get_or-map-range_with_len, length-map-range_with_len}
 use Rattle.std.proofs.Math.Seq.{take-add}
-use Rattle.std.proofs.lemmas.List.{map-append, same_lists, get_or-map, get_or_past, length-map, drop-drop, drop_at, take_at, length-take-le, length-drop}
+use Rattle.std.proofs.lemmas.List.{map-append, same_lists, get_or-map, get_or_past, length-map, drop-drop, drop-map, drop_at, take-map, take_at, length-append, length-take, length-take-le, length-drop, get_or-take, get_or-drop, get_or_append_left}
+use Rattle.std.proofs.lemmas.Simd.{map-map}
 use Rattle.std.proofs.lemmas.Bool.{cases_lt, cond_both, ne_eqb}
 use Rattle.layers.specs.declared.node.Arcs.{Arcs}
 use Rattle.layers.specs.declared.node.Node.{Node}
 use Rattle.layers.specs.declared.node.Down.{Down}
+use Rattle.layers.specs.declared.node.Label.{Label}
 use Rattle.layers.specs.declared.node.Up.{Up}
 use Rattle.layers.specs.Net.{table, Layer, Net, node, target, width}
 use Rattle.layers.specs.Flow.{arrivals_at, gather, next, climbs_of, up}
@@ -18,13 +20,16 @@ use Rattle.layers.proofs.Flows.{table_at, Among, ins-from}
 use Rattle.layers.proofs.Bridge.{table-long, map-table, labels_full, ups-full}
 use Rattle.layers.specs.Calls.{records_with}
 use Rattle.layers.proofs.Proper.{RangedAll, tied-ranged}
-use Rattle.labels.specs.Passes.{with_up, blank_node, by_door, from_node, arrivals, gathered, labelled, next_layer, labelled_after, up_by, ups_of, gathered_up, risen, risen_from, cleared, first_layer, bare, pass_down, pass_up, relabelled}
+use Rattle.labels.specs.Passes.{with_up, blank_node, by_door, from_node, arrivals, gathered, labelled, next_layer, labelled_after, up_by, ups_of, gathered_up, renewed, begun, unused_label, HasPlaces, risen, risen_from, cleared, unlabelled, first_layer, bare, pass_down, pass_up, relabelled_used, relabelled}
 use Rattle.std.proofs.lemmas.Nat.{pow_pos}
+pub use Rattle.labels.proofs.Climbs.{arcs_of}
 use Rattle.labels.proofs.Climbs.{Linked, linked, node-climbed, climbed-is, up_of}
 use Rattle.labels.proofs.Folds.{folded_keeps}
 use Rattle.labels.proofs.Scattered.{or_some}
 use Rattle.labels.proofs.Inward.{Standing, Narrow, arrivals-in, gathered-is}
-use Rattle.labels.proofs.Earlies.{first-long}
+use Rattle.labels.proofs.Earlies.{first-long, first_early}
+use Rattle.labels.proofs.Keeps.{down_keeps, fronts, in-parts}
+use Rattle.labels.proofs.Places.{Stands, Idle, Blank, Ready, renewed-map, idle-stays, after-is, begun-is}
 use Rattle.layers.proofs.Model.{or_blank, or_no_up}
 use Rattle.layers.specs.Settings.{Setting}
 
@@ -46,9 +51,6 @@ mapped-is f g (suc w) [] e h = absurd (omega arith)
 mapped-is f g (suc w) (u ∷ us) e h = ap₂ (λ y ys. y ∷ ys) (h 0 u (omega arith)) (mapped-is f (λ k. g (suc k)) w us (omega arith) (λ a d lt. h (suc a) d (omega arith)))
 
 -- ---- arcs alone
-abbrev pub arcs_of : {S V : Type 0} → Node S V → Arcs
-arcs_of x = x.arcs
-
 -- the arcs of the records are those of the net, w records to a layer, and the end's
 abbrev pub Arranged : {S V : Type 0} → ℕ → Net → List (Node S V) → Type 0
 Arranged w [] xs = map arcs_of (take 1 xs) ≡ table 1 (arcs_at [])
@@ -84,6 +86,17 @@ arranged-of w (L ∷ Ls) xs h e =
       sym (take_at A B w long) ∙ ap (take w) whole ∙ take_at (table w g) (laid_arcs w Ls) w (table-long w g),
       arranged-of w Ls (drop w xs) (omega (arith, both, length-drop w xs)) (sym (drop_at A B w long) ∙ ap (drop w) whole ∙ drop_at (table w g) (laid_arcs w Ls) w (table-long w g)),
     )
+
+-- so the list has room for them
+arranged-room : {S V : Type 0} (w : ℕ) (Ls : Net) (xs : List (Node S V)) → Arranged w Ls xs → length Ls * w < length xs
+arranged-room w [] xs arr = omega (arith, zero-mul w, mapped-long arcs_of (arcs_at []) 1 (take 1 xs) arr, length-take 1 xs)
+arranged-room w (L ∷ Ls) xs arr = omega (arith, suc-mul (length Ls) w, mapped-long arcs_of (arcs_at L) w (take w xs) arr.0, arranged-room w Ls (drop w xs) arr.1, length-drop w xs)
+
+-- and arcs are all that it looks at
+arranged-same : {S V : Type 0} (w : ℕ) (Ls : Net) (xs ys : List (Node S V)) → map arcs_of xs ≡ map arcs_of ys → Arranged w Ls xs → Arranged w Ls ys
+arranged-same w [] xs ys e arr = sym (fronts arcs_of 1 xs ys e) ∙ arr
+arranged-same w (L ∷ Ls) xs ys e arr =
+    (sym (fronts arcs_of w xs ys e) ∙ arr.0, arranged-same w Ls (drop w xs) (drop w ys) (sym (drop-map arcs_of w xs) ∙ ap (drop w) e ∙ drop-map arcs_of w ys) arr.1)
 
 -- what stands past k layers of w and the end
 abbrev past : {X : Type 0} → ℕ → ℕ → List X → List X
@@ -215,40 +228,84 @@ module _ {S V : Type 0} (by : Setting S V) where
       (λ _. sym (ap or_no_up (get_or_past (ups (L ∷ Ls)) a None (omega (arith, length-map L (λ nd. gather merge_up (climbs_of climb (ups Ls) 1 nd))))))) (λ _. flow))
       (cases_lt a (length L))
 
-  risen-block : (L : Layer) (labs : List (Option (Down S V))) (U : List (Option Up)) (us vs : List (Node S V)) → map bare us ≡ table by.width (record_of_place by L labs [])
-      → ((a : ℕ) → gathered_up (ups_of vs (record_of_place by L labs [] a)) ≡ or_no_up (get_or U a None)) → map (risen vs) us ≡ table by.width (record_of_place by L labs U)
-  unfolding risen ups_of up_by
-  risen-block L labs U us vs e g =
+  -- the labels of the first of these layers: one for each of its nodes
+  abbrev StandsFirst : List (Option (Down S V)) → Net → Type 0
+  StandsFirst labs [] = Unit {0}
+  StandsFirst labs (L ∷ Ls) = Standing by labs L × (length labs ≡ length L)
+
+  ups-long : (L : Layer) (Ls : Net) → length (ups (L ∷ Ls)) ≡ length L
+  unfolding ups up
+  ups-long L Ls = length-map L (λ nd. gather merge_up (climbs_of climb (ups Ls) 1 nd))
+
+  tied-on : (L : Layer) (Ls : Net) → IsTied (L ∷ Ls) → IsTied Ls
+  tied-on L [] t = tt
+  tied-on L (M ∷ Ls) t = t.3
+
+  -- past the nodes of its layer a net gives no upward sets, and none stand in the records
+  abbrev pub Spare : Net → List Up → Type 0
+  Spare [] us = Unit {0}
+  Spare (L ∷ Ls) us = ((a : ℕ) → length L ≤ a → a < by.width → get_or (take by.width us) a no_up ≡ no_up) × Spare Ls (drop by.width us)
+
+  -- nodes are in use and other places idle
+  idle-block : (L : Layer) (labs : List (Option (Down S V))) (us : List (Node S V)) → Standing by labs L → length labs ≡ length L → map bare us ≡ table by.width (record_of_place by L labs [])
+      → ((a : ℕ) → length L ≤ a → a < by.width → get_or (map up_of us) a no_up ≡ no_up) → Stands Idle (length L) us
+  idle-block L labs us s deep e spare a d lt =
       let R = record_of_place by L labs [] in
-      mapped-is (risen vs) (record_of_place by L labs U) by.width us (mapped-long bare R by.width us e)
+      let in_layer : a < by.width = omega (arith, mapped-long bare R by.width us e) in
+      let at : bare (get_or us a d) ≡ R a = mapped-at bare R by.width us a d e in_layer in (
+        λ h. ap is_used at ∙ (let l = s a h in rw (l.1, l.2) refl),
+        λ h. (
+          ap (λ (x : Node S V). x.label.down.lasts) at ∙ ap (λ o. (or_blank by.rule by.tally o).lasts) (get_or_past labs a None (omega arith)),
+          sym (get_or-map up_of us a d no_up lt) ∙ spare a h in_layer,
+        ),
+      )
+
+  risen-block : (L : Layer) (labs : List (Option (Down S V))) (U : List (Option Up)) (us vs : List (Node S V)) → map bare us ≡ table by.width (record_of_place by L labs [])
+      → Stands Idle (length L) us
+      → ((a : ℕ) → gathered_up (ups_of vs (record_of_place by L labs [] a)) ≡ or_no_up (get_or U a None)) → renewed (risen vs) us ≡ table by.width (record_of_place by L labs U)
+  unfolding risen ups_of up_by
+  risen-block L labs U us vs e idle g =
+      let R = record_of_place by L labs [] in
+      renewed-map Idle (risen vs) (unfold risen in idle-stays vs) (length L) us idle
+      ∙ mapped-is (risen vs) (record_of_place by L labs U) by.width us (mapped-long bare R by.width us e)
       (λ a d h. ap (λ (y : Node S V). with_up y (gathered_up (ups_of vs y))) (mapped-at bare R by.width us a d e h) ∙ ap (with_up (R a)) (g a))
 
+  next-deep : (labs : List (Option (Down S V))) (L : Layer) (m : ℕ) → length (labels_next by labs L m) ≡ m
+  unfolding labels_next next
+  next-deep labs L m = table-long m _
+
+  stands-on : (labs : List (Option (Down S V))) (L : Layer) (Ls : Net) → IsRoomy by.width (L ∷ Ls) → IsTied (L ∷ Ls) → StandsFirst labs (L ∷ Ls) → StandsFirst (labels_next by labs L (width Ls)) Ls
+  stands-on labs L [] room tied s = tt
+  stands-on labs L (M ∷ Ls) room tied s = (standing-next by labs L M Ls room.1.0 tied s.0, next-deep labs L (length M))
+
   up-laid : (k : ℕ) (labs : List (Option (Down S V))) (L : Layer) (Ls : Net) (ys : List (Node S V)) → length Ls ≡ k → Good by.width (L ∷ Ls)
-      → IsTied (L ∷ Ls) → Standing by labs L → Half by labs (L ∷ Ls) ys
+      → IsTied (L ∷ Ls) → Standing by labs L → length labs ≡ length L → Half by labs (L ∷ Ls) ys → Spare (L ∷ Ls) (map up_of ys)
       → risen_from by.width k ys ≡ labelled_from by labs (L ∷ Ls) ++ past by.width (suc k) ys
   unfolding labelled_from ups up risen_from
-  up-laid zero labs L [] ys e good tied s half =
+  up-laid zero labs L [] ys e good tied s deep half spare =
       let us = take by.width ys in
       let E = table 1 (record_of_place by [] (labels_next by labs L 1) []) in
       let D = drop 1 (drop by.width ys) in
+      let idle = idle-block L labs us s deep half.0 (rw (take-map up_of by.width ys) at spare.0) in
       rw half.1
-      (ap (λ xs. xs ++ (E ++ D)) (risen-block L labs (ups (L ∷ [])) us E half.0 (λ a. node-ups L [] labs E a s (good.0 a) (λ j b t. let z : b ≡ 0 = omega (arith, tied a j b t) in
+      (ap (λ xs. xs ++ (E ++ D)) (risen-block L labs (ups (L ∷ [])) us E half.0 idle (λ a. node-ups L [] labs E a s (good.0 a) (λ j b t. let z : b ≡ 0 = omega (arith, tied a j b t) in
       linked (ups []) (map up_of E) b no_up no_up (omega (arith, z)) (ap (λ (i : ℕ). get_or {A = Option Up} (Some no_up ∷ []) i None) z) (ap (λ (i : ℕ). get_or (map up_of E) i no_up) z))))
       ∙ sym (append_assoc (table by.width (record_of_place by L labs (ups (L ∷ [])))) E D))
-  up-laid zero labs L (M ∷ Ls) ys e good tied s half = absurd (omega arith)
-  up-laid (suc k) labs L [] ys e good tied s half = absurd (omega arith)
-  up-laid (suc k) labs L (M ∷ Ls) ys e good tied s half =
+  up-laid zero labs L (M ∷ Ls) ys e good tied s deep half spare = absurd (omega arith)
+  up-laid (suc k) labs L [] ys e good tied s deep half spare = absurd (omega arith)
+  up-laid (suc k) labs L (M ∷ Ls) ys e good tied s deep half spare =
       let labs' = labels_next by labs L (length M) in
       let us = take by.width ys in
       let U = ups (M ∷ Ls) in
       let VS = table by.width (record_of_place by M labs' U) in
       let X = labelled_from by (labels_next by labs' M (width Ls)) Ls in
       let later = past by.width (suc k) (drop by.width ys) in
+      let idle = idle-block L labs us s deep half.0 (rw (take-map up_of by.width ys) at spare.0) in
       let ih : risen_from by.width k (drop by.width ys) ≡ (VS ++ X) ++ later = up-laid k labs' M Ls (drop by.width ys) (omega arith) good.3 tied.3
-      (standing-next by labs L M Ls good.3.1 tied s) half.1 in
+      (standing-next by labs L M Ls good.3.1 tied s) (next-deep labs L (length M)) half.1 (rw (drop-map up_of by.width ys) at spare.1) in
       let front : take by.width ((VS ++ X) ++ later) ≡ VS = ap (take by.width) (append_assoc VS X later) ∙ take_at VS (X ++ later) by.width (table-long by.width (record_of_place by M labs' U)) in
       rw (ih, front)
-      (ap (λ x. x ++ ((VS ++ X) ++ later)) (risen-block L labs (ups (L ∷ M ∷ Ls)) us VS half.0 (λ a. node-ups L (M ∷ Ls) labs VS a s (good.0 a) (λ j b t.
+      (ap (λ x. x ++ ((VS ++ X) ++ later)) (risen-block L labs (ups (L ∷ M ∷ Ls)) us VS half.0 idle (λ a. node-ups L (M ∷ Ls) labs VS a s (good.0 a) (λ j b t.
       let lt : b < length M = tied.0 a j b t in
       let room : b < by.width = omega (arith, good.3.1) in
       let x = ups-full M Ls tied.2 tied.3 b lt in
@@ -276,11 +333,15 @@ module _ {S V : Type 0} (by : Setting S V) where
   standing-first L e zero lt = (first_label by.rule by.tally, refl, refl)
   standing-first L e (suc a) lt = absurd (omega arith)
 
-  pub relabelled-laid : (k : ℕ) (L : Layer) (Ls : Net) (xs : List (Node S V)) → by.round.n ≡ suc k → length Ls ≡ k → length L ≡ 1
-      → Good by.width (L ∷ Ls) → IsTied (L ∷ Ls) → Arranged by.width (L ∷ Ls) xs
-      → relabelled by xs ≡ labelled_records by (L ∷ Ls) ++ drop (by.round.n * by.width + 1) xs
-  unfolding relabelled labelled_records pass_down pass_up
-  relabelled-laid k L Ls xs en el first good tied arr =
+  -- both passes, over all places of a layer
+  abbrev pub passed : List (Node S V) → List (Node S V)
+  passed xs = pass_up by.round.n by.width (pass_down by xs)
+
+  passed-laid : (k : ℕ) (L : Layer) (Ls : Net) (xs : List (Node S V)) → by.round.n ≡ suc k → length Ls ≡ k → length L ≡ 1
+      → Good by.width (L ∷ Ls) → IsTied (L ∷ Ls) → Arranged by.width (L ∷ Ls) xs → Spare (L ∷ Ls) (map up_of xs)
+      → passed xs ≡ labelled_records by (L ∷ Ls) ++ drop (by.round.n * by.width + 1) xs
+  unfolding labelled_records pass_down pass_up
+  passed-laid k L Ls xs en el first good tied arr spare =
       let us = take by.width xs in
       let F = first_layer by.rule by.tally us in
       let D = drop by.width xs in
@@ -288,21 +349,145 @@ module _ {S V : Type 0} (by : Setting S V) where
       let d = down-laid by k (first_labels by.rule by.tally) L Ls (F ++ D) el good tied (standing-first L first)
       (rw (take_at F D by.width long) (first_block L us arr.0)) (rw (drop_at F D by.width long) arr.1) in
       let p : by.round.n - 1 ≡ k = omega arith in
+      let kept : map up_of (labelled_after by k (F ++ D)) ≡ map up_of xs = ap (λ (i : ℕ). map up_of (labelled_after by i (F ++ D))) (sym p) ∙ unfold pass_down in down_keeps by up_of (λ x l. refl) xs in
       rw p
-      (up-laid k (first_labels by.rule by.tally) L Ls (labelled_after by k (F ++ D)) el good tied (standing-first L first) d.0
+      (up-laid k (first_labels by.rule by.tally) L Ls (labelled_after by k (F ++ D)) el good tied (standing-first L first) (sym first) d.0 (rw kept spare)
       ∙ ap (λ ys. labelled_from by (first_labels by.rule by.tally) (L ∷ Ls) ++ ys)
       (d.1 ∙ ap (past by.width k) (drop_at F D by.width long) ∙ past-is by.width (suc k) xs ∙ ap (λ (n : ℕ). drop (n * by.width + 1) xs) (sym en)))
 
+  -- where the places that are not in use have blank labels, a net's places have none but its own upward sets
+  pub ready-spare : (Ls : Net) (xs : List (Node S V)) → Ready by Ls xs → Spare Ls (map up_of xs)
+  ready-spare [] xs r = tt
+  ready-spare (L ∷ Ls) xs r = (
+    λ a le lt.
+        let us = take by.width xs in
+        ap (λ ys. get_or ys a no_up) (take-map up_of by.width xs)
+        ∙ ⊎_elim (λ in_list. let d = record_of_place by [] [] [] 0 in get_or-map up_of us a d no_up in_list ∙ ap (λ (l : Label S V). l.up) ((r.0.2 a d in_list).1 (omega (arith, r.0.1))))
+        (λ ge. get_or_past (map up_of us) a no_up (omega (arith, length-map us up_of)))
+        (cases_lt a (length us)),
+    subst (Spare Ls) (sym (drop-map up_of by.width xs)) (ready-spare Ls (drop by.width xs) r.1),
+  )
+
+  pub passed-lawful : (Ls : Net) (xs : List (Node S V)) → IsLawful by.round.n by.width Ls → Arranged by.width Ls xs → Spare Ls (map up_of xs) → passed xs ≡ records_with by xs Ls
+  unfolding records_with
+  passed-lawful [] xs p arr spare = let none : 0 ≡ by.round.n = p.deep in absurd (omega (arith, by.round.one))
+  passed-lawful (L ∷ Ls) xs p arr spare =
+      let deep : suc (length Ls) ≡ by.round.n = p.deep in
+      passed-laid (length Ls) L Ls xs (sym deep) refl p.one_first (good-net by.round.n by.width (L ∷ Ls) by.round.most p.even p.roomy (tied-ranged (L ∷ Ls) p.tied)) p.tied arr spare
+
+  used-passed : (Ls : Net) (xs : List (Node S V)) → IsLawful by.round.n by.width Ls → Ready by Ls xs → length Ls * by.width < length xs → relabelled_used by xs ≡ passed xs
+  unfolding relabelled_used pass_down pass_up
+  used-passed [] xs p ready room = let none : 0 ≡ by.round.n = p.deep in absurd (omega (arith, by.round.one))
+  used-passed (L ∷ Ls) xs p ready room =
+      let w = by.width in
+      let F = first_layer by.rule by.tally (take w xs) in
+      let D = drop w xs in
+      let deep : suc (length Ls) ≡ by.round.n = p.deep in
+      let k : by.round.n - 1 ≡ length Ls = omega arith in
+      let more : suc (length Ls) * w ≡ w + length Ls * w = omega (arith, suc-mul (length Ls) w) in
+      let one : length L ≡ 1 = p.one_first in
+      let low : length L ≤ w = p.roomy.0 in
+      let long : length F ≡ w = first-long by.rule by.tally (take w xs) ∙ length-take-le w xs (omega (arith, more, room)) in
+      let begins : begun by.rule by.tally xs ≡ F ++ D = begun-is by ready.0.0 w xs (omega arith) (omega (arith, ready.0.1)) ready.0.2 in
+      rw (k, begins)
+      (ap (risen_from w (length Ls))
+      (after-is by Ls 0 (F ++ D) (omega (arith, by.round.most)) (rw (take_at F D w long) (first_early by (take w xs))) (rw (drop_at F D w long) ready.1)
+      (omega (arith, more, room, long, length-append F D, length-drop w xs))))
+
+  pub used-lawful : (Ls : Net) (xs : List (Node S V)) → IsLawful by.round.n by.width Ls → Arranged by.width Ls xs → Ready by Ls xs → relabelled_used by xs ≡ records_with by xs Ls
+  used-lawful Ls xs p arr ready = used-passed Ls xs p ready (arranged-room by.width Ls xs arr) ∙ passed-lawful Ls xs p arr (ready-spare Ls xs ready)
+
+  blank-ready : (Ls : Net) (xs : List (Node S V)) → ((a : ℕ) (d : Node S V) → a < length Ls * by.width → a < length xs → Blank by (get_or xs a d)) → Ready by Ls xs
+  blank-ready [] xs h = tt
+  blank-ready (L ∷ Ls) xs h =
+      let w = by.width in
+      let more : suc (length Ls) * w ≡ w + length Ls * w = omega (arith, suc-mul (length Ls) w) in (
+        (
+          0,
+          omega arith,
+          λ a d lt.
+              let in_layer : a < w = omega (arith, length-take w xs) in
+              (λ l. absurd (omega arith), λ l. rw (get_or-take w xs a d in_layer) (h a d (omega (arith, more)) (omega (arith, length-take w xs)))),
+        ),
+        blank-ready Ls (drop w xs) (λ a d lt in_list. rw (get_or-drop w xs a d) (h (w + a) d (omega (arith, more)) (omega (arith, length-drop w xs)))),
+      )
+
   -- of arcs that a diagram may have
   pub relabelled-lawful : (Ls : Net) (xs : List (Node S V)) → IsLawful by.round.n by.width Ls → Arranged by.width Ls xs → relabelled by xs ≡ records_with by xs Ls
-  unfolding records_with
-  relabelled-lawful [] xs p arr = let none : 0 ≡ by.round.n = p.deep in absurd (omega (arith, by.round.one))
-  relabelled-lawful (L ∷ Ls) xs p arr =
-      let deep : suc (length Ls) ≡ by.round.n = p.deep in
-      relabelled-laid (length Ls) L Ls xs (sym deep) refl p.one_first (good-net by.round.n by.width (L ∷ Ls) by.round.most p.even p.roomy (tied-ranged (L ∷ Ls) p.tied)) p.tied arr
+  unfolding relabelled records_with
+  relabelled-lawful Ls xs p arr =
+      let at = by.round.n * by.width in
+      let f = unlabelled by.rule by.tally in
+      let A = map f (take at xs) in
+      let D = drop at xs in
+      let many : length Ls * by.width ≡ at = ap (λ (k : ℕ). k * by.width) p.deep in
+      let long : length A ≡ at = length-map (take at xs) f ∙ length-take-le at xs (omega (arith, many, arranged-room by.width Ls xs arr)) in
+      let same : map arcs_of (A ++ D) ≡ map arcs_of xs = in-parts arcs_of at A D xs (map-map arcs_of f (take at xs)) refl in
+      let ready = blank-ready Ls (A ++ D) (λ a d lt in_list. rw (get_or_append_left A D d a (omega (arith, many, long)), get_or-map f (take at xs) a d d (omega (arith, many, long, length-map (take at xs) f))) refl) in
+      used-lawful Ls (A ++ D) p (arranged-same by.width Ls xs (A ++ D) (sym same) arr) ready
+      ∙ ap (λ ys. labelled_records by Ls ++ ys) (sym (drop-drop 1 at (A ++ D)) ∙ ap (drop 1) (drop_at A D at long) ∙ drop-drop 1 at xs)
 
   -- the same, of the flat list of arcs
-  pub relabelled-read : (Ls : Net) (xs : List (Node S V)) → IsLawful by.round.n by.width Ls → by.round.n * by.width + 1 ≤ length xs → arcs_read (take (by.round.n * by.width + 1) xs) ≡ laid_arcs by.width Ls → relabelled by xs ≡ records_with by xs Ls
-  relabelled-read Ls xs p h e =
+  pub read-arranged : (Ls : Net) (xs : List (Node S V)) → IsLawful by.round.n by.width Ls → by.round.n * by.width + 1 ≤ length xs → arcs_read (take (by.round.n * by.width + 1) xs) ≡ laid_arcs by.width Ls → Arranged by.width Ls xs
+  read-arranged Ls xs p h e =
       let n : length Ls * by.width + 1 ≡ by.round.n * by.width + 1 = ap (λ (k : ℕ). k * by.width + 1) p.deep in
-      relabelled-lawful Ls xs p (arranged-of by.width Ls xs (omega (arith, n)) (ap (λ (k : ℕ). arcs_read (take k xs)) n ∙ e))
+      arranged-of by.width Ls xs (omega (arith, n)) (ap (λ (k : ℕ). arcs_read (take k xs)) n ∙ e)
+
+  -- ---- places that are known
+  used-if : {X : Type 0} (q : Bool) (l : X) → cond q (Some l) None ≡ None → not q ≡ true
+  used-if true l e = absurd cc
+  used-if false l e = refl
+
+  blank-if : {X : Type 0} (q : Bool) (l m : X) → cond q (Some l) None ≡ Some m → l ≡ m
+  blank-if true l m e = cc
+  blank-if false l m e = absurd cc
+
+  places-ready : (labs : List (Option (Down S V))) (Ls : Net) (xs later : List (Node S V)) → IsTied Ls → IsRoomy by.width Ls → StandsFirst labs Ls → length Ls * by.width ≤ length xs
+      → map (unused_label by) (take (length Ls * by.width) xs) ≡ map (unused_label by) (take (length Ls * by.width) (labelled_from by labs Ls ++ later)) → Ready by Ls xs
+  unfolding labelled_from
+  places-ready labs [] xs later tied roomy s room e = tt
+  places-ready labs (L ∷ Ls) xs later tied roomy s room e =
+      let w = by.width in
+      let g = unused_label by in
+      let m = length Ls * w in
+      let more : suc (length Ls) * w ≡ w + m = omega (arith, suc-mul (length Ls) w) in
+      let R = record_of_place by L labs (ups (L ∷ Ls)) in
+      let X = labelled_from by (labels_next by labs L (width Ls)) Ls in
+      let Z = table w R ++ (X ++ later) in
+      let us = take w xs in
+      let A = map g us in
+      let B = map g (take m (drop w xs)) in
+      let T : List (Option (Label S V)) = table w (λ a. g (R a)) in
+      let whole : A ++ B ≡ T ++ map g (take m (X ++ later)) =
+      sym (split g w m xs) ∙ ap (λ (k : ℕ). map g (take k xs)) (sym more) ∙ e ∙ ap (λ (k : ℕ). map g (take k ((table w R ++ X) ++ later))) more
+      ∙ ap (λ ys. map g (take (w + m) ys)) (append_assoc (table w R) X later) ∙ split g w m Z
+      ∙ ap₂ (λ ys zs. map g ys ++ map g (take m zs)) (take_at (table w R) (X ++ later) w (table-long w R)) (drop_at (table w R) (X ++ later) w (table-long w R))
+      ∙ ap (λ ys. ys ++ map g (take m (X ++ later))) (map-table g w R) in
+      let A-long : length A ≡ w = length-map us g ∙ length-take-le w xs (omega (arith, more)) in
+      let T-long : length T ≡ w = table-long w (λ a. g (R a)) in
+      let here : A ≡ T = sym (take_at A B w A-long) ∙ ap (take w) whole ∙ take_at T (map g (take m (X ++ later))) w T-long in
+      let rest = sym (drop_at A B w A-long) ∙ ap (drop w) whole ∙ drop_at T (map g (take m (X ++ later))) w T-long in (
+        (
+          length L,
+          omega arith,
+          λ a d lt.
+              let at : g (get_or us a d) ≡ g (R a) = mapped-at g (λ a. g (R a)) w us a d here (omega (arith, length-map us g, A-long)) in (
+                λ h. used-if (eqb (get_or us a d).label.down.lasts 0) (get_or us a d).label (at ∙ (let l = s.0 a h in rw (l.1, l.2) refl)),
+                λ h.
+                    blank-if (eqb (get_or us a d).label.down.lasts 0) (get_or us a d).label _
+                    (at ∙ rw (get_or_past labs a None (omega (arith, s.1)), get_or_past (ups (L ∷ Ls)) a None (omega (arith, ups-long L Ls))) refl),
+              ),
+        ),
+        places-ready (labels_next by labs L (width Ls)) Ls (drop w xs) later (tied-on L Ls tied) roomy.1 (stands-on labs L Ls roomy tied s) (omega (arith, more, length-drop w xs)) rest,
+      )
+
+  first-stands : (Ls : Net) → IsLawful by.round.n by.width Ls → StandsFirst (first_labels by.rule by.tally) Ls
+  first-stands [] p = tt
+  first-stands (L ∷ Ls) p = let one : length L ≡ 1 = p.one_first in (standing-first L one, sym one)
+
+  pub has-ready : (Ls : Net) (xs : List (Node S V)) → IsLawful by.round.n by.width Ls → by.round.n * by.width + 1 ≤ length xs → HasPlaces by Ls xs → Ready by Ls xs
+  unfolding records_with labelled_records
+  has-ready Ls xs p room has =
+      let n : by.round.n ≡ length Ls = sym p.deep in
+      places-ready (first_labels by.rule by.tally) Ls xs (drop (by.round.n * by.width + 1) xs) p.tied p.roomy (first-stands Ls p) (omega (arith, ap (λ (k : ℕ). k * by.width) n))
+      (ap (λ (k : ℕ). map (unused_label by) (take (k * by.width) xs)) (sym n) ∙ has ∙ ap (λ (k : ℕ). map (unused_label by) (take (k * by.width) (records_with by xs Ls))) n)

@@ -1,6 +1,8 @@
 -- The least drives so far, and what is no leg
-use Rattle.std.proofs.Common.{◌≡◌, ℕ, ◌+◌, ◌≤◌, ◌≢◌, min, Bool, true, false, cond, not, ◌&&◌, eqb, Some, None, Option, unwrap_or, refl, ap, ◌∙◌, arith}
+use Rattle.std.proofs.Common.{◌≡◌, ℕ, ◌+◌, ◌-◌, ◌<◌, ◌≤◌, ◌≢◌, min, max, List, map, get_or, ⊎_elim, Bool, true, false, cond, not, ◌&&◌, eqb, Some, None, Option, unwrap_or, refl, ap, ◌∙◌, arith}
 use Rattle.std.specs.List.{range_with_len}
+use Rattle.std.proofs.lemmas.Bool.{cases_eq, eq-eqb, ne_eqb}
+use Rattle.std.proofs.lemmas.List.FromFn.{get_or-map-range_with_len}
 use Rattle.round.specs.declared.table.Round.{Round}
 use Rattle.round.specs.Clock.{drive}
 use Rattle.doors.specs.Sets.{has}
@@ -24,13 +26,14 @@ unfolding leg
 leg-most r m j = nearest-most r m j (r.n + 1)
 
 -- ---- 1000 for no drive
-far-step : (o : Option ℕ) (e : Bool) (d : ℕ) → d ≤ 999 → unwrap_or o 0 ≤ 999 → unwrap_or (cond (not e) (nearest o d) o) 1000 ≡ cond e (unwrap_or o 1000) (min (unwrap_or o 1000) d)
-far-step o true d h p = refl
+far-step : (o : Option ℕ) (e : Bool) (d : ℕ) → d ≤ 999 → unwrap_or o 0 ≤ 999 → unwrap_or (cond (not e) (nearest o d) o) 1000 ≡ min (unwrap_or o 1000) (max d (cond e 1000 0))
+far-step None true d h p = omega arith
+far-step (Some a) true d h p = omega arith
 far-step None false d h p = omega arith
 far-step (Some a) false d h p = omega arith
 
 pub nearest_with : (r : Round) (m j i : ℕ) → has m i ≡ true
-    → unwrap_or (nearest_of r m j (i + 1)) 1000 ≡ cond (eqb i j) (unwrap_or (nearest_of r m j i) 1000) (min (unwrap_or (nearest_of r m j i) 1000) (drive r i j))
+    → unwrap_or (nearest_of r m j (i + 1)) 1000 ≡ min (unwrap_or (nearest_of r m j i) 1000) (max (drive r i j) (cond (eqb i j) 1000 0))
 unfolding leg_step
 nearest_with r m j i h =
     ap (λ o. unwrap_or o 1000) (folded_counting (leg_step r m j) None i)
@@ -55,3 +58,12 @@ leg_none r m j e = far-none (nearest_of r m j (r.n + 1)) (nearest-most r m j (r.
 pub leg_some : (r : Round) (m j : ℕ) → unwrap_or (nearest_of r m j (r.n + 1)) 1000 ≢ 1000 → leg r m j ≡ unwrap_or (nearest_of r m j (r.n + 1)) 1000
 unfolding leg
 leg_some r m j ne = far-some (nearest_of r m j (r.n + 1)) ne
+
+-- ---- 1000 at one place of a line of 32, seen from place 16 - i on
+abbrev pub line : List ℕ
+line = map (λ m. cond (eqb m 15) 1000 0) (range_with_len 0 32)
+
+pub line-at : (i k : ℕ) → i ≤ 16 → k < 16 → get_or line (16 - i + k) 0 ≡ cond (eqb i (k + 1)) 1000 0
+line-at i k most lt =
+    get_or-map-range_with_len (λ m. cond (eqb m 15) 1000 0) 0 32 (16 - i + k) (16 - i + k) 0 (omega arith) (omega arith)
+    ∙ ⊎_elim (λ e. rw (eq-eqb (16 - i + k) 15 (omega arith), eq-eqb i (k + 1) e) refl) (λ n. rw (ne_eqb (16 - i + k) 15 (λ e. n (omega arith)), ne_eqb i (k + 1) n) refl) (cases_eq i (k + 1))

@@ -1,12 +1,15 @@
 pub mod Below
 pub mod Climbs
+pub mod DoorsOut
 pub mod Earlies
 pub mod Folds
 pub mod Inward
+pub mod Keeps
 pub mod Laying
 pub mod Legs
 pub mod Lifts
 pub mod Overs
+pub mod Places
 pub mod RedirectNet
 pub mod Redirects
 pub mod Rests

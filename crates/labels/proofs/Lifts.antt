@@ -17,7 +17,7 @@ use Rattle.layers.proofs.Bridge.{table-long, map-table, table-ext, ups-full, lat
 use Rattle.layers.proofs.Flows.{table_at}
 use Rattle.layers.proofs.Model.{or_no_up}
 use Rattle.labels.specs.Passes.{HasUps}
-use Rattle.labels.proofs.Below.{in-parts}
+use Rattle.labels.proofs.Keeps.{in-parts}
 use Rattle.labels.proofs.Climbs.{climbed, Linked, linked, node-climbed, up_of}
 use Rattle.labels.proofs.Laying.{arcs_of, Arranged, Good, good-net}
 use Rattle.layers.proofs.Proper.{tied-ranged}

@@ -1,19 +1,25 @@
 -- Relabelling as the code does it, in two passes over the records of any list: so many records to a layer, 16 doors to a record.
 -- Nobody has to believe these steps: on the arcs of a diagram `labelled` of `relabel` says what they come to.
-use Rattle.std.specs.Prelude.{◌≡◌, ℕ, zero, suc, ◌+◌, ◌-◌, ◌*◌, ◌≤◌, Bool, true, if◌then◌else◌, ◌&&◌, List, [], ◌∷◌, ◌++◌, map, length, take, drop, replicate, Some, None, fold, Option, ◌==◌, nat_le, slice_index, slice_index_or, slice_set}
-use Rattle.std.specs.List.{range_with_len, flat_map}
+use Rattle.std.specs.Prelude.{◌≡◌, ℕ, zero, suc, ◌+◌, ◌-◌, ◌*◌, ◌≤◌, Bool, not, if◌then◌else◌, ◌&&◌, List, [], ◌∷◌, ◌++◌, map, length, take, drop, replicate, Some, None, fold, Option, ◌==◌, nat_le, slice_index, slice_index_or, slice_set}
+use Rattle.std.specs.List.{range_with_len, flat_map, filter}
 use Rattle.round.specs.Clock.{latest_finish}
 use Rattle.round.specs.declared.table.Round.{Round}
 use Rattle.rules.specs.Rules.{RuleSense}
 use Rattle.tallies.specs.Tallies.{TallySense}
 use Rattle.layers.specs.declared.node.Node.{Node}
+use Rattle.layers.specs.declared.node.Label.{Label}
 use Rattle.layers.specs.declared.node.Down.{Down}
 use Rattle.layers.specs.declared.node.Up.{Up}
 use Rattle.layers.specs.Settings.{Setting}
 use Rattle.layers.specs.Calls.{records_with}
 use Rattle.layers.specs.Net.{Net}
-use Rattle.layers.specs.Records.{nodes_in}
+use Rattle.layers.specs.Records.{is_used, nodes_in}
 use Rattle.layers.specs.Labels.{leg_step, arrival_over, merge, first_label, blank_label, climb, merge_up, no_up}
+
+-- ---- the doors of a record
+-- the places below 16 of a list of targets that are not 0, in order: the doors, less one, that have an arc
+abbrev pub doors_out : List ℕ → List ℕ
+doors_out to = filter (λ k. not (slice_index to k == 0)) (range_with_len 0 16)
 
 -- ---- parts of the list
 -- `count` records from `at` on
@@ -26,6 +32,20 @@ with_down x l = record { arcs = x.arcs; label = record { down = l; up = x.label.
 
 abbrev pub with_up : {S V : Type 0} → Node S V → Up → Node S V
 with_up x u = record { arcs = x.arcs; label = record { down = x.label.down; up = u } }
+
+-- f of the nodes of a layer, which stand first; the places after them stay
+abbrev pub renewed : {S V : Type 0} → (Node S V → Node S V) → List (Node S V) → List (Node S V)
+renewed f [] = []
+renewed f (x ∷ xs) = if is_used x then f x ∷ renewed f xs else x ∷ xs
+
+-- the record is in use, with a finish that the clock allows before the end
+abbrev pub is_source : {S V : Type 0} → Node S V → Bool
+is_source x = is_used x && nat_le x.label.down.finish (latest_finish 15)
+
+-- those of a layer, which stand first
+abbrev pub sources : {S V : Type 0} → List (Node S V) → List (Node S V)
+sources [] = []
+sources (x ∷ xs) = if is_source x then x ∷ sources xs else []
 
 -- no finish of the node is above m
 abbrev pub Early : {S V : Type 0} → ℕ → Node S V → Type 0
@@ -49,6 +69,15 @@ module _ {S V : Type 0} (rule : RuleSense S) (tally : TallySense V) where
 
   abbrev pub cleared : Node S V → Node S V
   cleared v = with_down v (blank_label rule tally)
+
+  -- with a blank label
+  abbrev pub unlabelled : Node S V → Node S V
+  unlabelled v = record { arcs = v.arcs; label = record { down = blank_label rule tally; up = no_up } }
+
+  -- the first node has its label
+  abbrev pub begun : List (Node S V) → List (Node S V)
+  begun [] = []
+  begun (u ∷ us) = with_down u (first_label rule tally) ∷ us
 
   -- the layer of the first node
   abbrev pub first_layer : List (Node S V) → List (Node S V)
@@ -114,6 +143,27 @@ module _ {S V : Type 0} (by : Setting S V) where
   unfolding crossed
   spread vs u = if u.label.down.lasts == 0 then vs else fold (crossed u) vs (range_with_len 0 16)
 
+  -- over all doors of all nodes of the layer us
+  unfoldable pub crossed_all : List (Node S V) → List (Node S V) → List (Node S V)
+  unfolding spread
+  crossed_all us vs = fold spread vs (sources us)
+
+  -- the layer vs anew, from the nodes of the layer us before it
+  unfoldable pub next_renewed : List (Node S V) → List (Node S V) → List (Node S V)
+  unfolding crossed_all
+  next_renewed us vs = crossed_all us (renewed (cleared by.rule by.tally) vs)
+
+  -- the end anew
+  unfoldable pub end_renewed : List (Node S V) → List (Node S V) → List (Node S V)
+  unfolding crossed_all
+  end_renewed us vs = crossed_all us (map (cleared by.rule by.tally) (take 1 vs)) ++ drop 1 vs
+
+  -- the labels after the layer in front anew, with so many layers between it and the end
+  unfoldable pub renewed_after : ℕ → List (Node S V) → List (Node S V)
+  unfolding next_renewed end_renewed
+  renewed_after zero xs = take by.width xs ++ end_renewed (take by.width xs) (drop by.width xs)
+  renewed_after (suc k) xs = let rest = drop by.width xs in take by.width xs ++ renewed_after k (next_renewed (take by.width xs) (take by.width rest) ++ drop by.width rest)
+
 -- ---- up
 -- the record with the number t, if there is one
 abbrev pub numbered : {X : Type 0} → ℕ → List X → List X
@@ -146,8 +196,8 @@ module _ {S V : Type 0} where
   -- the layer in front of w records and all after it, with so many layers between it and the end, which has no upward sets
   unfoldable pub risen_from : ℕ → ℕ → List (Node S V) → List (Node S V)
   unfolding risen
-  risen_from w zero xs = let rest = map bare (take 1 (drop w xs)) ++ drop 1 (drop w xs) in map (risen (take 1 rest)) (take w xs) ++ rest
-  risen_from w (suc k) xs = let rest = risen_from w k (drop w xs) in map (risen (take w rest)) (take w xs) ++ rest
+  risen_from w zero xs = let rest = map bare (take 1 (drop w xs)) ++ drop 1 (drop w xs) in renewed (risen (take 1 rest)) (take w xs) ++ rest
+  risen_from w (suc k) xs = let rest = risen_from w k (drop w xs) in renewed (risen (take w rest)) (take w xs) ++ rest
 
   unfoldable pub pass_up : ℕ → ℕ → List (Node S V) → List (Node S V)
   unfolding risen_from
@@ -158,35 +208,30 @@ abbrev pub taken_up : Option Up → Up → Option Up
 taken_up None x = Some x
 taken_up (Some a) x = Some (merge_up a x)
 
--- both passes
+-- both passes, over the places in use
+unfoldable pub relabelled_used : {S V : Type 0} → Setting S V → List (Node S V) → List (Node S V)
+unfolding renewed_after pass_up
+relabelled_used by xs = pass_up by.round.n by.width (renewed_after by (by.round.n - 1) (begun by.rule by.tally xs))
+
+-- and over a list of which no label is known: the places of the layers before the end are blank first
 unfoldable pub relabelled : {S V : Type 0} → Setting S V → List (Node S V) → List (Node S V)
-unfolding pass_down pass_up
-relabelled by xs = pass_up by.round.n by.width (pass_down by xs)
+unfolding relabelled_used
+relabelled by xs = let at = by.round.n * by.width in relabelled_used by (map (unlabelled by.rule by.tally) (take at xs) ++ drop at xs)
 
 -- a list of that length has room for a diagram of n doors and width w
 abbrev pub fits : ℕ → ℕ → ℕ → Bool
 fits n w long = nat_le 1 w && (nat_le w 128 && nat_le (n * w + 1) long)
 
 -- ---- below a layer
--- no finish of these records is above m
-abbrev pub in_time : {S V : Type 0} → ℕ → List (Node S V) → Bool
-in_time m [] = true
-in_time m (u ∷ us) = nat_le u.label.down.finish m && in_time m us
-
 module _ {S V : Type 0} (by : Setting S V) where
-  -- i is a layer after the first node, and no finish of the layer before it is above what the clock allows there
-  abbrev pub may_follow : ℕ → List (Node S V) → Bool
-  may_follow i xs = nat_le 1 i && (nat_le i by.round.n && in_time (latest_finish (i - 1)) (part ((i - 1) * by.width) by.width xs))
-
-  -- the downward labels of layer i and of all after it, from those that stand in the layer before it
-  unfoldable pub relabelled_below : ℕ → List (Node S V) → List (Node S V)
-  unfolding labelled_after
-  relabelled_below i xs = let at = (i - 1) * by.width in take at xs ++ labelled_after by (by.round.n - i) (drop at xs)
-
-  -- the same, of a list that it can be said of; any other stays
+  -- the downward labels of layer i and of all after it anew, from those that stand in the layer before it; of a list without
+  -- room, and where there is no such layer, nothing
   unfoldable pub below_steps : ℕ → List (Node S V) → List (Node S V)
-  unfolding relabelled_below
-  below_steps i xs = if fits by.round.n by.width (length xs) && may_follow i xs then relabelled_below i xs else xs
+  unfolding renewed_after
+  below_steps i xs =
+      let at = (i - 1) * by.width in
+      if fits by.round.n by.width (length xs) && (nat_le 1 i && nat_le i by.round.n) then take at xs ++ renewed_after by (by.round.n - i) (drop at xs)
+      else xs
 
   -- the upward sets of all records are those that the arcs Ls give
   abbrev pub HasUps : Net → List (Node S V) → Type 0
@@ -197,3 +242,13 @@ module _ {S V : Type 0} (by : Setting S V) where
   HasDownsBefore i Ls xs =
       map (λ x. x.label.down) (take (i * by.width) xs)
       ≡ map (λ x. x.label.down) (take (i * by.width) (records_with by xs Ls))
+
+  -- the label of a place that is not in use
+  abbrev pub unused_label : Node S V → Option (Label S V)
+  unused_label x = if x.label.down.lasts == 0 then Some x.label else None
+
+  -- in the layers before the end, the places in use are those of the arcs Ls, and the others have blank labels
+  abbrev pub HasPlaces : Net → List (Node S V) → Type 0
+  HasPlaces Ls xs =
+      map unused_label (take (by.round.n * by.width) xs)
+      ≡ map unused_label (take (by.round.n * by.width) (records_with by xs Ls))

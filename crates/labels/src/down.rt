@@ -1,13 +1,13 @@
 //! The pass down: each arrival is added to its target, sources by number, then doors.
-ghost use Rattle.std.specs.Prelude.{◌≡◌, ◌≢◌, ℕ, ◌+◌, ◌-◌, ◌*◌, ◌<◌, ◌≤◌, map, length, take, slice_index};
-ghost use Rattle.std.specs.List.{AllByRecursion};
+ghost use Rattle.std.specs.Prelude.{◌≡◌, ◌≢◌, ℕ, ◌+◌, ◌-◌, ◌*◌, ◌<◌, ◌≤◌, length, slice_index};
 ghost use Rattle.round.specs.Clock.{latest_finish};
 ghost use Rattle.layers.specs.declared.node.Node.{Node as ANode};
 ghost use Rattle.layers.specs.Labels.{leg, arrival_over, merge, first_label, blank_label};
 ghost use Rattle.layers.specs.Settings.{lent_setting};
-ghost use Rattle.labels.specs.Passes.{Early, cleared, first_layer, next_layer, labelled_after, pass_down, landed, crossed, spread};
+ghost use Rattle.labels.specs.Passes.{cleared, renewed, begun, is_source, crossed_all, next_renewed, end_renewed, renewed_after, landed, crossed, spread};
 
 use crate::leg::legs;
+use crate::outs::outs_of;
 use layers::node::{Down, Node};
 use layers::setting::Setting;
 use rules::rule::Rule;
@@ -104,7 +104,6 @@ fn cross<R: Rule, T: Tally>(
 }
 
 /// Over all arcs of the node u.
-#[tactic(auto, using(crate::proofs::Folds::folded_counting), unfolding(crate::specs::Passes::spread))]
 fn spread_node<R: Rule, T: Tally>(
     by: &Setting<'_, R, T>,
     u: &Node<R::State, T::Value>,
@@ -116,8 +115,10 @@ fn spread_node<R: Rule, T: Tally>(
         vs.new ≡ spread by vs.old u.now }
 {
     let legs = legs(by.round, u.label.down.lasts);
-    for k in 0..16 {
-        cross(by, u, &legs, vs, k);
+    let outs = outs_of(&u.arcs.to);
+    let doors = &outs.doors[..outs.many];
+    for k in doors {
+        cross(by, u, &legs, vs, usize::from(*k));
     }
 }
 
@@ -135,32 +136,73 @@ fn unreached<R: Rule, T: Tally>(rule: &R, tally: &T) -> Down<R::State, T::Value>
     }
 }
 
+/// The nodes of the layer, which stand first, have no label any more.
 fn clear<R: Rule, T: Tally>(rule: &R, tally: &T, vs: &mut [Node<R::State, T::Value>])
-    ensures { vs.new ≡ map (cleared (R.sense rule.now) (T.sense tally.now)) vs.old }
+    ensures { vs.new ≡ renewed (cleared (R.sense rule.now) (T.sense tally.now)) vs.old }
 {
     let blank = unreached(rule, tally);
     for v in vs.iter_mut() {
+        if v.label.down.lasts == 0 {
+            break;
+        }
         v.label.down = blank;
     }
 }
 
-/// Works out anew the labels of the layer vs, from the nodes of the layer us before it, which stand first.
+/// The latest finish that the clock allows before the end.
+const LATEST: u32 = 39_969;
+
+/// Whether the record is in use, with a finish that the clock allows before the end.
+fn is_source<S: Copy, V: Copy>(u: &Node<S, V>) -> bool
+    ensures { result ≡ is_source u.now }
+{
+    u.label.down.lasts != 0 && u.label.down.finish <= LATEST
+}
+
+/// Over all arcs of the nodes of the layer us, which stand first.
+fn spread_layer<R: Rule, T: Tally>(
+    by: &Setting<'_, R, T>,
+    us: &[Node<R::State, T::Value>],
+    vs: &mut [Node<R::State, T::Value>],
+)
+    ensures { let by = lent_setting by.now (R.sense by.now.rule.now) (T.sense by.now.tally.now) in
+        vs.new ≡ crossed_all by us.now vs.old }
+{
+    for u in us {
+        if !is_source(u) {
+            break;
+        }
+        spread_node(by, u, vs);
+    }
+}
+
+/// Works out anew the labels of the nodes of the layer vs, from those of the layer us before it.
+#[tactic(auto, unfolding(crate::specs::Passes::next_renewed))]
 fn relabel_layer<R: Rule, T: Tally>(
     by: &Setting<'_, R, T>,
     us: &[Node<R::State, T::Value>],
     vs: &mut [Node<R::State, T::Value>],
 )
-    requires { AllByRecursion (Early (latest_finish 15)) us.now }
     ensures { let by = lent_setting by.now (R.sense by.now.rule.now) (T.sense by.now.tally.now) in
-        vs.new ≡ next_layer by us.now vs.old }
+        vs.new ≡ next_renewed by us.now vs.old }
 {
     clear(by.rule, by.tally, vs);
-    for u in us {
-        if u.label.down.lasts == 0 {
-            break;
-        }
-        spread_node(by, u, vs);
-    }
+    spread_layer(by, us, vs);
+}
+
+/// Works out anew the label of the end, which stands first in vs, from the nodes of the layer us before it.
+#[tactic(auto, using(crate::proofs::Steps::first_set), unfolding(crate::specs::Passes::end_renewed))]
+fn relabel_end<R: Rule, T: Tally>(
+    by: &Setting<'_, R, T>,
+    us: &[Node<R::State, T::Value>],
+    vs: &mut [Node<R::State, T::Value>],
+)
+    requires { 0 < length vs.old }
+    ensures { let by = lent_setting by.now (R.sense by.now.rule.now) (T.sense by.now.tally.now) in
+        vs.new ≡ end_renewed by us.now vs.old }
+{
+    vs[0].label.down = unreached(by.rule, by.tally);
+    spread_layer(by, us, &mut vs[..1]);
 }
 
 /// The label of the first node.
@@ -177,15 +219,6 @@ fn at_first<R: Rule, T: Tally>(rule: &R, tally: &T) -> Down<R::State, T::Value>
     }
 }
 
-/// The layer of the first node.
-fn begin<R: Rule, T: Tally>(rule: &R, tally: &T, us: &mut [Node<R::State, T::Value>])
-    requires { 0 < length us.old }
-    ensures { us.new ≡ first_layer (R.sense rule.now) (T.sense tally.now) us.old }
-{
-    clear(rule, tally, us);
-    us[0].label.down = at_first(rule, tally);
-}
-
 /// Works out anew the labels after a layer, which has its own, with `later` layers between it and the end.
 #[tactic(auto, using(crate::proofs::Rests::one_more, crate::proofs::Rests::front_long))]
 pub(crate) fn label_after<R: Rule, T: Tally>(
@@ -193,16 +226,13 @@ pub(crate) fn label_after<R: Rule, T: Tally>(
     nodes: &mut [Node<R::State, T::Value>],
     later: usize,
 )
-    requires later_bound { later ≤ 15 }
-    requires records_in_bounds { later * by.now.width + by.now.width < length nodes.old }
-    requires all_early { AllByRecursion (Early (latest_finish (15 - later)))
-        (take by.now.width nodes.old) }
+    requires { later * by.now.width + by.now.width < length nodes.old }
     ensures { let by = lent_setting by.now (R.sense by.now.rule.now) (T.sense by.now.tally.now) in
-        nodes.new ≡ labelled_after by later nodes.old }
+        nodes.new ≡ renewed_after by later nodes.old }
 {
     let (us, rest) = nodes.split_at_mut(by.width);
     if later == 0 {
-        relabel_layer(by, us, &mut rest[..1]);
+        relabel_end(by, us, rest);
     } else {
         relabel_layer(by, us, &mut rest[..by.width]);
         label_after(by, rest, later - 1);
@@ -210,16 +240,15 @@ pub(crate) fn label_after<R: Rule, T: Tally>(
 }
 
 /// Works out anew all that is worked out from the first node.
-#[tactic(auto, using(crate::proofs::Rests::one_more, crate::proofs::Rests::front_long), unfolding(crate::specs::Passes::pass_down))]
+#[tactic(auto, using(crate::proofs::Rests::one_more, crate::proofs::Steps::begun_set))]
 pub(crate) fn label_down<R: Rule, T: Tally>(
     by: &Setting<'_, R, T>,
     nodes: &mut [Node<R::State, T::Value>],
 )
-    requires one_le_width { 1 ≤ by.now.width }
-    requires width_in_bounds { by.now.round.now.n * by.now.width < length nodes.old }
+    requires { by.now.round.now.n * by.now.width < length nodes.old }
     ensures { let by = lent_setting by.now (R.sense by.now.rule.now) (T.sense by.now.tally.now) in
-        nodes.new ≡ pass_down by nodes.old }
+        nodes.new ≡ renewed_after by (by.round.n - 1) (begun by.rule by.tally nodes.old) }
 {
-    begin(by.rule, by.tally, &mut nodes[..by.width]);
+    nodes[0].label.down = at_first(by.rule, by.tally);
     label_after(by, nodes, by.round.n - 1);
 }

@@ -1,5 +1,5 @@
 //! The leg of an arc.
-ghost use Rattle.std.specs.Prelude.{◌≡◌, ℕ, ◌+◌, ◌<◌, ◌≤◌, ◌==◌, if◌then◌else◌, min, unwrap_or, slice_index};
+ghost use Rattle.std.specs.Prelude.{◌≡◌, ℕ, ◌+◌, ◌<◌, ◌≤◌, ◌==◌, if◌then◌else◌, min, max, unwrap_or, slice_index};
 ghost use Rattle.layers.specs.Labels.{nearest, leg};
 ghost use Rattle.labels.specs.Passes.{nearest_of};
 
@@ -33,29 +33,20 @@ pub fn leg_from(round: &Round, lasts: DoorSet, j: usize) -> u32
 /// More than any drive.
 const FAR: u16 = 1000;
 
-/// The drives of the row, where they are less.
-fn lower(row: &[u16; 17], best: &mut [u16; 16])
-    ensures { (k : ℕ) → k < 16 → slice_index best.new k
-        ≡ min (slice_index best.old k) (slice_index row.now (k + 1)) }
-{
-    for k in 0..16 {
-        best[k] = best[k].min(row[k + 1]);
-    }
-}
+/// 0 but for `FAR` at place 15.
+const LINE: [u16; 32] = [
+    0, 0, 0, 0, 0, 0, 0, 0, 0, 0, 0, 0, 0, 0, 0, FAR, 0, 0, 0, 0, 0, 0, 0, 0, 0, 0, 0, 0, 0, 0, 0,
+    0,
+];
 
 /// The drives from place i, where they are less; there is none from a door to itself.
 fn nearer_from(row: &[u16; 17], i: usize, best: &mut [u16; 16])
     requires { i ≤ 16 }
     ensures { (k : ℕ) → k < 16 → slice_index best.new k
-        ≡ (if i == k + 1 then slice_index best.old k
-        else min (slice_index best.old k) (slice_index row.now (k + 1))) }
+        ≡ min (slice_index best.old k) (max (slice_index row.now (k + 1)) (if i == k + 1 then 1000 else 0)) }
 {
-    if i == 0 {
-        lower(row, best);
-    } else {
-        let own = best[i - 1];
-        lower(row, best);
-        best[i - 1] = own;
+    for k in 0..16 {
+        best[k] = best[k].min(row[k + 1].max(LINE[16 - i + k]));
     }
 }
 

@@ -4,6 +4,7 @@
 pub mod blank;
 mod down;
 pub mod leg;
+pub mod outs;
 pub mod relabel;
 pub mod room;
 mod up;

@@ -1,19 +1,31 @@
 //! All labels of a diagram's records.
-ghost use Rattle.std.specs.Prelude.{◌≡◌, ◌+◌, ◌*◌, ◌≤◌, ◌&&◌, true, length, take, if◌then◌else◌};
+ghost use Rattle.std.specs.Prelude.{◌≡◌, ◌+◌, ◌*◌, ◌≤◌, ◌&&◌, true, nat_le, map, length, take, if◌then◌else◌};
 ghost use Rattle.layers.specs.Net.{Net};
 ghost use Rattle.layers.specs.Lawful.{IsLawful};
 ghost use Rattle.layers.specs.Records.{arcs_read, laid_arcs};
 ghost use Rattle.layers.specs.Settings.{lent_setting};
 ghost use Rattle.layers.specs.Calls.{records_with};
-ghost use Rattle.labels.specs.Passes.{fits, relabelled, in_time, may_follow, below_steps, HasUps, HasDownsBefore};
+ghost use Rattle.labels.specs.Passes.{fits, unlabelled, relabelled_used, relabelled, below_steps, HasUps, HasDownsBefore, HasPlaces};
 
+use crate::blank::blank_node;
 use crate::down::{label_after, label_down};
 use crate::room::has_room;
 use crate::up::label_up;
 use layers::node::Node;
 use layers::setting::Setting;
+use round::table::Round;
 use rules::rule::Rule;
 use tallies::tally::Tally;
+
+/// All labels of these records are blank.
+fn unlabel<R: Rule, T: Tally>(rule: &R, tally: &T, vs: &mut [Node<R::State, T::Value>])
+    ensures { vs.new ≡ map (unlabelled (R.sense rule.now) (T.sense tally.now)) vs.old }
+{
+    let blank = blank_node(rule, tally).label;
+    for v in vs.iter_mut() {
+        v.label = blank;
+    }
+}
 
 /// Works out all labels anew from the arcs: of arcs that a diagram may have, every label is as the definitions say. A list too
 /// short for the round and the width, and a width out of 1 to 128, are left alone.
@@ -29,42 +41,47 @@ pub fn relabel<R: Rule, T: Tally>(by: &Setting<'_, R, T>, nodes: &mut [Node<R::S
         → arcs_read (take (by.round.n * by.width + 1) nodes.old) ≡ laid_arcs by.width Ls
         → nodes.new ≡ records_with by nodes.old Ls }
 {
+    if !has_room(by.round, by.width, nodes.len()) {
+        return;
+    }
+    unlabel(by.rule, by.tally, &mut nodes[..by.round.n * by.width]);
+    relabel_used(by, nodes);
+}
+
+/// The same where the places that are not in use are known, and have blank labels: it goes over no other than those in use.
+pub fn relabel_used<R: Rule, T: Tally>(
+    by: &Setting<'_, R, T>,
+    nodes: &mut [Node<R::State, T::Value>],
+)
+    ensures passes { let by = lent_setting by.now (R.sense by.now.rule.now)
+        (T.sense by.now.tally.now) in
+        nodes.new ≡ (if fits by.round.n by.width (length nodes.old)
+        then relabelled_used by nodes.old else nodes.old) }
+    ensures labelled { let by = lent_setting by.now (R.sense by.now.rule.now)
+        (T.sense by.now.tally.now) in
+        (Ls : Net) → fits by.round.n by.width (length nodes.old) ≡ true
+        → IsLawful by.round.n by.width Ls
+        → arcs_read (take (by.round.n * by.width + 1) nodes.old) ≡ laid_arcs by.width Ls
+        → HasPlaces by Ls nodes.old
+        → nodes.new ≡ records_with by nodes.old Ls }
+{
     if has_room(by.round, by.width, nodes.len()) {
         label_down(by, nodes);
         label_up(nodes, by.round.n, by.width);
     }
 }
 
-/// Whether no finish of these records is above `latest`.
-fn in_time<S: Copy, V: Copy>(us: &[Node<S, V>], latest: u32) -> bool
-    ensures { result ≡ in_time latest us.now }
+/// Whether a list of `len` records has room for a diagram, and the layer is 1 to n.
+fn has_layer(round: &Round, width: usize, len: usize, layer: usize) -> bool
+    ensures { result ≡ (fits round.now.n width len && (nat_le 1 layer && nat_le layer round.now.n)) }
 {
-    us.iter().all(|u| u.label.down.finish <= latest)
-}
-
-/// Whether the list has room for a diagram, and the layer is one after a layer with finishes that the clock allows.
-fn may_follow<R: Rule, T: Tally>(
-    by: &Setting<'_, R, T>,
-    nodes: &[Node<R::State, T::Value>],
-    layer: usize,
-) -> bool
-    ensures { let by = lent_setting by.now (R.sense by.now.rule.now) (T.sense by.now.tally.now) in
-        result ≡ (fits by.round.n by.width (length nodes.now) && may_follow by layer nodes.now) }
-{
-    if !has_room(by.round, by.width, nodes.len()) || layer < 1 || layer > by.round.n {
-        return false;
-    }
-    let at = (layer - 1) * by.width;
-    in_time(
-        &nodes[at..at + by.width],
-        9_999 + (layer as u32 - 1) * 1_998,
-    )
+    has_room(round, width, len) && layer >= 1 && layer <= round.n
 }
 
 /// Works out anew the downward labels of the layer and of all after it, from those that stand in the layer before it: of arcs
-/// that a diagram may have, every label is as the definitions say if the upward sets and the labels before the layer are.
-/// Left alone are a list too short for the round and the width, a width out of 1 to 128, a layer that is not 1 to n, and one
-/// after a layer with a finish that no label of its has.
+/// that a diagram may have, every label is as the definitions say if the upward sets and the labels before the layer are, and
+/// the places that are not in use are known, and have blank labels. Left alone are a list too short for the round and the
+/// width, a width out of 1 to 128, and a layer that is not 1 to n.
 pub fn relabel_below<R: Rule, T: Tally>(
     by: &Setting<'_, R, T>,
     nodes: &mut [Node<R::State, T::Value>],
@@ -80,9 +97,10 @@ pub fn relabel_below<R: Rule, T: Tally>(
         → IsLawful by.round.n by.width Ls
         → arcs_read (take (by.round.n * by.width + 1) nodes.old) ≡ laid_arcs by.width Ls
         → HasUps by Ls nodes.old → HasDownsBefore by layer Ls nodes.old
+        → HasPlaces by Ls nodes.old
         → nodes.new ≡ records_with by nodes.old Ls }
 {
-    if may_follow(by, nodes, layer) {
+    if has_layer(by.round, by.width, nodes.len(), layer) {
         let (_, from) = nodes.split_at_mut((layer - 1) * by.width);
         label_after(by, from, by.round.n - layer);
     }

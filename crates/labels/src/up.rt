@@ -1,9 +1,10 @@
 //! The pass up: each node gathers from its targets, layer by layer from the end.
-ghost use Rattle.std.specs.Prelude.{◌≡◌, ℕ, ◌+◌, ◌*◌, ◌<◌, ◌≤◌, map, length, fold};
+ghost use Rattle.std.specs.Prelude.{◌≡◌, ℕ, ◌+◌, ◌*◌, ◌<◌, ◌≤◌, length, fold};
 ghost use Rattle.layers.specs.declared.node.Node.{Node as ANode};
 ghost use Rattle.layers.specs.Labels.{climb};
-ghost use Rattle.labels.specs.Passes.{up_by, ups_of, gathered_up, risen, risen_from, pass_up, taken_up};
+ghost use Rattle.labels.specs.Passes.{up_by, ups_of, gathered_up, renewed, risen, risen_from, pass_up, taken_up};
 
+use crate::outs::outs_of;
 use layers::node::{Node, Up};
 
 const NONE: Up = Up {
@@ -55,7 +56,7 @@ fn climb_by<S: Copy, V: Copy>(
 }
 
 /// What u gathers from the layer vs after it; a place that is not in use gathers nothing.
-#[tactic(auto, using(crate::proofs::Steps::folded_more, crate::proofs::Steps::taken_gathered), unfolding(crate::specs::Passes::ups_of, crate::specs::Passes::gathered_up))]
+#[tactic(auto, unfolding(crate::specs::Passes::ups_of, crate::specs::Passes::gathered_up))]
 fn climb_all<S: Copy, V: Copy>(vs: &[Node<S, V>], u: &Node<S, V>) -> Up
     ensures { result ≡ gathered_up (ups_of vs.now u.now) }
 {
@@ -63,17 +64,22 @@ fn climb_all<S: Copy, V: Copy>(vs: &[Node<S, V>], u: &Node<S, V>) -> Up
         return NONE;
     }
     let mut got: Option<Up> = None;
-    for k in 0..16 {
-        got = climb_by(vs, u, k, got);
+    let outs = outs_of(&u.arcs.to);
+    let doors = &outs.doors[..outs.many];
+    for k in doors {
+        got = climb_by(vs, u, usize::from(*k), got);
     }
     got.unwrap_or(NONE)
 }
 
-/// The layer us gathers from the layer vs after it.
+/// The nodes of the layer us, which stand first, gather from the layer vs after it.
 fn rise_layer<S: Copy, V: Copy>(us: &mut [Node<S, V>], vs: &[Node<S, V>])
-    ensures { us.new ≡ map (risen vs.now) us.old }
+    ensures { us.new ≡ renewed (risen vs.now) us.old }
 {
     for u in us.iter_mut() {
+        if u.label.down.lasts == 0 {
+            break;
+        }
         let up = climb_all(vs, u);
         u.label.up = up;
     }

@@ -1,0 +1,127 @@
+-- What the passes keep: the arcs, and each pass the labels of the other.
+use Rattle.std.proofs.Common.{◌≡◌, ℕ, zero, suc, ◌+◌, ◌-◌, ◌*◌, eqb, List, [], ◌∷◌, ◌++◌, map, length, get_or, take, drop, fold, sym, refl, ap, ◌∙◌, ap₂, arith}
+use Rattle.std.specs.List.{range_with_len}
+use Rattle.std.proofs.lemmas.Bool.{cond_both}
+use Rattle.std.proofs.lemmas.List.{same_lists, get_or-map, length-map, map-append, take-map, take-append-drop}
+use Rattle.std.proofs.lemmas.List.FromFn.{get_or-map-range_with_len, length-map-range_with_len}
+use Rattle.std.proofs.Math.Seq.{map-set_same}
+use Rattle.layers.specs.declared.node.Node.{Node}
+use Rattle.layers.specs.declared.node.Arcs.{Arcs}
+use Rattle.layers.specs.declared.node.Label.{Label}
+use Rattle.layers.specs.declared.node.Down.{Down}
+use Rattle.layers.specs.declared.node.Up.{Up}
+use Rattle.layers.specs.Labels.{arrival_over, blank_label, no_up}
+use Rattle.layers.specs.Records.{is_used}
+use Rattle.layers.specs.Settings.{Setting}
+use Rattle.labels.specs.Passes.{with_down, with_up, bare, blank_node, cleared, unlabelled, begun, renewed, sources, first_layer, next_layer, labelled, labelled_after, pass_down, landed, hit, crossed, spread, crossed_all, next_renewed, end_renewed, renewed_after, risen, risen_from, pass_up, relabelled_used, relabelled}
+use Rattle.labels.proofs.Climbs.{arcs_of, down_of, up_of}
+use Rattle.labels.proofs.Folds.{folded_keeps}
+
+module _ {S V : Type 0} where
+  -- records are the same by their arcs and their labels
+  pub same-records : (xs ys : List (Node S V)) → map arcs_of xs ≡ map arcs_of ys → map down_of xs ≡ map down_of ys → map up_of xs ≡ map up_of ys → xs ≡ ys
+  same-records [] [] a d u = refl
+  same-records [] (y ∷ ys) a d u = absurd cc
+  same-records (x ∷ xs) [] a d u = absurd cc
+  same-records (x ∷ xs) (y ∷ ys) a d u =
+      let rest : map arcs_of xs ≡ map arcs_of ys = cc in
+      let ds : map down_of xs ≡ map down_of ys = cc in
+      let us : map up_of xs ≡ map up_of ys = cc in
+      let arcs : x.arcs ≡ y.arcs = cc in
+      let down : x.label.down ≡ y.label.down = cc in
+      let up : x.label.up ≡ y.label.up = cc in
+      ap₂ (λ z zs. z ∷ zs) (ap₂ (λ (o : Arcs) (l : Label S V). record { arcs = o; label = l }) arcs (ap₂ (λ (o : Down S V) (u : Up). record { down = o; up = u }) down up)) (same-records xs ys rest ds us)
+
+  pub fronts : {X : Type 0} (f : Node S V → X) (k : ℕ) (xs ys : List (Node S V)) → map f xs ≡ map f ys → map f (take k xs) ≡ map f (take k ys)
+  fronts f k xs ys e = sym (take-map f k xs) ∙ ap (take k) e ∙ take-map f k ys
+
+  -- two parts, each the same to f
+  pub in-parts : {X : Type 0} (f : Node S V → X) (k : ℕ) (A B xs : List (Node S V)) → map f A ≡ map f (take k xs) → map f B ≡ map f (drop k xs) → map f (A ++ B) ≡ map f xs
+  in-parts f k A B xs a b = map-append f A B ∙ ap₂ (λ ys zs. ys ++ zs) a b ∙ sym (map-append f (take k xs) (drop k xs)) ∙ ap (map f) (take-append-drop k xs)
+
+  each-kept : {X : Type 0} (f : Node S V → X) (g : Node S V → Node S V) → ((x : Node S V) → f (g x) ≡ f x) → (us : List (Node S V)) → map f (map g us) ≡ map f us
+  each-kept f g h [] = refl
+  each-kept f g h (u ∷ us) = ap₂ (λ y ys. y ∷ ys) (h u) (each-kept f g h us)
+
+  renewed-keeps : {X : Type 0} (f : Node S V → X) (g : Node S V → Node S V) → ((x : Node S V) → f (g x) ≡ f x) → (us : List (Node S V)) → map f (renewed g us) ≡ map f us
+  renewed-keeps f g h [] = refl
+  renewed-keeps f g h (u ∷ us) = cond_both (is_used u) (g u ∷ renewed g us) (u ∷ us) (λ ys. map f ys ≡ f u ∷ map f us) (λ _. ap₂ (λ y ys. y ∷ ys) (h u) (renewed-keeps f g h us)) (λ _. refl)
+
+  -- ---- the pass up keeps what is not an upward set
+  module _ {X : Type 0} (f : Node S V → X) (h : (x : Node S V) (u : Up) → f (with_up x u) ≡ f x) where
+    pub rises_keep : (w k : ℕ) (xs : List (Node S V)) → map f (risen_from w k xs) ≡ map f xs
+    unfolding risen_from risen
+    rises_keep w zero xs = in-parts f w _ _ xs (renewed-keeps f _ (λ x. h x _) (take w xs)) (in-parts f 1 _ _ (drop w xs) (each-kept f bare (λ x. h x no_up) (take 1 (drop w xs))) refl)
+    rises_keep w (suc k) xs = in-parts f w _ _ xs (renewed-keeps f _ (λ x. h x _) (take w xs)) (rises_keep w k (drop w xs))
+
+module _ {S V : Type 0} (by : Setting S V) where
+  -- ---- the pass down keeps what is not a downward label
+  module _ {X : Type 0} (f : Node S V → X) (h : (x : Node S V) (l : Down S V) → f (with_down x l) ≡ f x) where
+    next-keeps : (us vs : List (Node S V)) → map f (next_layer by us vs) ≡ map f vs
+    unfolding next_layer labelled
+    next-keeps us vs =
+        let g = labelled by us vs in
+        let n = length vs in
+        let z = blank_node by.rule by.tally in
+        let long : length (map f (map g (range_with_len 0 n))) ≡ n = length-map (map g (range_with_len 0 n)) f ∙ length-map-range_with_len g 0 n in
+        same_lists (map f (map g (range_with_len 0 n))) (map f vs) (long ∙ sym (length-map vs f))
+        (λ b d lt.
+        get_or-map f (map g (range_with_len 0 n)) b z d (omega (arith, long, length-map-range_with_len g 0 n))
+        ∙ ap f (get_or-map-range_with_len g 0 n b b z (omega (arith, long)) (omega arith))
+        ∙ h (get_or vs b z) (g b).label.down ∙ sym (get_or-map f vs b z d (omega (arith, long))))
+
+    after-keeps : (k : ℕ) (xs : List (Node S V)) → map f (labelled_after by k xs) ≡ map f xs
+    unfolding labelled_after
+    after-keeps zero xs = let us = take by.width xs in let rest = drop by.width xs in in-parts f by.width _ _ xs refl (in-parts f 1 _ _ rest (next-keeps us (take 1 rest)) refl)
+    after-keeps (suc k) xs =
+        let us = take by.width xs in
+        let rest = drop by.width xs in
+        in-parts f by.width _ _ xs refl (after-keeps k (next_layer by us (take by.width rest) ++ drop by.width rest) ∙ in-parts f by.width _ _ rest (next-keeps us (take by.width rest)) refl)
+
+    crossed-keeps : (us vs : List (Node S V)) → map f (crossed_all by us vs) ≡ map f vs
+    unfolding crossed_all spread crossed hit landed
+    crossed-keeps us vs =
+        let P : List (Node S V) → Type 0 = λ ys. map f ys ≡ map f vs in
+        folded_keeps P (spread by)
+        (λ ys u e. cond_both (eqb u.label.down.lasts 0) ys (fold (crossed by u) ys (range_with_len 0 16)) P (λ _. e)
+        (λ _. folded_keeps P (crossed by u)
+        (λ ys k e. cond_both (eqb (get_or u.arcs.to k 0) 0) ys (landed by.rule by.tally ys (get_or u.arcs.to k 0 - 1) (arrival_over by u.label.down (k + 1))) P (λ _. e)
+        (λ _. map-set_same f ys (get_or u.arcs.to k 0 - 1) _ (blank_node by.rule by.tally) (h _ _) ∙ e))
+        ys (range_with_len 0 16) e))
+        vs (sources us) refl
+
+    abbrev blank : Down S V
+    blank = blank_label by.rule by.tally
+
+    abbrev clear : Node S V → Node S V
+    clear = cleared by.rule by.tally
+
+    renewals-keep : (k : ℕ) (xs : List (Node S V)) → map f (renewed_after by k xs) ≡ map f xs
+    unfolding renewed_after next_renewed end_renewed
+    renewals-keep zero xs =
+        let rest = drop by.width xs in
+        in-parts f by.width _ _ xs refl (in-parts f 1 _ _ rest (crossed-keeps (take by.width xs) (map clear (take 1 rest)) ∙ each-kept f clear (λ x. h x blank) (take 1 rest)) refl)
+    renewals-keep (suc k) xs =
+        let rest = drop by.width xs in
+        in-parts f by.width _ _ xs refl (renewals-keep k _ ∙ in-parts f by.width _ _ rest (crossed-keeps (take by.width xs) (renewed clear (take by.width rest)) ∙ renewed-keeps f clear (λ x. h x blank) (take by.width rest)) refl)
+
+    first-keeps : (us : List (Node S V)) → map f (first_layer by.rule by.tally us) ≡ map f us
+    first-keeps [] = refl
+    first-keeps (u ∷ us) = ap₂ (λ y ys. y ∷ ys) (h u _) (each-kept f _ (λ x. h x _) us)
+
+    pub down_keeps : (xs : List (Node S V)) → map f (pass_down by xs) ≡ map f xs
+    unfolding pass_down
+    down_keeps xs = after-keeps (by.round.n - 1) _ ∙ in-parts f by.width _ _ xs (first-keeps (take by.width xs)) refl
+
+  -- the arcs of any list stay
+  pub relabelled-arcs : (xs : List (Node S V)) → map arcs_of (relabelled by xs) ≡ map arcs_of xs
+  unfolding relabelled relabelled_used pass_up
+  relabelled-arcs xs =
+      let at = by.round.n * by.width in
+      let ys = map (unlabelled by.rule by.tally) (take at xs) ++ drop at xs in
+      rises_keep arcs_of (λ x u. refl) by.width (by.round.n - 1) _ ∙ renewals-keep arcs_of (λ x l. refl) (by.round.n - 1) (begun by.rule by.tally ys) ∙ begins ys
+      ∙ in-parts arcs_of at _ _ xs (each-kept arcs_of _ (λ x. refl) (take at xs)) refl
+    where
+      begins : (ys : List (Node S V)) → map arcs_of (begun by.rule by.tally ys) ≡ map arcs_of ys
+      begins [] = refl
+      begins (y ∷ ys) = refl
