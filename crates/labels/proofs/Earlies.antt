@@ -1,18 +1,15 @@
 -- No finish of a layer is above what the clock allows after so many steps.
-use Rattle.std.proofs.Common.{◌≡◌, ℕ, zero, suc, ◌+◌, ◌-◌, ◌≤◌, ◌≢◌, List, [], ◌∷◌, ◌++◌, map, length, take, drop, sym, refl, ap, subst, arith}
-use Rattle.std.proofs.lemmas.List.{length-map}
+use Rattle.std.proofs.Common.{◌≡◌, ℕ, zero, suc, ◌+◌, ◌-◌, ◌≤◌, ◌≢◌, List, [], ◌∷◌, ◌++◌, map, length, take, drop, sym, refl, subst, arith}
 use Rattle.std.specs.List.{range_with_len, AllByRecursion as All}
 use Rattle.std.proofs.ByRecursion.{All-from_get_or}
 use Rattle.std.proofs.lemmas.List.FromFn.{get_or-map-range_with_len, length-map-range_with_len}
 use Rattle.std.proofs.lemmas.Bool.{cond_both}
 use Rattle.round.specs.Clock.{latest_finish}
 use Rattle.round.proofs.Clocks.{clock-laws}
-use Rattle.rules.specs.Rules.{RuleSense}
-use Rattle.tallies.specs.Tallies.{TallySense}
 use Rattle.layers.specs.declared.node.Node.{Node}
 use Rattle.layers.specs.declared.node.Down.{Down}
-use Rattle.layers.specs.Labels.{leg, arrival_over, merge, blank_label}
-use Rattle.labels.specs.Passes.{arrivals, cleared, with_down, Early, blank_node, gathered, labelled, next_layer, next_renewed, renewed_after, first_layer}
+use Rattle.layers.specs.Labels.{leg, arrival_over, merge}
+use Rattle.labels.specs.Passes.{arrivals, Early, blank_node, gathered, labelled, next_layer, next_renewed, renewed_after}
 use Rattle.labels.proofs.Folds.{all_mono, folded_keeps}
 use Rattle.labels.proofs.Scattered.{all-arrivals}
 use Rattle.labels.proofs.Legs.{leg-most}
@@ -22,10 +19,6 @@ use Rattle.layers.specs.Records.{is_used, nodes_in}
 all_nodes : {S V : Type 0} (P : Node S V → Type 0) (us : List (Node S V)) → All P us → All P (nodes_in us)
 all_nodes P [] h = tt
 all_nodes P (u ∷ us) h = cond_both (is_used u) (u ∷ nodes_in us) [] (All P) (λ _. (h.0, all_nodes P us h.1)) (λ _. tt)
-
-pub first-long : {S V : Type 0} (R : RuleSense S) (T : TallySense V) (us : List (Node S V)) → length (first_layer R T us) ≡ length us
-first-long R T [] = refl
-first-long R T (u ∷ us) = ap suc (length-map us (λ v. with_down v (blank_label R T)))
 
 module _ {S V : Type 0} (by : Setting S V) where
   abbrev Soon : ℕ → Down S V → Type 0
@@ -50,14 +43,6 @@ module _ {S V : Type 0} (by : Setting S V) where
       (gathered-soon (latest_finish (suc k)) (arrivals by (b + 1) (nodes_in us))
       (all-arrivals by (Soon (latest_finish (suc k))) (Early (latest_finish k)) (λ u j e. arrive-soon k u.label.down j e) (b + 1) (nodes_in us)
       (all_nodes (Early (latest_finish k)) us h))))
-
-  pub first_early : (us : List (Node S V)) → All (Early (latest_finish 0)) (first_layer by.rule by.tally us)
-  first_early [] = tt
-  first_early (u ∷ us) = (omega arith, rest us)
-    where
-      rest : (us : List (Node S V)) → All (Early (latest_finish 0)) (map (cleared by.rule by.tally) us)
-      rest [] = tt
-      rest (u ∷ us) = (omega arith, rest us)
 
 pub after_more : {S V : Type 0} (by : Setting S V) (k : ℕ) (xs : List (Node S V)) → k ≢ 0
     → renewed_after by k xs

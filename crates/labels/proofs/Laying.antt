@@ -1,6 +1,7 @@
 -- The two passes over records with the arcs of a net leave the net laid out with its labels.
 use Rattle.std.proofs.Common.{◌≡◌, ℕ, zero, suc, ◌+◌, ◌-◌, ◌*◌, ◌<◌, ◌≤◌, Bool, true, false, cond, not, eqb, List, [], ◌∷◌, ◌++◌, map, length, get_or, take, drop, Some, None, fold, Option, sym, refl, ap, ◌∙◌, subst, ap₂, inl, ⊎_elim, append_assoc, suc-mul, zero-mul, zero-add, add-one, arith}
 use Rattle.std.specs.List.{range_with_len, flat_map, AllByRecursion as All}
+use Rattle.std.proofs.ByRecursion.{All-from_get_or}
 use Rattle.std.proofs.Math.Nat.{mul-le-mul_right}
 use Rattle.round.specs.Clock.{latest_finish}
 use Rattle.std.proofs.lemmas.List.FromFn.{get_or-map-range_with_len, length-map-range_with_len}
@@ -22,16 +23,16 @@ use Rattle.layers.proofs.Flows.{table_at, Among, ins-from}
 use Rattle.layers.proofs.Bridge.{table-long, map-table, labels_full, ups-full}
 use Rattle.layers.specs.Calls.{records_with}
 use Rattle.layers.proofs.Proper.{RangedAll, tied-ranged}
-use Rattle.labels.specs.Passes.{with_up, blank_node, by_door, from_node, arrivals, gathered, labelled, next_layer, up_by, ups_of, gathered_up, renewed, begun, renewed_after, Early, HasUps, HasDownsBefore, unused_label, HasPlaces, risen, risen_from, cleared, unlabelled, first_layer, bare, pass_up, relabelled_used, relabelled}
+use Rattle.labels.specs.Passes.{with_up, blank_node, by_door, from_node, arrivals, gathered, labelled, next_layer, up_by, ups_of, gathered_up, renewed, begun, renewed_after, Early, HasUps, HasDownsBefore, unused_label, HasPlaces, risen, risen_from, unlabelled, bare, pass_up, relabelled_used, relabelled}
 use Rattle.std.proofs.lemmas.Nat.{pow_pos}
 pub use Rattle.labels.proofs.Climbs.{arcs_of}
 use Rattle.labels.proofs.Climbs.{down_of, Linked, linked, node-climbed, climbed-is, up_of}
 use Rattle.labels.proofs.Folds.{folded_keeps}
 use Rattle.labels.proofs.Scattered.{or_some}
 use Rattle.labels.proofs.Inward.{Standing, Narrow, arrivals-in, gathered-is}
-use Rattle.labels.proofs.Earlies.{first-long, early-last, next-early, first_early}
+use Rattle.labels.proofs.Earlies.{early-last, next-early}
 use Rattle.labels.proofs.Keeps.{renewals-keep, begun-keeps, rises_keep, same-records, fronts, in-parts}
-use Rattle.labels.proofs.Places.{next-is, end-is, Stands, Idle, Blank, Ready, renewed-map, idle-stays, begun-is}
+use Rattle.labels.proofs.Places.{next-is, end-is, Stands, Idle, Blank, Ready, renewed-map, idle-stays}
 use Rattle.layers.proofs.Model.{or_blank, or_no_up}
 use Rattle.layers.specs.Settings.{Setting}
 
@@ -317,20 +318,36 @@ module _ {S V : Type 0} (by : Setting S V) where
       ∙ sym (append_assoc (table by.width (record_of_place by L labs (ups (L ∷ M ∷ Ls)))) (VS ++ X) later))
 
   -- ---- both passes
-  first_block : (L : Layer) (us : List (Node S V)) → map arcs_of us ≡ table by.width (arcs_at L) → map bare (first_layer by.rule by.tally us) ≡ table by.width (record_of_place by L (first_labels by.rule by.tally) [])
-  first_block L us e =
-      let R = record_of_place by L (first_labels by.rule by.tally) [] in
-      let long = mapped-long arcs_of (arcs_at L) by.width us e in
-      mapped-is bare R by.width (first_layer by.rule by.tally us) (first-long by.rule by.tally us ∙ long)
-      (λ a d h. at_first us a d (omega (arith, long)) ∙ ap (first_at a) (mapped-at arcs_of (arcs_at L) by.width us a d e h))
-    where
-      first_at : ℕ → Arcs → Node S V
-      first_at a x = record { arcs = x; label = record { down = or_blank by.rule by.tally (get_or (first_labels by.rule by.tally) a None); up = no_up } }
+  first_row : Layer → ℕ → Node S V
+  first_row L = record_of_place by L (first_labels by.rule by.tally) []
 
-      at_first : (us : List (Node S V)) (a : ℕ) (d : Node S V) → a < length us → bare (get_or (first_layer by.rule by.tally us) a d) ≡ first_at a (get_or us a d).arcs
-      at_first [] a d h = absurd (omega arith)
-      at_first (u ∷ us) zero d h = refl
-      at_first (u ∷ us) (suc a) d h = ap bare (get_or-map (cleared by.rule by.tally) us a d d (omega arith))
+  -- the layer of the first node, begun
+  front-begun : (w m : ℕ) (L : Layer) (xs : List (Node S V)) → 1 ≤ w → m ≤ 1 → Stands (Blank by) m (take w xs) → map arcs_of (take w xs) ≡ table w (arcs_at L)
+      → (map bare (take w (begun by.rule by.tally xs)) ≡ table w (first_row L)) × (drop w (begun by.rule by.tally xs) ≡ drop w xs)
+  unfolding first_row
+  front-begun zero m L xs low few s arr = absurd (omega arith)
+  front-begun (suc w) m L [] low few s arr = absurd cc
+  front-begun (suc w) m L (x ∷ xs) low few s arr =
+      let here : x.arcs ≡ arcs_at L 0 = cc in
+      let others : map arcs_of (take w xs) ≡ table w (λ k. arcs_at L (suc k)) = cc in
+      let made : Arcs → Down S V → Node S V = λ o l. record { arcs = o; label = record { down = l; up = no_up } } in (
+        ap₂ (λ y ys. y ∷ ys) (ap (λ (o : Arcs). made o (first_label by.rule by.tally)) here)
+            (mapped-is bare (λ k. first_row L (suc k)) w (take w xs) (mapped-long arcs_of (λ k. arcs_at L (suc k)) w (take w xs) others)
+            (λ a d lt. ap₂ made (mapped-at arcs_of (λ k. arcs_at L (suc k)) w (take w xs) a d others lt)
+            (ap (λ (l : Label S V). l.down) ((s (suc a) d (omega (arith, mapped-long arcs_of (λ k. arcs_at L (suc k)) w (take w xs) others))).1 (omega arith))))),
+        refl,
+      )
+
+  front-early : (L : Layer) (us : List (Node S V)) → map bare us ≡ table by.width (first_row L) → All (Early (latest_finish 0)) us
+  unfolding first_row
+  front-early L us e =
+      let z = blank_node by.rule by.tally in
+      All-from_get_or (Early (latest_finish 0)) us z
+      (λ b lt. subst (λ (x : Node S V). x.label.down.finish ≤ latest_finish 0) (sym (mapped-at bare (first_row L) by.width us b z e (omega (arith, mapped-long bare (first_row L) by.width us e)))) (soon b))
+    where
+      soon : (b : ℕ) → (first_row L b).label.down.finish ≤ latest_finish 0
+      soon zero = omega arith
+      soon (suc b) = omega arith
 
   standing-first : (L : Layer) → length L ≡ 1 → Standing by (first_labels by.rule by.tally) L
   standing-first L e zero lt = (first_label by.rule by.tally, refl, refl)
@@ -349,34 +366,25 @@ module _ {S V : Type 0} (by : Setting S V) where
     subst (Spare Ls) (sym (drop-map up_of by.width xs)) (ready-spare Ls (drop by.width xs) r.1),
   )
 
-  used-laid : (L : Layer) (Ls : Net) (xs : List (Node S V)) → IsLawful by.round.n by.width (L ∷ Ls) → Arranged by.width (L ∷ Ls) xs → Ready by (L ∷ Ls) xs
-      → relabelled_used by xs ≡ labelled_records by (L ∷ Ls) ++ drop (by.round.n * by.width + 1) xs
-  unfolding labelled_records relabelled_used pass_up
-  used-laid L Ls xs p arr ready =
+  pub used-lawful : (Ls : Net) (xs : List (Node S V)) → IsLawful by.round.n by.width Ls → Arranged by.width Ls xs → Ready by Ls xs → relabelled_used by xs ≡ records_with by xs Ls
+  unfolding records_with labelled_records relabelled_used pass_up first_row
+  used-lawful [] xs p arr ready = let none : 0 ≡ by.round.n = p.deep in absurd (omega (arith, by.round.one))
+  used-lawful (L ∷ Ls) xs p arr ready =
       let w = by.width in
-      let us = take w xs in
-      let F = first_layer by.rule by.tally us in
-      let D = drop w xs in
       let k = length Ls in
+      let labs = first_labels by.rule by.tally in
+      let B = begun by.rule by.tally xs in
       let deep : suc k ≡ by.round.n = p.deep in
       let first : length L ≡ 1 = p.one_first in
       let good = good-net by.round.n w (L ∷ Ls) by.round.most p.even p.roomy (tied-ranged (L ∷ Ls) p.tied) in
       let room : length L ≤ w = good.1 in
-      let long : length F ≡ w = first-long by.rule by.tally us ∙ mapped-long arcs_of (arcs_at L) w us arr.0 in
-      let begins : begun by.rule by.tally xs ≡ F ++ D = begun-is by ready.0.0 w xs (omega arith) (omega (arith, ready.0.1)) ready.0.2 in
-      let d = down-laid by k 0 (first_labels by.rule by.tally) L Ls (F ++ D) refl (omega (arith, by.round.most)) (rw (take_at F D w long) (first_early by us)) good p.tied (standing-first L first)
-      (rw (take_at F D w long) (first_block L us arr.0)) (rw (drop_at F D w long) arr.1) (rw (drop_at F D w long) ready.1) in
-      let kept : map up_of (renewed_after by k (F ++ D)) ≡ map up_of xs = renewals-keep by up_of (λ x l. refl) k (F ++ D) ∙ ap (map up_of) (sym begins) ∙ begun-keeps by up_of (λ x l. refl) xs in
+      let f = front-begun w ready.0.0 L xs (omega arith) (omega (arith, ready.0.1)) ready.0.2 arr.0 in
+      let d = down-laid by k 0 labs L Ls B refl (omega (arith, by.round.most)) (front-early L (take w B) f.0) good p.tied (standing-first L first) f.0 (rw f.1 arr.1) (rw f.1 ready.1) in
+      let kept : map up_of (renewed_after by k B) ≡ map up_of xs = renewals-keep by up_of (λ x l. refl) k B ∙ begun-keeps by up_of (λ x l. refl) xs in
       let less : by.round.n - 1 ≡ k = omega arith in
-      rw (less, begins)
-      (up-laid k (first_labels by.rule by.tally) L Ls (renewed_after by k (F ++ D)) refl good p.tied (standing-first L first) (sym first) d.0 (rw kept (ready-spare (L ∷ Ls) xs ready))
-      ∙ ap (λ ys. labelled_from by (first_labels by.rule by.tally) (L ∷ Ls) ++ ys)
-      (d.1 ∙ ap (past w k) (drop_at F D w long) ∙ past-is w (suc k) xs ∙ ap (λ (n : ℕ). drop (n * w + 1) xs) deep))
-
-  pub used-lawful : (Ls : Net) (xs : List (Node S V)) → IsLawful by.round.n by.width Ls → Arranged by.width Ls xs → Ready by Ls xs → relabelled_used by xs ≡ records_with by xs Ls
-  unfolding records_with
-  used-lawful [] xs p arr ready = let none : 0 ≡ by.round.n = p.deep in absurd (omega (arith, by.round.one))
-  used-lawful (L ∷ Ls) xs p arr ready = used-laid L Ls xs p arr ready
+      rw less
+      (up-laid k labs L Ls (renewed_after by k B) refl good p.tied (standing-first L first) (sym first) d.0 (rw kept (ready-spare (L ∷ Ls) xs ready))
+      ∙ ap (λ ys. labelled_from by labs (L ∷ Ls) ++ ys) (d.1 ∙ ap (past w k) f.1 ∙ past-is w (suc k) xs ∙ ap (λ (n : ℕ). drop (n * w + 1) xs) deep))
 
   blank-ready : (Ls : Net) (xs : List (Node S V)) → ((a : ℕ) (d : Node S V) → a < length Ls * by.width → a < length xs → Blank by (get_or xs a d)) → Ready by Ls xs
   blank-ready [] xs h = tt
@@ -535,7 +543,7 @@ module _ {S V : Type 0} (by : Setting S V) where
 
   pub below-lawful : (i : ℕ) (Ls : Net) (xs : List (Node S V)) → 1 ≤ i → i ≤ by.round.n → by.round.n * by.width + 1 ≤ length xs → IsLawful by.round.n by.width Ls → Arranged by.width Ls xs → HasUps by Ls xs → HasDownsBefore by i Ls xs → Ready by Ls xs
       → below (i - 1) (by.round.n - i) xs ≡ records_with by xs Ls
-  unfolding records_with labelled_records
+  unfolding records_with labelled_records first_row
   below-lawful i [] xs low high room p arr up down ready = let none : 0 ≡ by.round.n = p.deep in absurd (omega (arith, by.round.one))
   below-lawful i (L ∷ Ls) xs low high room p arr up down ready =
       let w = by.width in
@@ -552,7 +560,7 @@ module _ {S V : Type 0} (by : Setting S V) where
       (rows-of down_of i labs (L ∷ Ls) xs (drop (n * w + 1) xs) (omega (arith, mul-le-mul_right w high)) down) in
       let us = take w xs in
       let here = front-laid L labs (ups (L ∷ Ls)) us arr.0 rows.0 in
-      let early = early-same (latest_finish 0) (first_layer by.rule by.tally us) us (first_block L us arr.0 ∙ sym here) (first_early by us) in
+      let early = front-early L us here in
       let Y = below d k xs in
       let b = below-from d k 0 labs L Ls xs same (omega (arith, by.round.most)) early good p.tied (standing-first L first) arr ready rows in
       let kept : map up_of Y ≡ map up_of xs = in-parts up_of (d * w) (take (d * w) xs) (renewed_after by k (drop (d * w) xs)) xs refl (renewals-keep by up_of (λ x l. refl) k (drop (d * w) xs)) in

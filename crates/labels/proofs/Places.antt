@@ -2,7 +2,6 @@
 use Rattle.std.proofs.Common.{◌≡◌, ℕ, zero, suc, ◌<◌, ◌≤◌, Bool, true, false, cond, not, ◌&&◌, eqb, leb, List, [], ◌∷◌, ◌++◌, map, length, get_or, take, drop, fold, sym, refl, ap, ◌∙◌, ap₂, arith}
 use Rattle.std.specs.List.{AllByRecursion as All}
 use Rattle.std.proofs.lemmas.Bool.{le-leb, eq-eqb}
-use Rattle.std.proofs.lemmas.List.{take-append-drop}
 use Rattle.round.specs.Clock.{latest_finish}
 use Rattle.layers.specs.declared.node.Label.{Label}
 use Rattle.layers.specs.declared.node.Node.{Node}
@@ -10,7 +9,7 @@ use Rattle.layers.specs.Labels.{blank_label, no_up}
 use Rattle.layers.specs.Net.{Net}
 use Rattle.layers.specs.Records.{is_used, nodes_in}
 use Rattle.layers.specs.Settings.{Setting}
-use Rattle.labels.specs.Passes.{Early, cleared, with_up, first_layer, begun, renewed, sources, spread, crossed_all, next_layer, next_renewed, end_renewed, ups_of, gathered_up, risen}
+use Rattle.labels.specs.Passes.{Early, cleared, with_up, renewed, sources, spread, crossed_all, next_layer, next_renewed, end_renewed, ups_of, gathered_up, risen}
 use Rattle.labels.proofs.Scattered.{spreads-layer}
 
 and-true : (q r : Bool) → r ≡ true → q && r ≡ q
@@ -69,10 +68,3 @@ module _ {S V : Type 0} (by : Setting S V) where
   abbrev pub Ready : Net → List (Node S V) → Type 0
   Ready [] xs = Unit {0}
   Ready (L ∷ Ls) xs = ((m : ℕ) × (m ≤ length L) × Stands Blank m (take by.width xs)) × Ready Ls (drop by.width xs)
-
-  pub begun-is : (m w : ℕ) (xs : List (Node S V)) → 1 ≤ w → m ≤ 1 → Stands Blank m (take w xs) → begun by.rule by.tally xs ≡ first_layer by.rule by.tally (take w xs) ++ drop w xs
-  begun-is m zero xs low few s = absurd (omega arith)
-  begun-is m (suc w) [] low few s = refl
-  begun-is m (suc w) (x ∷ xs) low few s =
-      ap (λ ys. first_layer by.rule by.tally (x ∷ []) ++ ys)
-      (sym (take-append-drop w xs) ∙ ap (λ ys. ys ++ drop w xs) (sym (all-same (cleared by.rule by.tally) (take w xs) (λ a d lt. (blank-stays (get_or (take w xs) a d) ((s (suc a) d (omega arith)).1 (omega arith))).1))))

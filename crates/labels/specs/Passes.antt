@@ -79,11 +79,6 @@ module _ {S V : Type 0} (rule : RuleSense S) (tally : TallySense V) where
   begun [] = []
   begun (u ∷ us) = with_down u (first_label rule tally) ∷ us
 
-  -- the layer of the first node
-  abbrev pub first_layer : List (Node S V) → List (Node S V)
-  first_layer [] = []
-  first_layer (u ∷ us) = with_down u (first_label rule tally) ∷ map cleared us
-
   -- one arrival after another, each added to its target
   unfoldable pub taken : Down S V → Down S V → Down S V
   unfolding merge
