@@ -1,19 +1,16 @@
 -- No finish of a layer is above what the clock allows after so many steps.
-use Rattle.std.proofs.Common.{◌≡◌, ℕ, zero, suc, ◌+◌, ◌-◌, ◌≤◌, ◌≢◌, List, [], ◌∷◌, ◌++◌, map, length, take, drop, sym, refl, ap, subst, arith}
-use Rattle.std.proofs.lemmas.List.{length-map}
+use Rattle.std.proofs.Common.{◌≡◌, ℕ, zero, suc, ◌+◌, ◌-◌, ◌≤◌, ◌≢◌, List, [], ◌∷◌, ◌++◌, map, length, take, drop, sym, refl, subst, arith}
 use Rattle.std.specs.List.{range_with_len, AllByRecursion as All}
 use Rattle.std.proofs.ByRecursion.{All-from_get_or}
 use Rattle.std.proofs.lemmas.List.FromFn.{get_or-map-range_with_len, length-map-range_with_len}
 use Rattle.std.proofs.lemmas.Bool.{cond_both}
 use Rattle.round.specs.Clock.{latest_finish}
 use Rattle.round.proofs.Clocks.{clock-laws}
-use Rattle.rules.specs.Rules.{RuleSense}
-use Rattle.tallies.specs.Tallies.{TallySense}
 use Rattle.layers.specs.declared.node.Node.{Node}
 use Rattle.layers.specs.declared.node.Down.{Down}
-use Rattle.layers.specs.Labels.{leg, arrival_over, merge, blank_label}
-use Rattle.labels.specs.Passes.{arrivals, cleared, with_down, Early, blank_node, gathered, labelled, next_layer, next_renewed, renewed_after, first_layer}
-use Rattle.labels.proofs.Folds.{folded_keeps}
+use Rattle.layers.specs.Labels.{leg, arrival_over, merge}
+use Rattle.labels.specs.Passes.{arrivals, Early, blank_node, gathered, labelled, next_layer, next_renewed, renewed_after}
+use Rattle.labels.proofs.Folds.{all_mono, folded_keeps}
 use Rattle.labels.proofs.Scattered.{all-arrivals}
 use Rattle.labels.proofs.Legs.{leg-most}
 use Rattle.layers.specs.Settings.{Setting}
@@ -22,10 +19,6 @@ use Rattle.layers.specs.Records.{is_used, nodes_in}
 all_nodes : {S V : Type 0} (P : Node S V → Type 0) (us : List (Node S V)) → All P us → All P (nodes_in us)
 all_nodes P [] h = tt
 all_nodes P (u ∷ us) h = cond_both (is_used u) (u ∷ nodes_in us) [] (All P) (λ _. (h.0, all_nodes P us h.1)) (λ _. tt)
-
-pub first-long : {S V : Type 0} (R : RuleSense S) (T : TallySense V) (us : List (Node S V)) → length (first_layer R T us) ≡ length us
-first-long R T [] = refl
-first-long R T (u ∷ us) = ap suc (length-map us (λ v. with_down v (blank_label R T)))
 
 module _ {S V : Type 0} (by : Setting S V) where
   abbrev Soon : ℕ → Down S V → Type 0
@@ -51,21 +44,12 @@ module _ {S V : Type 0} (by : Setting S V) where
       (all-arrivals by (Soon (latest_finish (suc k))) (Early (latest_finish k)) (λ u j e. arrive-soon k u.label.down j e) (b + 1) (nodes_in us)
       (all_nodes (Early (latest_finish k)) us h))))
 
-  pub first_early : (us : List (Node S V)) → All (Early (latest_finish 0)) (first_layer by.rule by.tally us)
-  first_early [] = tt
-  first_early (u ∷ us) = (omega arith, rest us)
-    where
-      rest : (us : List (Node S V)) → All (Early (latest_finish 0)) (map (cleared by.rule by.tally) us)
-      rest [] = tt
-      rest (u ∷ us) = (omega arith, rest us)
-
-  pub next-long : (us vs : List (Node S V)) → length (next_layer by us vs) ≡ length vs
-  unfolding next_layer
-  next-long us vs = length-map-range_with_len (labelled by us vs) 0 (length vs)
-
 pub after_more : {S V : Type 0} (by : Setting S V) (k : ℕ) (xs : List (Node S V)) → k ≢ 0
     → renewed_after by k xs
     ≡ take by.width xs ++ renewed_after by (k - 1) (next_renewed by (take by.width xs) (take by.width (drop by.width xs)) ++ drop by.width (drop by.width xs))
 unfolding renewed_after
 after_more by zero xs ne = absurd (ne refl)
 after_more by (suc k) xs ne = let e : suc k - 1 ≡ k = omega arith in rw e
+
+pub early-last : {S V : Type 0} (e : ℕ) (us : List (Node S V)) → e ≤ 15 → All (Early (latest_finish e)) us → All (Early (latest_finish 15)) us
+early-last e us le h = all_mono (Early (latest_finish e)) (Early (latest_finish 15)) (λ u h. omega arith) us h
