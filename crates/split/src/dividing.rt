@@ -33,6 +33,7 @@ fn leaves<K: Test>(test: &K, us: &[Node<K::State, K::Value>], x: &InArc) -> bool
 }
 
 /// The place in the list of the first in-arc of node t that does not stay.
+#[tactic(auto, using(crate::proofs::InArcs::place_in, crate::proofs::InArcs::door_in))]
 pub(crate) fn first_leaving<K: Test>(
     test: &K,
     us: &[Node<K::State, K::Value>],
@@ -92,6 +93,7 @@ fn put_arc<S: Copy, V: Copy>(us: &mut [Node<S, V>], x: &InArc, t: u8)
 }
 
 /// Writes the listed in-arcs back into the records.
+#[tactic(auto, using(crate::proofs::InArcs::place_in, crate::proofs::InArcs::door_in))]
 pub(crate) fn put_back<S: Copy, V: Copy>(us: &mut [Node<S, V>], list: &InArcs)
     requires { IsListed us.old list.now }
     ensures { us.new ≡ written us.old list.now }

@@ -21,19 +21,17 @@ loop-m-init g c =
 
 pub leaves-requires : goal.leaves-requires
 leaves-requires g c =
-    let us = c.args.us.now in
     let list = c.args.list.now in
     let same : get_or c.loop-m.list.arcs c.loop-m.m none ≡ get_or list.arcs c.loop-m.m none = ap (λ (l : InArcs). get_or l.arcs c.loop-m.m none) c.loop-m.invariant.0 in
     record {
-      place_in_bounds = rw same (place-here us (written us list) list c.requires.listed c.loop-m.m c.loop-m-test.true none);
-      door_bound = rw same (door-here us (written us list) list c.requires.listed c.loop-m.m c.loop-m-test.true none);
+      place_in_bounds = rw same (place-here c.requires.listed c.loop-m.m c.loop-m-test.true none);
+      door_bound = rw same (door-here c.requires.listed c.loop-m.m c.loop-m-test.true none);
     }
 
 pub loop-m-preserved : goal.loop-m-preserved
 loop-m-preserved g c =
     let us = c.args.us.now in
     let list = c.args.list.now in
-    let vs = written us list in
     let l = c.requires.listed in
     let m = c.loop-m.m in
     let lt = c.loop-m-test.true in
@@ -45,11 +43,11 @@ loop-m-preserved g c =
     let back : t ≡ suc a = omega (arith, c.requires.one_le_t) in
     let new : c.args.new ≡ suc n = omega (arith, c.requires.one_le_new) in
     let old = c.loop-m.invariant in
-    let x = here us vs list l m lt in
-    let z = one-record us vs list l m lt in
+    let x = here l m lt in
+    let z = one-record l m lt in
     let at : get_or L.to m 0 ≡ get_or list.to m 0 = old.1.2 m (omega arith) in
     let said : get_or L.to m 0 ≡ t → leaves keeps (suc a) x ≡ not (keeps (get_or us (get_or L.arcs m none).place z).label ((get_or L.arcs m none).door + 1)) =
-    λ e. leaves-here us vs list l m lt keeps (suc a) none z (sym at ∙ e ∙ back) ∙ ap (λ (k : InArcs). not (keeps (get_or us (get_or k.arcs m none).place z).label ((get_or k.arcs m none).door + 1))) (sym old.0) in
+    λ e. leaves-here l m lt keeps (suc a) none z (sym at ∙ e ∙ back) ∙ ap (λ (k : InArcs). not (keeps (get_or us (get_or k.arcs m none).place z).label ((get_or k.arcs m none).door + 1))) (sym old.0) in
     elim c.if-list-m.branch [
       | then-list-m+then-leaves w ↦ (
         w.list-is ∙ ap (λ (k : InArcs). record k { to = set L.to m c.args.new }) old.0 ∙ ap (λ (k : InArcs). record list { to = k.to }) (sym w.list-is),
@@ -59,7 +57,7 @@ loop-m-preserved g c =
         w.list-is ∙ old.0 ∙ ap (λ (k : InArcs). record list { to = k.to }) (sym w.list-is),
         sent-next keeps a n us list l m L.to c.if-list-m.list.to lt false (elim w.else-list-m.branch [
           | else-list-m-via-then-list-m+else-leaves w' ↦ said w'.if-list-m.true ∙ sym (w'.leaves.ensures z) ∙ w'.if-leaves.false
-          | else-list-m-via-else-list-m w' ↦ other-here us vs list l m lt keeps (suc a) (λ e. w'.if-list-m.false (at ∙ e ∙ sym back))
+          | else-list-m-via-else-list-m w' ↦ other-here l m lt keeps (suc a) (λ e. w'.if-list-m.false (at ∙ e ∙ sym back))
         ]) (ap (λ (k : InArcs). k.to) w.list-is) old.1,
       )
     ]
