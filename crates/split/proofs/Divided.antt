@@ -17,7 +17,7 @@ use Rattle.labels.proofs.Steps.{folded-counting-more}
 use Rattle.labels.proofs.Writing.{over-more}
 use Rattle.split.specs.declared.listing.InArc.{InArc}
 use Rattle.split.specs.declared.listing.InArcs.{InArcs}
-use Rattle.split.proofs.InArcs.{early-set, flat_more, here, to-here, told-one}
+use Rattle.split.proofs.InArcs.{early-set, flat_more, here, to-here, told, told-one}
 use Rattle.split.specs.Listed.{Told, told_arc, told_node, told_from, put_arc, put_pair, written, kept_arc, husk, Lists, IsListed, leaves, all_stay}
 use Rattle.split.specs.Parted.{or_unused, parted_to, parted_node}
 
@@ -280,79 +280,51 @@ module _ {S V : Type 0} where
         λ i h. refl,
       )
 
-      pub sent-next : (m : ℕ) (S' T : List ℕ) (lt : m < list.many) (q : Bool) → leaves stays (suc a) (here l m lt) ≡ q → T ≡ cond q (set S' m (suc n)) S' → IsSent m S' → IsSent (m + 1) T
-      sent-next m S' T lt q e is g =
-          let few = l.few in
-          let x = here l m lt in (
-            long q is,
-            λ i d h il. at i d il h (eqb i m) refl,
-            λ i h. other i (omega (arith, h)) q is ∙ g.2 i (omega (arith, h)),
-          )
+      pub sent-next : (m : ℕ) (S' T : List ℕ) (v : ℕ) (lt : m < list.many) → T ≡ set S' m v → v ≡ (renumbered stays a n (here l m lt)).to → IsSent m S' → IsSent (m + 1) T
+      sent-next m S' T v lt is val g = (
+        ap (λ (xs : List ℕ). length xs) is ∙ length-set S' m v ∙ g.0,
+        λ i d h il. at i d il h (eqb i m) refl,
+        λ i h. ap (λ xs. get_or xs i 0) is ∙ get_or-set_other S' m i v 0 (omega (arith, h)) ∙ g.2 i (omega (arith, h)),
+      )
         where
-          long : (q : Bool) → T ≡ cond q (set S' m (suc n)) S' → length T ≡ 2048
-          long true is = ap (λ (xs : List ℕ). length xs) is ∙ length-set S' m (suc n) ∙ g.0
-          long false is = ap (λ (xs : List ℕ). length xs) is ∙ g.0
-
-          other : (i : ℕ) → i ≢ m → (q : Bool) → T ≡ cond q (set S' m (suc n)) S' → get_or T i 0 ≡ get_or S' i 0
-          other i ne true is = ap (λ xs. get_or xs i 0) is ∙ get_or-set_other S' m i (suc n) 0 ne
-          other i ne false is = ap (λ xs. get_or xs i 0) is
-
-          this : (q : Bool) → leaves stays (suc a) (here l m lt) ≡ q → T ≡ cond q (set S' m (suc n)) S' → get_or T m 0 ≡ (renumbered stays a n (here l m lt)).to
-          this true e is = ap (λ xs. get_or xs m 0) is ∙ get_or-set_same S' m (suc n) 0 (omega (arith, g.0, l.few)) ∙ sym (renumbered-there stays a n _ true e)
-          this false e is = ap (λ xs. get_or xs m 0) is ∙ g.2 m (omega arith) ∙ to-here l m lt ∙ sym (renumbered-there stays a n _ false e)
-
-          at : (i : ℕ) (d : Told S V) → i < list.many → i < m + 1 → (r : Bool) → eqb i m ≡ r → get_or T i 0 ≡ (renumbered stays a n (get_or (told_from 0 (written us list)) i d)).to
+          at : (i : ℕ) (d : Told S V) → i < list.many → i < m + 1 → (r : Bool) → eqb i m ≡ r → get_or T i 0 ≡ (renumbered stays a n (get_or (told l) i d)).to
           at i d il h true f =
               let im = eqb-true i m f in
-              ap (λ (k : ℕ). get_or T k 0) im ∙ this q e is ∙ ap (λ (y : Told S V). (renumbered stays a n y).to) (sym (same-there m d lt)) ∙ ap (λ (k : ℕ). (renumbered stays a n (get_or (told_from 0 (written us list)) k d)).to) (sym im)
-          at i d il h false f = let ne = eqb-false i m f in other i ne q is ∙ g.1 i d (omega (arith, ne)) il
+              ap₂ (λ xs (k : ℕ). get_or xs k 0) is im ∙ get_or-set_same S' m v 0 (omega (arith, g.0, l.few)) ∙ val
+              ∙ ap (λ (y : Told S V). (renumbered stays a n y).to) (sym (same-there m d lt)) ∙ ap (λ (k : ℕ). (renumbered stays a n (get_or (told l) k d)).to) (sym im)
+          at i d il h false f = let ne = eqb-false i m f in ap (λ xs. get_or xs i 0) is ∙ get_or-set_other S' m i v 0 ne ∙ g.1 i d (omega (arith, ne)) il
 
-  -- the in-arcs that leave, sent to the node at place m
-  module _ (stays : Label S V → ℕ → Bool) (a m from : ℕ) (us : List (Node S V)) (list : InArcs) (ts : List ℕ) (l : IsListed us list) where
-    abbrev vs : List (Node S V)
-    vs = written us list
-
-    abbrev told : List (Told S V)
-    told = told_from 0 vs
-
-    abbrev ren : Told S V → Told S V
-    ren = renumbered stays a m
-
-    abbrev next : List (Node S V)
-    next = map (parted_node (or_unused stays) a m) vs
-
-    pub divided : suc m < length list.starts → length ts ≡ length list.to → list.many ≤ length list.to → all_stay stays (suc a) (take from told) ≡ true
-        → ((i : ℕ) (d : Told S V) → i < list.many → get_or ts i 0 ≡ (ren (get_or told i d)).to)
-        → Lists us next (record list { to = ts; starts = set list.starts (suc m) (min (get_or list.starts (suc m) 0) from) })
-    divided big long room first is =
-        let many : list.many ≡ length (map ren told) = l.told.many ∙ sym (length-map told ren) in
-        record {
-          told = record {
-            many = many ∙ ap (λ (xs : List (Told S V)). length xs) (sym (told-parted stays a m 0 vs));
-            arcs = l.told.arcs ∙ sym (arcs-stay stays a m told) ∙ ap (map (λ x. x.arc)) (sym (told-parted stays a m 0 vs));
-            to = same_lists (take list.many ts) (map (λ x. x.to) (map ren told))
-                (length-take-le list.many ts (omega (arith, long)) ∙ many ∙ sym (length-map (map ren told) (λ (x : Told S V). x.to)))
-                (λ k d lt.
-                let kl : k < list.many = omega (arith, length-take list.many ts) in
-                let x = told-one l k kl in
-                get_or-take list.many ts k d kl ∙ get_or_default ts k d 0 (omega (arith, long)) ∙ is k x kl
-                ∙ ap (λ (y : Told S V). y.to) (sym (get_or-map ren told k x (ren x) (omega (arith, l.told.many))))
-                ∙ sym (get_or-map (λ (y : Told S V). y.to) (map ren told) k (ren x) d (omega (arith, many))))
-                ∙ ap (map (λ x. x.to)) (sym (told-parted stays a m 0 vs));
-          };
-          few = l.few;
-          husks = husks-parted stays a m vs l.wide ∙ l.husks;
-          wide = wide-parted stays a m vs;
-          early = early-set list.starts ts list.many (suc m) from big (λ i lt imp. still i lt imp (leaves stays (suc a) (get_or told i (told-one l i lt))) refl);
-        }
-      where
-        still : (i : ℕ) (lt : i < list.many) → (get_or ts i 0 ≡ suc m → i < from) → (q : Bool) → leaves stays (suc a) (get_or told i (told-one l i lt)) ≡ q → get_or list.starts (get_or ts i 0) 0 ≤ i
-        still i lt imp true e =
-            let x = told-one l i lt in
-            let sent : get_or ts i 0 ≡ suc m = is i x lt ∙ renumbered-there stays a m (get_or told i x) true e in
-            let out : false ≡ true = sym (stays-there stays a m told from i x first (imp sent) (omega (arith, l.told.many))) ∙ e in
-            absurd (grind (arith, out))
-        still i lt imp false e =
-            let x = told-one l i lt in
-            let kept : get_or ts i 0 ≡ get_or list.to i 0 = is i x lt ∙ renumbered-there stays a m (get_or told i x) false e ∙ sym (to-here l i lt) in
-            rw kept (l.early i lt)
+      -- all of them
+      pub divided : (from m : ℕ) (T : List ℕ) → IsSent m T → list.many ≤ m → suc n < length list.starts → all_stay stays (suc a) (take from (told_from 0 (written us list))) ≡ true
+          → Lists us (map (parted_node (or_unused stays) a n) (written us list)) (record list { to = T; starts = set list.starts (suc n) (min (get_or list.starts (suc n) 0) from) })
+      divided from m T g past big first =
+          let ren = renumbered stays a n in
+          let next = sym (told-parted stays a n 0 (written us list)) in
+          let many : list.many ≡ length (map ren (told l)) = l.told.many ∙ sym (length-map (told l) ren) in
+          let few = l.few in
+          record {
+            told = record {
+              many = many ∙ ap (λ (xs : List (Told S V)). length xs) next;
+              arcs = l.told.arcs ∙ sym (arcs-stay stays a n (told l)) ∙ ap (map (λ x. x.arc)) next;
+              to = same_lists (take list.many T) (map (λ x. x.to) (map ren (told l)))
+                  (length-take-le list.many T (omega (arith, g.0)) ∙ many ∙ sym (length-map (map ren (told l)) (λ (x : Told S V). x.to)))
+                  (λ k d lt.
+                  let kl : k < list.many = omega (arith, length-take list.many T) in
+                  let x = told-one l k kl in
+                  get_or-take list.many T k d kl ∙ get_or_default T k d 0 (omega (arith, g.0)) ∙ g.1 k x (omega arith) kl
+                  ∙ ap (λ (y : Told S V). y.to) (sym (get_or-map ren (told l) k x (ren x) (omega (arith, l.told.many))))
+                  ∙ sym (get_or-map (λ (y : Told S V). y.to) (map ren (told l)) k (ren x) d (omega (arith, many))))
+                  ∙ ap (map (λ x. x.to)) next;
+            };
+            few = l.few;
+            husks = husks-parted stays a n (written us list) l.wide ∙ l.husks;
+            wide = wide-parted stays a n (written us list);
+            early = early-set list.starts T list.many (suc n) from big (λ i lt imp. still i lt imp (leaves stays (suc a) (here l i lt)) refl);
+          }
+        where
+          still : (i : ℕ) (lt : i < list.many) → (get_or T i 0 ≡ suc n → i < from) → (q : Bool) → leaves stays (suc a) (here l i lt) ≡ q → get_or list.starts (get_or T i 0) 0 ≤ i
+          still i lt imp true e =
+              let sent = imp (g.1 i (told-one l i lt) (omega arith) lt ∙ renumbered-there stays a n (here l i lt) true e) in
+              let out : false ≡ true = sym (stays-there stays a n (told l) from i (told-one l i lt) first sent (omega (arith, l.told.many))) ∙ e in
+              absurd (grind (arith, out))
+          still i lt imp false e = rw (g.1 i (told-one l i lt) (omega arith) lt ∙ renumbered-there stays a n (here l i lt) false e ∙ sym (to-here l i lt)) (l.early i lt)
