@@ -1,7 +1,6 @@
 -- In-arcs that go to a new node, in the list; and the list written back
-use Rattle.std.proofs.Common.{◌≡◌, ℕ, zero, suc, ◌+◌, ◌-◌, ◌<◌, ◌≤◌, Bool, true, false, cond, not, ◌&&◌, ◌||◌, eqb, ◌≢◌, List, [], ◌∷◌, ◌++◌, map, length, get_or, take, drop, min, set, fold, append-nil, append_assoc, sym, refl, ap, ◌∙◌, subst, ap₂, zero-add, add-one, arith}
+use Rattle.std.proofs.Common.{◌≡◌, ℕ, zero, suc, ◌+◌, ◌-◌, ◌<◌, ◌≤◌, Bool, true, false, cond, not, ◌&&◌, eqb, ◌≢◌, List, [], ◌∷◌, ◌++◌, map, length, get_or, take, drop, min, set, fold, append-nil, append_assoc, sym, refl, ap, ◌∙◌, subst, ap₂, zero-add, add-one, arith}
 use Rattle.std.specs.List.{All, range_with_len, flat_map, zip}
-use Rattle.std.proofs.Math.Bool.{and-false}
 use Rattle.std.proofs.Math.Dec.{eqb-suc-suc, eqb-suc-zero}
 use Rattle.std.proofs.lemmas.Bool.{eqb-true, eqb-false}
 use Rattle.std.proofs.lemmas.Simd.{map-map}
@@ -18,7 +17,7 @@ use Rattle.labels.proofs.Steps.{folded-counting-more}
 use Rattle.labels.proofs.Writing.{over-more}
 use Rattle.split.specs.declared.listing.InArc.{InArc}
 use Rattle.split.specs.declared.listing.InArcs.{InArcs}
-use Rattle.split.proofs.InArcs.{early-set, flat_more, here, to-here, told-one}
+use Rattle.split.proofs.InArcs.{early-set, flat_more, here, to-here, told, told-one}
 use Rattle.split.specs.Listed.{Told, told_arc, told_node, told_from, put_arc, put_pair, written, kept_arc, husk, Lists, IsListed, leaves, all_stay}
 use Rattle.split.specs.Parted.{or_unused, parted_to, parted_node}
 
@@ -68,48 +67,29 @@ module _ {S V : Type 0} (stays : Label S V → ℕ → Bool) (a m : ℕ) where
     unfolding parted_node
     parted-is = sym (redirect-made (parted_to (or_unused stays) a m u) u) ∙ ap (with_targets u) (append-nil (map new (range_with_len 0 16)))
 
-    unused-stays : (k : ℕ) → unused ≡ true → new k ≡ old k
+    new-is : (k : ℕ) → new k ≡ cond (not unused && leaves stays (suc a) (arc k)) (suc m) (old k)
     unfolding parted_to
-    unused-stays k e = go (old k)
+    new-is k = go (old k)
       where
-        go : (s : ℕ) → at_door (parted_to (or_unused stays) a m u) (k + 1) s ≡ s
-        go zero = refl
-        go (suc b) =
-            ap (λ (q : Bool). cond (eqb b a && not (q || stays u.label (k + 1))) (suc m) (suc b)) e
-            ∙ ap (λ (q : Bool). cond q (suc m) (suc b)) (and-false (eqb b a))
-
-    none-stays : (k : ℕ) → old k ≡ 0 → new k ≡ 0
-    none-stays k e = ap (at_door (parted_to (or_unused stays) a m u) (k + 1)) e
-
-    some-sent : (k : ℕ) → unused ≡ false → old k ≢ 0 → new k ≡ cond (leaves stays (suc a) (arc k)) (suc m) (old k)
-    unfolding parted_to
-    some-sent k used ne = go (old k) ne
-      where
-        go : (s : ℕ) → s ≢ 0 → at_door (parted_to (or_unused stays) a m u) (k + 1) s ≡ cond (eqb s (suc a) && not (stays u.label (k + 1))) (suc m) s
-        go zero ne = absurd (ne refl)
-        go (suc b) ne =
-            ap (λ (q : Bool). cond (eqb b a && not (q || stays u.label (k + 1))) (suc m) (suc b)) used
-            ∙ ap (λ (q : Bool). cond (q && not (stays u.label (k + 1))) (suc m) (suc b)) (sym (eqb-suc-suc b a))
+        go : (s : ℕ) → at_door (parted_to (or_unused stays) a m u) (k + 1) s ≡ cond (not unused && (eqb s (suc a) && not (stays u.label (k + 1)))) (suc m) s
+        go zero = grind arith
+        go (suc b) = grind (arith, eqb-suc-suc b a)
 
     -- in the list
     door-renumbered : unused ≡ false → (k : ℕ) → k < 16 → told_arc p (P u) k ≡ map renumbered (told_arc p u k)
     door-renumbered used k lt =
         ap (λ (v : Node S V). told_arc p v k) parted-is
-        ∙ ap listed (get_or-map-range_with_len new 0 16 k k 0 lt (zero-add k)) ∙ go (eqb (old k) 0) refl
+        ∙ ap listed (get_or-map-range_with_len new 0 16 k k 0 lt (zero-add k) ∙ new-is k ∙ ap (λ (q : Bool). cond (not q && leaves stays (suc a) (arc k)) (suc m) (old k)) used)
+        ∙ go (eqb (old k) 0) (leaves stays (suc a) (arc k)) refl refl
       where
         listed : ℕ → List (Told S V)
         listed t = cond (eqb t 0) [] (record { arc = record { place = p; door = k }; to = t; label = u.label } ∷ [])
 
-        some : eqb (old k) 0 ≡ false → (q : Bool) → leaves stays (suc a) (arc k) ≡ q → listed (new k) ≡ cond q (record { arc = record { place = p; door = k }; to = suc m; label = u.label }) (arc k) ∷ []
-        some e q f = ap listed (some-sent k used (eqb-false (old k) 0 e) ∙ ap (λ (q : Bool). cond q (suc m) (old k)) f) ∙ each q
-          where
-            each : (q : Bool) → listed (cond q (suc m) (old k)) ≡ cond q (record { arc = record { place = p; door = k }; to = suc m; label = u.label }) (arc k) ∷ []
-            each true = ap (λ (q : Bool). cond q [] (record { arc = record { place = p; door = k }; to = suc m; label = u.label } ∷ [])) (eqb-suc-zero m)
-            each false = ap (λ (q : Bool). cond q [] (arc k ∷ [])) e
-
-        go : (q : Bool) → eqb (old k) 0 ≡ q → listed (new k) ≡ map renumbered (cond q [] (arc k ∷ []))
-        go true e = ap listed (none-stays k (eqb-true (old k) 0 e))
-        go false e = some e (leaves stays (suc a) (arc k)) refl
+        go : (r q : Bool) → eqb (old k) 0 ≡ r → leaves stays (suc a) (arc k) ≡ q → listed (cond q (suc m) (old k)) ≡ map renumbered (cond r [] (arc k ∷ []))
+        go true true e f = grind (arith, e, f)
+        go true false e f = ap (λ (q : Bool). cond q [] (arc k ∷ [])) e
+        go false true e f = ap (λ (q : Bool). cond q [] (record { arc = record { place = p; door = k }; to = suc m; label = u.label } ∷ [])) (eqb-suc-zero m) ∙ ap (λ (q : Bool). cond q (record { arc = record { place = p; door = k }; to = suc m; label = u.label }) (arc k) ∷ []) (sym f)
+        go false false e f = ap (λ (q : Bool). cond q [] (arc k ∷ [])) e ∙ ap (λ (q : Bool). cond q (record { arc = record { place = p; door = k }; to = suc m; label = u.label }) (arc k) ∷ []) (sym f)
 
     node-renumbered : told_node p (P u) ≡ map renumbered (told_node p u)
     unfolding told_node
@@ -121,16 +101,12 @@ module _ {S V : Type 0} (stays : Label S V → ℕ → Bool) (a m : ℕ) where
 
     -- and what is left of the record
     door-kept : (k : ℕ) → kept_arc unused (old k) ≡ kept_arc unused (new k)
-    door-kept k = go unused (eqb (old k) 0) refl refl
+    door-kept k = go unused (leaves stays (suc a) (arc k)) refl ∙ ap (kept_arc unused) (sym (new-is k))
       where
-        some : (q : Bool) → eqb (old k) 0 ≡ false → kept_arc false (old k) ≡ kept_arc false (cond q (suc m) (old k))
-        some true e = ap (λ (r : Bool). cond r (old k) 1) e ∙ sym (ap (λ (r : Bool). cond r (suc m) 1) (eqb-suc-zero m))
-        some false e = refl
-
-        go : (q r : Bool) → unused ≡ q → eqb (old k) 0 ≡ r → kept_arc q (old k) ≡ kept_arc q (new k)
-        go true r e f = sym (unused-stays k e)
-        go false true e f = ap (kept_arc false) (eqb-true (old k) 0 f ∙ sym (none-stays k (eqb-true (old k) 0 f)))
-        go false false e f = some (leaves stays (suc a) (arc k)) f ∙ ap (kept_arc false) (sym (some-sent k e (eqb-false (old k) 0 f)))
+        go : (e q : Bool) → leaves stays (suc a) (arc k) ≡ q → kept_arc e (old k) ≡ kept_arc e (cond (not e && q) (suc m) (old k))
+        go true q f = refl
+        go false false f = refl
+        go false true f = grind (arith, f)
 
     husk-parted : length u.arcs.to ≡ 16 → husk (P u) ≡ husk u
     husk-parted long =
@@ -294,89 +270,61 @@ module _ {S V : Type 0} where
         × ((i : ℕ) → m ≤ i → get_or S' i 0 ≡ get_or list.to i 0)
 
     module _ (l : IsListed us list) where
-      same-there : (i : ℕ) (d : Told S V) (lt : i < list.many) → get_or (told_from 0 (written us list)) i d ≡ here us (written us list) list l i lt
-      same-there i d lt = get_or_default (told_from 0 (written us list)) i d (told-one us (written us list) list l i lt) (omega (arith, l.told.many))
+      same-there : (i : ℕ) (d : Told S V) (lt : i < list.many) → get_or (told_from 0 (written us list)) i d ≡ here l i lt
+      same-there i d lt = get_or_default (told_from 0 (written us list)) i d (told-one l i lt) (omega (arith, l.told.many))
 
       pub sent-first : (from : ℕ) → length list.to ≡ 2048 → all_stay stays (suc a) (take from (told_from 0 (written us list))) ≡ true → IsSent from list.to
       sent-first from long first = (
         long,
-        λ i d h lt. to-here us (written us list) list l i lt ∙ ap (λ (x : Told S V). x.to) (sym (same-there i d lt)) ∙ sym (renumbered-there stays a n _ false (stays-there stays a n (told_from 0 (written us list)) from i d first h (omega (arith, l.told.many)))),
+        λ i d h lt. to-here l i lt ∙ ap (λ (x : Told S V). x.to) (sym (same-there i d lt)) ∙ sym (renumbered-there stays a n _ false (stays-there stays a n (told_from 0 (written us list)) from i d first h (omega (arith, l.told.many)))),
         λ i h. refl,
       )
 
-      pub sent-next : (m : ℕ) (S' T : List ℕ) (lt : m < list.many) (q : Bool) → leaves stays (suc a) (here us (written us list) list l m lt) ≡ q → T ≡ cond q (set S' m (suc n)) S' → IsSent m S' → IsSent (m + 1) T
-      sent-next m S' T lt q e is g =
-          let few = l.few in
-          let x = here us (written us list) list l m lt in (
-            long q is,
-            λ i d h il. at i d il h (eqb i m) refl,
-            λ i h. other i (omega (arith, h)) q is ∙ g.2 i (omega (arith, h)),
-          )
+      pub sent-next : (m : ℕ) (S' T : List ℕ) (v : ℕ) (lt : m < list.many) → T ≡ set S' m v → v ≡ (renumbered stays a n (here l m lt)).to → IsSent m S' → IsSent (m + 1) T
+      sent-next m S' T v lt is val g = (
+        ap (λ (xs : List ℕ). length xs) is ∙ length-set S' m v ∙ g.0,
+        λ i d h il. at i d il h (eqb i m) refl,
+        λ i h. ap (λ xs. get_or xs i 0) is ∙ get_or-set_other S' m i v 0 (omega (arith, h)) ∙ g.2 i (omega (arith, h)),
+      )
         where
-          long : (q : Bool) → T ≡ cond q (set S' m (suc n)) S' → length T ≡ 2048
-          long true is = ap (λ (xs : List ℕ). length xs) is ∙ length-set S' m (suc n) ∙ g.0
-          long false is = ap (λ (xs : List ℕ). length xs) is ∙ g.0
-
-          other : (i : ℕ) → i ≢ m → (q : Bool) → T ≡ cond q (set S' m (suc n)) S' → get_or T i 0 ≡ get_or S' i 0
-          other i ne true is = ap (λ xs. get_or xs i 0) is ∙ get_or-set_other S' m i (suc n) 0 ne
-          other i ne false is = ap (λ xs. get_or xs i 0) is
-
-          this : (q : Bool) → leaves stays (suc a) (here us (written us list) list l m lt) ≡ q → T ≡ cond q (set S' m (suc n)) S' → get_or T m 0 ≡ (renumbered stays a n (here us (written us list) list l m lt)).to
-          this true e is = ap (λ xs. get_or xs m 0) is ∙ get_or-set_same S' m (suc n) 0 (omega (arith, g.0, l.few)) ∙ sym (renumbered-there stays a n _ true e)
-          this false e is = ap (λ xs. get_or xs m 0) is ∙ g.2 m (omega arith) ∙ to-here us (written us list) list l m lt ∙ sym (renumbered-there stays a n _ false e)
-
-          at : (i : ℕ) (d : Told S V) → i < list.many → i < m + 1 → (r : Bool) → eqb i m ≡ r → get_or T i 0 ≡ (renumbered stays a n (get_or (told_from 0 (written us list)) i d)).to
+          at : (i : ℕ) (d : Told S V) → i < list.many → i < m + 1 → (r : Bool) → eqb i m ≡ r → get_or T i 0 ≡ (renumbered stays a n (get_or (told l) i d)).to
           at i d il h true f =
               let im = eqb-true i m f in
-              ap (λ (k : ℕ). get_or T k 0) im ∙ this q e is ∙ ap (λ (y : Told S V). (renumbered stays a n y).to) (sym (same-there m d lt)) ∙ ap (λ (k : ℕ). (renumbered stays a n (get_or (told_from 0 (written us list)) k d)).to) (sym im)
-          at i d il h false f = let ne = eqb-false i m f in other i ne q is ∙ g.1 i d (omega (arith, ne)) il
+              ap₂ (λ xs (k : ℕ). get_or xs k 0) is im ∙ get_or-set_same S' m v 0 (omega (arith, g.0, l.few)) ∙ val
+              ∙ ap (λ (y : Told S V). (renumbered stays a n y).to) (sym (same-there m d lt)) ∙ ap (λ (k : ℕ). (renumbered stays a n (get_or (told l) k d)).to) (sym im)
+          at i d il h false f = let ne = eqb-false i m f in ap (λ xs. get_or xs i 0) is ∙ get_or-set_other S' m i v 0 ne ∙ g.1 i d (omega (arith, ne)) il
 
-  -- the in-arcs that leave, sent to the node at place m
-  module _ (stays : Label S V → ℕ → Bool) (a m from : ℕ) (us : List (Node S V)) (list : InArcs) (ts : List ℕ) (l : IsListed us list) where
-    abbrev vs : List (Node S V)
-    vs = written us list
-
-    abbrev told : List (Told S V)
-    told = told_from 0 vs
-
-    abbrev ren : Told S V → Told S V
-    ren = renumbered stays a m
-
-    abbrev next : List (Node S V)
-    next = map (parted_node (or_unused stays) a m) vs
-
-    pub divided : suc m < length list.starts → length ts ≡ length list.to → list.many ≤ length list.to → all_stay stays (suc a) (take from told) ≡ true
-        → ((i : ℕ) (d : Told S V) → i < list.many → get_or ts i 0 ≡ (ren (get_or told i d)).to)
-        → Lists us next (record list { to = ts; starts = set list.starts (suc m) (min (get_or list.starts (suc m) 0) from) })
-    divided big long room first is =
-        let many : list.many ≡ length (map ren told) = l.told.many ∙ sym (length-map told ren) in
-        record {
-          told = record {
-            many = many ∙ ap (λ (xs : List (Told S V)). length xs) (sym (told-parted stays a m 0 vs));
-            arcs = l.told.arcs ∙ sym (arcs-stay stays a m told) ∙ ap (map (λ x. x.arc)) (sym (told-parted stays a m 0 vs));
-            to = same_lists (take list.many ts) (map (λ x. x.to) (map ren told))
-                (length-take-le list.many ts (omega (arith, long)) ∙ many ∙ sym (length-map (map ren told) (λ (x : Told S V). x.to)))
-                (λ k d lt.
-                let kl : k < list.many = omega (arith, length-take list.many ts) in
-                let x = told-one us vs list l k kl in
-                get_or-take list.many ts k d kl ∙ get_or_default ts k d 0 (omega (arith, long)) ∙ is k x kl
-                ∙ ap (λ (y : Told S V). y.to) (sym (get_or-map ren told k x (ren x) (omega (arith, l.told.many))))
-                ∙ sym (get_or-map (λ (y : Told S V). y.to) (map ren told) k (ren x) d (omega (arith, many))))
-                ∙ ap (map (λ x. x.to)) (sym (told-parted stays a m 0 vs));
-          };
-          few = l.few;
-          husks = husks-parted stays a m vs l.wide ∙ l.husks;
-          wide = wide-parted stays a m vs;
-          early = early-set list.starts ts list.many (suc m) from big (λ i lt imp. still i lt imp (leaves stays (suc a) (get_or told i (told-one us vs list l i lt))) refl);
-        }
-      where
-        still : (i : ℕ) (lt : i < list.many) → (get_or ts i 0 ≡ suc m → i < from) → (q : Bool) → leaves stays (suc a) (get_or told i (told-one us vs list l i lt)) ≡ q → get_or list.starts (get_or ts i 0) 0 ≤ i
-        still i lt imp true e =
-            let x = told-one us vs list l i lt in
-            let sent : get_or ts i 0 ≡ suc m = is i x lt ∙ renumbered-there stays a m (get_or told i x) true e in
-            let out : false ≡ true = sym (stays-there stays a m told from i x first (imp sent) (omega (arith, l.told.many))) ∙ e in
-            absurd (grind (arith, out))
-        still i lt imp false e =
-            let x = told-one us vs list l i lt in
-            let kept : get_or ts i 0 ≡ get_or list.to i 0 = is i x lt ∙ renumbered-there stays a m (get_or told i x) false e ∙ sym (to-here us vs list l i lt) in
-            rw kept (l.early i lt)
+      -- all of them
+      pub divided : (from m : ℕ) (T : List ℕ) → IsSent m T → list.many ≤ m → suc n < length list.starts → all_stay stays (suc a) (take from (told_from 0 (written us list))) ≡ true
+          → Lists us (map (parted_node (or_unused stays) a n) (written us list)) (record list { to = T; starts = set list.starts (suc n) (min (get_or list.starts (suc n) 0) from) })
+      divided from m T g past big first =
+          let ren = renumbered stays a n in
+          let next = sym (told-parted stays a n 0 (written us list)) in
+          let many : list.many ≡ length (map ren (told l)) = l.told.many ∙ sym (length-map (told l) ren) in
+          let few = l.few in
+          record {
+            told = record {
+              many = many ∙ ap (λ (xs : List (Told S V)). length xs) next;
+              arcs = l.told.arcs ∙ sym (arcs-stay stays a n (told l)) ∙ ap (map (λ x. x.arc)) next;
+              to = same_lists (take list.many T) (map (λ x. x.to) (map ren (told l)))
+                  (length-take-le list.many T (omega (arith, g.0)) ∙ many ∙ sym (length-map (map ren (told l)) (λ (x : Told S V). x.to)))
+                  (λ k d lt.
+                  let kl : k < list.many = omega (arith, length-take list.many T) in
+                  let x = told-one l k kl in
+                  get_or-take list.many T k d kl ∙ get_or_default T k d 0 (omega (arith, g.0)) ∙ g.1 k x (omega arith) kl
+                  ∙ ap (λ (y : Told S V). y.to) (sym (get_or-map ren (told l) k x (ren x) (omega (arith, l.told.many))))
+                  ∙ sym (get_or-map (λ (y : Told S V). y.to) (map ren (told l)) k (ren x) d (omega (arith, many))))
+                  ∙ ap (map (λ x. x.to)) next;
+            };
+            few = l.few;
+            husks = husks-parted stays a n (written us list) l.wide ∙ l.husks;
+            wide = wide-parted stays a n (written us list);
+            early = early-set list.starts T list.many (suc n) from big (λ i lt imp. still i lt imp (leaves stays (suc a) (here l i lt)) refl);
+          }
+        where
+          still : (i : ℕ) (lt : i < list.many) → (get_or T i 0 ≡ suc n → i < from) → (q : Bool) → leaves stays (suc a) (here l i lt) ≡ q → get_or list.starts (get_or T i 0) 0 ≤ i
+          still i lt imp true e =
+              let sent = imp (g.1 i (told-one l i lt) (omega arith) lt ∙ renumbered-there stays a n (here l i lt) true e) in
+              let out : false ≡ true = sym (stays-there stays a n (told l) from i (told-one l i lt) first sent (omega (arith, l.told.many))) ∙ e in
+              absurd (grind (arith, out))
+          still i lt imp false e = rw (g.1 i (told-one l i lt) (omega arith) lt ∙ renumbered-there stays a n (here l i lt) false e ∙ sym (to-here l i lt)) (l.early i lt)

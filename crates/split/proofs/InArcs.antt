@@ -15,7 +15,7 @@ use Rattle.labels.specs.Passes.{by_door, from_node, arrivals}
 use Rattle.labels.proofs.Folds.{counting_more}
 use Rattle.split.specs.declared.listing.InArc.{InArc}
 use Rattle.split.specs.declared.listing.InArcs.{InArcs}
-use Rattle.split.specs.Listed.{Told, told_arc, told_node, told_from, husk, IsTold, Lists, leaves, all_stay}
+use Rattle.split.specs.Listed.{Told, told_arc, told_node, told_from, husk, IsTold, Lists, IsListed, leaves, all_stay}
 
 -- ---- lists of lists
 pub flat_more : {A : Type 0} (F : ℕ → List A) (n : ℕ) → flat_map F (range_with_len 0 (n + 1)) ≡ flat_map F (range_with_len 0 n) ++ F n
@@ -110,7 +110,7 @@ module _ {S V : Type 0} where
         go false = told-doors a u 0 16 (omega arith) (λ x at door is. f 0 x (omega arith) (omega (arith, at)) door (λ z. is))
 
   -- ---- of a list of the arcs of the records vs, which are the records us but for targets
-  module _ (us vs : List (Node S V)) (list : InArcs) (l : Lists us vs list) where
+  module _ {us vs : List (Node S V)} {list : InArcs} (l : Lists us vs list) where
     abbrev pub told : List (Told S V)
     told = told_from 0 vs
 
@@ -273,3 +273,10 @@ module _ {S V : Type 0} where
   stay-none stays t [] none = refl
   stay-none stays t (x ∷ xs) none =
       ap₂ (λ (p r : Bool). not (p && not (stays x.label (x.arc.door + 1))) && r) (ne_eqb x.to t (All-head (λ y. y.to ≢ t) x xs none)) (stay-none stays t xs (All-tail (λ y. y.to ≢ t) x xs none))
+
+  -- ---- for the loops over a list
+  pub place_in : (us : List (Node S V)) (list : InArcs) (m : ℕ) (n : InArc) → IsListed us list → m < list.many → (get_or list.arcs m n).place < length us
+  place_in us list m n l lt = place-here l m lt n
+
+  pub door_in : (us : List (Node S V)) (list : InArcs) (m : ℕ) (n : InArc) → IsListed us list → m < list.many → (get_or list.arcs m n).door < 16
+  door_in us list m n l lt = door-here l m lt n

@@ -67,9 +67,9 @@ module _ {S V : Type 0} (by : Setting S V) (at a m : ℕ) (xs : List (Node S V))
   parts_same k ys e h ne n = grind (arith, nat_tests, n.0, n.1)
 
 -- ---- of a list of in-arcs that are not written back
-module _ {S V : Type 0} (w : ℕ) (xs us : List (Node S V)) (list : InArcs) (front : us ≡ take w xs) (le : w ≤ length xs) (l : IsListed us list) where
+module _ {S V : Type 0} (w : ℕ) (xs us : List (Node S V)) (list : InArcs) (front : us ≡ take w xs) (le : w ≤ length xs) (l : IsListed (take w xs) list) where
   long-written : length (written (take w xs) list) ≡ w
-  long-written = ap (λ ys. length (written ys list)) (sym front) ∙ long-same us (written us list) list l ∙ ap (λ ys. length ys) front ∙ length-take-le w xs le
+  long-written = long-same l ∙ length-take-le w xs le
 
   pub told-head : take w (told_records w list xs) ≡ written us list
   told-head = take_at (written (take w xs) list) (drop w xs) w long-written ∙ ap (λ ys. written ys list) (sym front)

@@ -27,12 +27,14 @@ fn leaves<K: Test>(test: &K, us: &[Node<K::State, K::Value>], x: &InArc) -> bool
     requires place_in_bounds { x.now.place < length us.now }
     requires door_bound { x.now.door < 16 }
     ensures { (z : ANode (K.State) (K.Value))
-        → result ≡ not (K.keeps test.now (slice_index_or us.now x.now.place z).label (x.now.door + 1)) }
+        → let u = slice_index_or us.now x.now.place z in
+        result ≡ not (K.keeps test.now u.label (x.now.door + 1)) }
 {
     !test.stays(&us[x.place as usize].label, x.door as usize + 1)
 }
 
 /// The place in the list of the first in-arc of node t that does not stay.
+#[tactic(auto, using(crate::proofs::InArcs::place_in, crate::proofs::InArcs::door_in))]
 pub(crate) fn first_leaving<K: Test>(
     test: &K,
     us: &[Node<K::State, K::Value>],
@@ -41,9 +43,10 @@ pub(crate) fn first_leaving<K: Test>(
 ) -> Option<usize>
     requires listed { IsListed us.now list.now }
     ensures { let told = told_from 0 (written us.now list.now) in
-        MatchOption result (all_stay (K.keeps test.now) t told ≡ true)
-        (λ m. (m < 2048) × (slice_index list.now.to m ≡ t) × (all_stay (K.keeps test.now) t told ≡ false)
-        × (all_stay (K.keeps test.now) t (take m told) ≡ true)) }
+        let stay = all_stay (K.keeps test.now) t in
+        MatchOption result (stay told ≡ true)
+        (λ m. (m < 2048) × (slice_index list.now.to m ≡ t) × (stay told ≡ false)
+        × (stay (take m told) ≡ true)) }
 {
     for m in list.starts[t as usize] as usize..list.many {
         if list.to[m] == t && leaves(test, us, &list.arcs[m]) {
@@ -92,6 +95,7 @@ fn put_arc<S: Copy, V: Copy>(us: &mut [Node<S, V>], x: &InArc, t: u8)
 }
 
 /// Writes the listed in-arcs back into the records.
+#[tactic(auto, using(crate::proofs::InArcs::place_in, crate::proofs::InArcs::door_in))]
 pub(crate) fn put_back<S: Copy, V: Copy>(us: &mut [Node<S, V>], list: &InArcs)
     requires { IsListed us.old list.now }
     ensures { us.new ≡ written us.old list.now }

@@ -6,40 +6,21 @@ use Rattle.layers.specs.Labels.{first_arrival, arrival_over}
 use Rattle.split.specs.declared.listing.InArc.{InArc}
 use Rattle.split.specs.Listed.{written}
 use Rattle.split.specs.Agreed.{brought}
-use Rattle.split.proofs.InArcs.{told, told-one, within, place-here, door-here, label-here, to-here, arc-here, not-yet, brings-none, first-told, arrivals-told}
+use Rattle.split.proofs.InArcs.{told, told-one, within, label-here, to-here, arc-here, not-yet, brings-none, first-told, arrivals-told}
 use Rattle.split.proofs.agreement.first_into.Goals as goal
 
 abbrev none : InArc
 none = record { place = 0; door = 0 }
 
 pub loop-m-init : goal.loop-m-init
-loop-m-init g c = not-yet c.args.us.now (written c.args.us.now c.args.list.now) c.args.list.now c.requires.listed c.args.t
-
-pub offset_bounds-us-place : goal.offset_bounds-us-place
-offset_bounds-us-place g c =
-    let us = c.args.us.now in
-    let h = place-here us (written us c.args.list.now) c.args.list.now c.requires.listed c.loop-m.m c.loop-m-test.true none in omega (arith, h)
-
-pub bounds-us-place : goal.bounds-us-place
-bounds-us-place g c = place-here c.args.us.now (written c.args.us.now c.args.list.now) c.args.list.now c.requires.listed c.loop-m.m c.loop-m-test.true none
-
-pub bounds-us-place-then-list-m : goal.bounds-us-place-then-list-m
-bounds-us-place-then-list-m g c = place-here c.args.us.now (written c.args.us.now c.args.list.now) c.args.list.now c.requires.listed c.loop-m.m c.loop-m-test.true none
-
-pub invariant_of-result : goal.invariant_of-result
-invariant_of-result g c =
-    let us = c.args.us.now in
-    let h = door-here us (written us c.args.list.now) c.args.list.now c.requires.listed c.loop-m.m c.loop-m-test.true none in record { fits = omega (arith, h) }
+loop-m-init g c = not-yet c.requires.listed c.args.t
 
 pub loop-m-preserved : goal.loop-m-preserved
 loop-m-preserved g c =
-    let us = c.args.us.now in
-    let list = c.args.list.now in
-    let vs = written us list in
     let m = c.loop-m.m in
     let l = c.requires.listed in
     let lt = c.loop-m-test.true in
-    All-more (λ x. x.to ≢ c.args.t) (told us vs list l) m (told-one us vs list l m lt) (within us vs list l m lt) c.loop-m.invariant (λ e. c.if-list-m.false (to-here us vs list l m lt ∙ e))
+    All-more (λ x. x.to ≢ c.args.t) (told l) m (told-one l m lt) (within l m lt) c.loop-m.invariant (λ e. c.if-list-m.false (to-here l m lt ∙ e))
 
 pub returns-then-list-m : goal.returns-then-list-m
 unfolding brought
@@ -52,8 +33,8 @@ returns-then-list-m g c by =
     let l = c.requires.listed in
     let lt = c.loop-m-test.true in
     let z = c.index-us-place.result in
-    ap₂ (λ (u : Label g.row.S.Denot g.row.V.Denot) (x : InArc). Some (arrival_over by u.down (x.door + 1))) (label-here us vs list l m lt none z) (arc-here us vs list l m lt none)
-    ∙ sym (first-told by t (told us vs list l) m (told-one us vs list l m lt) (within us vs list l m lt) c.loop-m.invariant (sym (to-here us vs list l m lt) ∙ c.if-list-m.true))
+    ap₂ (λ (u : Label g.row.S.Denot g.row.V.Denot) (x : InArc). Some (arrival_over by u.down (x.door + 1))) (label-here l m lt none z) (arc-here l m lt none)
+    ∙ sym (first-told by t (told l) m (told-one l m lt) (within l m lt) c.loop-m.invariant (sym (to-here l m lt) ∙ c.if-list-m.true))
     ∙ ap first_arrival (sym (arrivals-told by t c.requires.one_le_t 0 vs))
 
 pub returns : goal.returns
@@ -61,7 +42,7 @@ returns g c by =
     let us = c.args.us.now in
     let list = c.args.list.now in
     let vs = written us list in
-    let all = told us vs list c.requires.listed in
+    let all = told c.requires.listed in
     ap first_arrival
     (sym (arrivals-told by c.args.t c.requires.one_le_t 0 vs
     ∙ brings-none by c.args.t all (All-same (λ x. x.to ≢ c.args.t) all _ (sym (take_all c.loop-m.m all (omega (arith, c.requires.listed.told.many)))) c.loop-m.invariant)))

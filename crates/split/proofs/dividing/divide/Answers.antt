@@ -1,9 +1,10 @@
 use Rattle.std.proofs.Common.{◌≡◌, ℕ, suc, ◌+◌, ◌-◌, not, get_or, min, set, take, true, false, refl, sym, ap, ◌∙◌, subst, arith}
+use Rattle.std.proofs.lemmas.List.{set-get_or}
 use Rattle.split.specs.declared.listing.InArc.{InArc}
 use Rattle.split.specs.declared.listing.InArcs.{InArcs}
 use Rattle.split.specs.Listed.{told_from, written, all_stay, leaves, Lists}
-use Rattle.split.proofs.InArcs.{place-here, door-here, here, leaves-here, other-here, one-record}
-use Rattle.split.proofs.Divided.{sent-first, sent-next, divided, listed-back, written-back}
+use Rattle.split.proofs.InArcs.{place-here, door-here, here, to-here, leaves-here, other-here, one-record}
+use Rattle.split.proofs.Divided.{renumbered-there, sent-first, sent-next, divided, listed-back, written-back}
 use Rattle.split.proofs.dividing.divide.Goals as goal
 use Rattle.split.proofs.dividing.divide.Goals.{then-list-m+then-leaves, else-list-m, else-list-m-via-then-list-m+else-leaves, else-list-m-via-else-list-m}
 
@@ -21,19 +22,17 @@ loop-m-init g c =
 
 pub leaves-requires : goal.leaves-requires
 leaves-requires g c =
-    let us = c.args.us.now in
     let list = c.args.list.now in
     let same : get_or c.loop-m.list.arcs c.loop-m.m none ≡ get_or list.arcs c.loop-m.m none = ap (λ (l : InArcs). get_or l.arcs c.loop-m.m none) c.loop-m.invariant.0 in
     record {
-      place_in_bounds = rw same (place-here us (written us list) list c.requires.listed c.loop-m.m c.loop-m-test.true none);
-      door_bound = rw same (door-here us (written us list) list c.requires.listed c.loop-m.m c.loop-m-test.true none);
+      place_in_bounds = rw same (place-here c.requires.listed c.loop-m.m c.loop-m-test.true none);
+      door_bound = rw same (door-here c.requires.listed c.loop-m.m c.loop-m-test.true none);
     }
 
 pub loop-m-preserved : goal.loop-m-preserved
 loop-m-preserved g c =
     let us = c.args.us.now in
     let list = c.args.list.now in
-    let vs = written us list in
     let l = c.requires.listed in
     let m = c.loop-m.m in
     let lt = c.loop-m-test.true in
@@ -45,22 +44,23 @@ loop-m-preserved g c =
     let back : t ≡ suc a = omega (arith, c.requires.one_le_t) in
     let new : c.args.new ≡ suc n = omega (arith, c.requires.one_le_new) in
     let old = c.loop-m.invariant in
-    let x = here us vs list l m lt in
-    let z = one-record us vs list l m lt in
+    let x = here l m lt in
+    let z = one-record l m lt in
     let at : get_or L.to m 0 ≡ get_or list.to m 0 = old.1.2 m (omega arith) in
     let said : get_or L.to m 0 ≡ t → leaves keeps (suc a) x ≡ not (keeps (get_or us (get_or L.arcs m none).place z).label ((get_or L.arcs m none).door + 1)) =
-    λ e. leaves-here us vs list l m lt keeps (suc a) none z (sym at ∙ e ∙ back) ∙ ap (λ (k : InArcs). not (keeps (get_or us (get_or k.arcs m none).place z).label ((get_or k.arcs m none).door + 1))) (sym old.0) in
+    λ e. leaves-here l m lt keeps (suc a) none z (sym at ∙ e ∙ back) ∙ ap (λ (k : InArcs). not (keeps (get_or us (get_or k.arcs m none).place z).label ((get_or k.arcs m none).door + 1))) (sym old.0) in
     elim c.if-list-m.branch [
       | then-list-m+then-leaves w ↦ (
         w.list-is ∙ ap (λ (k : InArcs). record k { to = set L.to m c.args.new }) old.0 ∙ ap (λ (k : InArcs). record list { to = k.to }) (sym w.list-is),
-        sent-next keeps a n us list l m L.to c.if-list-m.list.to lt true (said w.if-list-m.true ∙ sym (w.leaves.ensures z) ∙ w.if-leaves.true) (ap (λ (k : InArcs). k.to) w.list-is ∙ ap (set L.to m) new) old.1,
+        sent-next keeps a n us list l m L.to c.if-list-m.list.to c.args.new lt (ap (λ (k : InArcs). k.to) w.list-is) (new ∙ sym (renumbered-there keeps a n x true (said w.if-list-m.true ∙ sym (w.leaves.ensures z) ∙ w.if-leaves.true))) old.1,
       )
       | else-list-m w ↦ (
         w.list-is ∙ old.0 ∙ ap (λ (k : InArcs). record list { to = k.to }) (sym w.list-is),
-        sent-next keeps a n us list l m L.to c.if-list-m.list.to lt false (elim w.else-list-m.branch [
-          | else-list-m-via-then-list-m+else-leaves w' ↦ said w'.if-list-m.true ∙ sym (w'.leaves.ensures z) ∙ w'.if-leaves.false
-          | else-list-m-via-else-list-m w' ↦ other-here us vs list l m lt keeps (suc a) (λ e. w'.if-list-m.false (at ∙ e ∙ sym back))
-        ]) (ap (λ (k : InArcs). k.to) w.list-is) old.1,
+        sent-next keeps a n us list l m L.to c.if-list-m.list.to (get_or L.to m 0) lt (ap (λ (k : InArcs). k.to) w.list-is ∙ sym (set-get_or L.to m 0)) (at ∙ to-here l m lt ∙ sym (renumbered-there keeps a n x false
+            (elim w.else-list-m.branch [
+              | else-list-m-via-then-list-m+else-leaves w' ↦ said w'.if-list-m.true ∙ sym (w'.leaves.ensures z) ∙ w'.if-leaves.false
+              | else-list-m-via-else-list-m w' ↦ other-here l m lt keeps (suc a) (λ e. w'.if-list-m.false (at ∙ e ∙ sym back))
+            ]))) old.1,
       )
     ]
 
@@ -79,8 +79,8 @@ returns g c =
     let T = L.to in
     let from = c.args.from in
     let made : Lists us _ (record list { to = T; starts = set list.starts (suc n) (min (get_or list.starts (suc n) 0) from) }) =
-    divided keeps a n from us list T c.requires.listed (omega (arith, c.requires.one_le_new)) (omega (arith, old.1.0)) (omega (arith, c.requires.listed.few))
-    (subst (λ (k : ℕ). all_stay keeps k (take from (told_from 0 (written us list))) ≡ true) back c.requires.first) (λ i d lt. old.1.1 i d (omega (arith, lt, c.loop-m-test.false)) lt) in
+    divided keeps a n us list c.requires.listed from c.loop-m.m T old.1 c.loop-m-test.false (omega (arith, c.requires.one_le_new))
+    (subst (λ (k : ℕ). all_stay keeps k (take from (told_from 0 (written us list))) ≡ true) back c.requires.first) in
     let same : record L { starts = set L.starts c.args.new c.min.result } ≡ record list { to = T; starts = set list.starts (suc n) (min (get_or list.starts (suc n) 0) from) } =
     ap (λ (v : ℕ). record L { starts = set L.starts c.args.new v }) c.min.ensures
     ∙ ap (λ (k : InArcs). record { arcs = k.arcs; to = T; many = k.many; starts = set k.starts c.args.new (min (get_or k.starts c.args.new 0) from) }) old.0

@@ -3,93 +3,60 @@ use Rattle.std.proofs.lemmas.List.{take_at, drop_at, take-append-drop, length-ta
 use Rattle.layers.specs.declared.node.Node.{Node}
 use Rattle.layers.specs.declared.node.Label.{Label}
 use Rattle.layers.specs.Labels.{all_agree, first_arrival}
+use Rattle.layers.specs.Calls.{Outcome}
 use Rattle.layers.specs.Settings.{Setting, lent_setting}
 use Rattle.labels.specs.Passes.{arrivals, blank_node}
 use Rattle.split.specs.declared.listing.InArcs.{InArcs}
 use Rattle.split.specs.Agreed.{kept_by}
 use Rattle.split.specs.Listed.{IsListed, written, told_records}
 use Rattle.split.specs.Parted.{or_unused, parted_node, parted_second}
-use Rattle.split.specs.Steps.{alike, parted_one, kept_first}
+use Rattle.split.specs.Steps.{alike, next_records, parted_one, kept_first}
 use Rattle.split.proofs.Asking.{none-agree}
 use Rattle.split.proofs.Meets.{stay-said, kept-same}
 use Rattle.split.proofs.Turns.{next-alike, next-full, next-parted, told-head, told-tail}
 use Rattle.split.proofs.parting.part_node.Goals as goal
 
--- whether the in-arcs agree, of the records with the list written back
-agree-said : {S V : Type 0} (by : Setting S V) (xs us : List (Node S V)) (list : InArcs) (a : ℕ) → us ≡ take by.width xs → by.width ≤ length xs → IsListed us list
-    → alike by 0 (suc a) (told_records by.width list xs) ≡ all_agree by.rule (arrivals by (a + 1) (written us list))
-agree-said by xs us list a front le l = ap₂ (λ (t : ℕ) ys. all_agree by.rule (arrivals by t ys)) (sym (add-one a)) (told-head by.width xs us list front le l)
+module _ {S V : Type 0} (by : Setting S V) (xs us vs : List (Node S V)) (list : InArcs) (front : us ≡ take by.width xs) (back : vs ≡ drop by.width xs) (le : by.width ≤ length xs) where
+  -- whether the in-arcs agree, of the records with the list written back
+  agree-said : (a : ℕ) → IsListed (take by.width xs) list → alike by 0 (suc a) (told_records by.width list xs) ≡ all_agree by.rule (arrivals by (a + 1) (written us list))
+  agree-said a l = ap₂ (λ (t : ℕ) ys. all_agree by.rule (arrivals by t ys)) (sym (add-one a)) (told-head by.width xs us list front le l)
 
-whole : {X : Type 0} (w : ℕ) (xs us vs : List X) → us ≡ take w xs → vs ≡ drop w xs → us ++ vs ≡ xs
-whole w xs us vs e f = ap₂ (λ ys zs. ys ++ zs) e f ∙ take-append-drop w xs
+  -- what a refusal leaves
+  left : (o p : Outcome) (a m : ℕ) → IsListed (take by.width xs) list → (o ≡ p) × (told_records by.width list xs ≡ next_records by 0 a m (told_records by.width list xs))
+      → (o ≡ p) × (told_records by.width list (us ++ vs) ≡ next_records by 0 a m (told_records by.width list xs)) × IsListed (take by.width (us ++ vs)) list
+  left o p a m l n = let e : us ++ vs ≡ xs = ap₂ (λ ys zs. ys ++ zs) front back ∙ take-append-drop by.width xs in (n.0, ap (told_records by.width list) e ∙ n.1, subst (λ ys. IsListed (take by.width ys) list) (sym e) l)
 
-pub returns-in_default-clause-answer : goal.returns-in_default-clause-answer
-returns-in_default-clause-answer g c =
+pub returns-in_default : goal.returns-in_default
+returns-in_default g c =
     let by = lent_setting c.args.by.now (g.R.Rule.sense c.args.by.now.rule.now) (g.T.Tally.sense c.args.by.now.tally.now) in
     let xs = c.args.nodes.now in
     let list = c.args.list.now in
-    let front = c.split_at_mut-us.ensures.front in
-    let l = subst (λ ys. IsListed ys list) (sym front) c.requires.listed in
-    let same = agree-said by xs _ list c.args.a front (omega arith) l ∙ none-agree by _ (c.in_default.ensures by) in
-    (next-alike by 0 c.args.a c.args.count (told_records by.width list xs) same).0
+    let s = c.split_at_mut-us in
+    let same = agree-said by xs _ _ list s.ensures.front s.ensures.back (omega arith) c.args.a c.requires.listed ∙ none-agree by _ (c.in_default.ensures by) in
+    let d = left by xs _ _ list s.ensures.front s.ensures.back (omega arith) _ _ c.args.a c.args.count c.requires.listed (next-alike by 0 c.args.a c.args.count (told_records by.width list xs) same) in
+    record { answer = d.0; records = d.1; listed = d.2 }
 
-pub returns-in_default-clause-records : goal.returns-in_default-clause-records
-returns-in_default-clause-records g c =
+pub returns-in_default-first_leaving : goal.returns-in_default-first_leaving
+returns-in_default-first_leaving g c =
     let by = lent_setting c.args.by.now (g.R.Rule.sense c.args.by.now.rule.now) (g.T.Tally.sense c.args.by.now.tally.now) in
     let xs = c.args.nodes.now in
     let list = c.args.list.now in
-    let front = c.split_at_mut-us.ensures.front in
-    let l = subst (λ ys. IsListed ys list) (sym front) c.requires.listed in
-    let same = agree-said by xs _ list c.args.a front (omega arith) l ∙ none-agree by _ (c.in_default.ensures by) in
-    ap (told_records by.width list) (whole by.width xs _ _ front c.split_at_mut-us.ensures.back) ∙ (next-alike by 0 c.args.a c.args.count (told_records by.width list xs) same).1
+    let s = c.split_at_mut-us in
+    let said = stay-said by (g.met.R.Rule.reflexive c.args.by.now.rule.now) _ c.in-Some.first (c.args.a + 1) (omega arith) (c.in-Some.ensures by) in
+    let same = agree-said by xs _ _ list s.ensures.front s.ensures.back (omega arith) c.args.a c.requires.listed ∙ sym said ∙ c.in_default-first_leaving.ensures in
+    let d = left by xs _ _ list s.ensures.front s.ensures.back (omega arith) _ _ c.args.a c.args.count c.requires.listed (next-alike by 0 c.args.a c.args.count (told_records by.width list xs) same) in
+    record { answer = d.0; records = d.1; listed = d.2 }
 
-pub returns-in_default-first_leaving-clause-answer : goal.returns-in_default-first_leaving-clause-answer
-returns-in_default-first_leaving-clause-answer g c =
+pub returns-then-count-by : goal.returns-then-count-by
+returns-then-count-by g c =
     let by = lent_setting c.args.by.now (g.R.Rule.sense c.args.by.now.rule.now) (g.T.Tally.sense c.args.by.now.tally.now) in
     let xs = c.args.nodes.now in
     let list = c.args.list.now in
-    let us = c.split_at_mut-us.result.0.now in
-    let front = c.split_at_mut-us.ensures.front in
-    let l = subst (λ ys. IsListed ys list) (sym front) c.requires.listed in
-    let said = stay-said by (g.met.R.Rule.reflexive c.args.by.now.rule.now) (written us list) c.in-Some.first (c.args.a + 1) (omega arith) (c.in-Some.ensures by) in
-    let same = agree-said by xs us list c.args.a front (omega arith) l ∙ sym said ∙ c.in_default-first_leaving.ensures in
-    (next-alike by 0 c.args.a c.args.count (told_records by.width list xs) same).0
-
-pub returns-in_default-first_leaving-clause-records : goal.returns-in_default-first_leaving-clause-records
-returns-in_default-first_leaving-clause-records g c =
-    let by = lent_setting c.args.by.now (g.R.Rule.sense c.args.by.now.rule.now) (g.T.Tally.sense c.args.by.now.tally.now) in
-    let xs = c.args.nodes.now in
-    let list = c.args.list.now in
-    let us = c.split_at_mut-us.result.0.now in
-    let front = c.split_at_mut-us.ensures.front in
-    let l = subst (λ ys. IsListed ys list) (sym front) c.requires.listed in
-    let said = stay-said by (g.met.R.Rule.reflexive c.args.by.now.rule.now) (written us list) c.in-Some.first (c.args.a + 1) (omega arith) (c.in-Some.ensures by) in
-    let same = agree-said by xs us list c.args.a front (omega arith) l ∙ sym said ∙ c.in_default-first_leaving.ensures in
-    ap (told_records by.width list) (whole by.width xs _ _ front c.split_at_mut-us.ensures.back) ∙ (next-alike by 0 c.args.a c.args.count (told_records by.width list xs) same).1
-
-pub returns-then-count-by-clause-answer : goal.returns-then-count-by-clause-answer
-returns-then-count-by-clause-answer g c =
-    let by = lent_setting c.args.by.now (g.R.Rule.sense c.args.by.now.rule.now) (g.T.Tally.sense c.args.by.now.tally.now) in
-    let xs = c.args.nodes.now in
-    let list = c.args.list.now in
-    let us = c.split_at_mut-us.result.0.now in
-    let front = c.split_at_mut-us.ensures.front in
-    let l = subst (λ ys. IsListed ys list) (sym front) c.requires.listed in
-    let said = stay-said by (g.met.R.Rule.reflexive c.args.by.now.rule.now) (written us list) c.in-Some.first (c.args.a + 1) (omega arith) (c.in-Some.ensures by) in
-    let apart = agree-said by xs us list c.args.a front (omega arith) l ∙ sym said ∙ c.in-Some-first_leaving.ensures.2 in
-    (next-full by 0 c.args.a c.args.count (told_records by.width list xs) apart c.if-count-by.true).0
-
-pub returns-then-count-by-clause-records : goal.returns-then-count-by-clause-records
-returns-then-count-by-clause-records g c =
-    let by = lent_setting c.args.by.now (g.R.Rule.sense c.args.by.now.rule.now) (g.T.Tally.sense c.args.by.now.tally.now) in
-    let xs = c.args.nodes.now in
-    let list = c.args.list.now in
-    let us = c.split_at_mut-us.result.0.now in
-    let front = c.split_at_mut-us.ensures.front in
-    let l = subst (λ ys. IsListed ys list) (sym front) c.requires.listed in
-    let said = stay-said by (g.met.R.Rule.reflexive c.args.by.now.rule.now) (written us list) c.in-Some.first (c.args.a + 1) (omega arith) (c.in-Some.ensures by) in
-    let apart = agree-said by xs us list c.args.a front (omega arith) l ∙ sym said ∙ c.in-Some-first_leaving.ensures.2 in
-    ap (told_records by.width list) (whole by.width xs _ _ front c.split_at_mut-us.ensures.back) ∙ (next-full by 0 c.args.a c.args.count (told_records by.width list xs) apart c.if-count-by.true).1
+    let s = c.split_at_mut-us in
+    let said = stay-said by (g.met.R.Rule.reflexive c.args.by.now.rule.now) _ c.in-Some.first (c.args.a + 1) (omega arith) (c.in-Some.ensures by) in
+    let apart = agree-said by xs _ _ list s.ensures.front s.ensures.back (omega arith) c.args.a c.requires.listed ∙ sym said ∙ c.in-Some-first_leaving.ensures.2 in
+    let d = left by xs _ _ list s.ensures.front s.ensures.back (omega arith) _ _ c.args.a c.args.count c.requires.listed (next-full by 0 c.args.a c.args.count (told_records by.width list xs) apart c.if-count-by.true) in
+    record { answer = d.0; records = d.1; listed = d.2 }
 
 pub returns : goal.returns
 unfolding parted_one parted_second
@@ -106,13 +73,13 @@ returns g c =
     let vs = c.split_at_mut-us.result.1.now in
     let front : us ≡ take w xs = c.split_at_mut-us.ensures.front in
     let back : vs ≡ drop w xs = c.split_at_mut-us.ensures.back in
-    let l = subst (λ ys. IsListed ys list) (sym front) c.requires.listed in
+    let l = c.requires.listed in
     let le : w ≤ length xs = omega arith in
     let R = told_records w list xs in
     let long : length us ≡ w = ap (λ ys. length ys) front ∙ length-take-le w xs le in
     let said = stay-said by (g.met.R.Rule.reflexive c.args.by.now.rule.now) (written us list) c.in-Some.first (a + 1) (omega arith) (c.in-Some.ensures by) in
     let e = c.in-Some-first_leaving.ensures in
-    let apart = agree-said by xs us list a front le l ∙ sym said ∙ e.2 in
+    let apart = agree-said by xs us vs list front back le a l ∙ sym said ∙ e.2 in
     let n = next-parted by 0 a m R apart c.if-count-by.false in
     let head : take w R ≡ written us list = told-head w xs us list front le l in
     let tail : drop w R ≡ vs = told-tail w xs us list front le l ∙ sym back in
