@@ -13,7 +13,7 @@ use Rattle.layers.specs.declared.node.Up.{Up}
 use Rattle.layers.specs.Labels.{arrival_over, blank_label, no_up}
 use Rattle.layers.specs.Records.{is_used}
 use Rattle.layers.specs.Settings.{Setting}
-use Rattle.labels.specs.Passes.{with_down, with_up, bare, blank_node, cleared, unlabelled, begun, renewed, sources, first_layer, next_layer, labelled, labelled_after, pass_down, landed, hit, crossed, spread, crossed_all, next_renewed, end_renewed, renewed_after, risen, risen_from, pass_up, relabelled_used, relabelled}
+use Rattle.labels.specs.Passes.{with_down, with_up, bare, blank_node, cleared, begun, renewed, sources, first_layer, next_layer, labelled, labelled_after, pass_down, landed, hit, crossed, spread, crossed_all, next_renewed, end_renewed, renewed_after, risen, risen_from, pass_up, relabelled_used, relabelled}
 use Rattle.labels.proofs.Climbs.{arcs_of, down_of, up_of}
 use Rattle.labels.proofs.Folds.{folded_keeps}
 
@@ -114,14 +114,14 @@ module _ {S V : Type 0} (by : Setting S V) where
     down_keeps xs = after-keeps (by.round.n - 1) _ ∙ in-parts f by.width _ _ xs (first-keeps (take by.width xs)) refl
 
   -- the arcs of any list stay
-  pub relabelled-arcs : (xs : List (Node S V)) → map arcs_of (relabelled by xs) ≡ map arcs_of xs
-  unfolding relabelled relabelled_used pass_up
-  relabelled-arcs xs =
-      let at = by.round.n * by.width in
-      let ys = map (unlabelled by.rule by.tally) (take at xs) ++ drop at xs in
-      rises_keep arcs_of (λ x u. refl) by.width (by.round.n - 1) _ ∙ renewals-keep arcs_of (λ x l. refl) (by.round.n - 1) (begun by.rule by.tally ys) ∙ begins ys
-      ∙ in-parts arcs_of at _ _ xs (each-kept arcs_of _ (λ x. refl) (take at xs)) refl
+  pub used-arcs : (xs : List (Node S V)) → map arcs_of (relabelled_used by xs) ≡ map arcs_of xs
+  unfolding relabelled_used pass_up
+  used-arcs xs = rises_keep arcs_of (λ x u. refl) by.width (by.round.n - 1) _ ∙ renewals-keep arcs_of (λ x l. refl) (by.round.n - 1) (begun by.rule by.tally xs) ∙ begins xs
     where
       begins : (ys : List (Node S V)) → map arcs_of (begun by.rule by.tally ys) ≡ map arcs_of ys
       begins [] = refl
       begins (y ∷ ys) = refl
+
+  pub relabelled-arcs : (xs : List (Node S V)) → map arcs_of (relabelled by xs) ≡ map arcs_of xs
+  unfolding relabelled
+  relabelled-arcs xs = let at = by.round.n * by.width in used-arcs _ ∙ in-parts arcs_of at _ _ xs (each-kept arcs_of _ (λ x. refl) (take at xs)) refl
