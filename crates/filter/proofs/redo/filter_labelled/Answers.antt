@@ -3,10 +3,9 @@ use Rattle.std.proofs.lemmas.Bool.{cond-true, cond-false, eq-eqb, ne_eqb}
 use Rattle.layers.specs.Settings.{lent_setting}
 use Rattle.labels.specs.Passes.{fits, relabelled_used}
 use Rattle.labels.proofs.Climbs.{arcs_of}
-use Rattle.labels.proofs.Keeps.{used-arcs}
 use Rattle.filter.specs.Steps.{arc_count, none_goes, thinned, filter_labelled_steps}
 use Rattle.filter.proofs.FilterWords.{labelled-done}
-use Rattle.filter.proofs.Relabelled.{same-count}
+use Rattle.filter.proofs.Relabelled.{same-count, used-arcs}
 use Rattle.filter.proofs.redo.filter_labelled.Goals as goal
 
 pub returns-then-lost-ne0 : goal.returns-then-lost-ne0
