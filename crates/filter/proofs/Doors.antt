@@ -23,14 +23,14 @@ module _ {S V : Type 0} (goes : ℕ → ℕ → ℕ → Option (Down S V) → Op
   left_past zero lt = refl
   left_past (suc b) lt = grind (arith, nat_tests)
 
-  pub left_here : (t : ℕ) (gone : Bool) (x : Node S V) → 1 ≤ t → t ≤ length vs → x ≡ get_or vs (t - 1) x → gone ≡ goes i h j (Some u.label.down) (Some x.label.up) → cond gone 0 t ≡ at_door (kept_to goes i h vs u) j t
+  pub left_here : (t : ℕ) (gone : Bool) (x : Node S V) → 1 ≤ t → t ≤ length vs → gone ≡ goes i h j (Some u.label.down) (Some (get_or vs (t - 1) x).label.up) → cond gone 0 t ≡ at_door (kept_to goes i h vs u) j t
   unfolding kept_to
-  left_here zero gone x some fits is e = absurd (omega arith)
-  left_here (suc b) gone x some fits is e =
+  left_here zero gone x some fits is = absurd (omega arith)
+  left_here (suc b) gone x some fits is =
       let here : suc b - 1 ≡ b = omega arith in
       rw (lt-ltb b (length vs) (omega arith))
-      (ap (λ g. cond g 0 (suc b)) e
-      ∙ ap (λ o. cond (goes i h j (Some u.label.down) o) 0 (suc b)) (ap (λ (y : Node S V). Some y.label.up) (is ∙ ap (λ k. get_or vs k x) here) ∙ sym (get_or-map (λ (y : Node S V). Some y.label.up) vs b x None (omega arith))))
+      (ap (λ g. cond g 0 (suc b)) (is ∙ ap (λ k. goes i h j (Some u.label.down) (Some (get_or vs k x).label.up)) here)
+      ∙ ap (λ o. cond (goes i h j (Some u.label.down) o) 0 (suc b)) (sym (get_or-map (λ (y : Node S V). Some y.label.up) vs b x None (omega arith))))
 
   -- an arc goes, or stays as it is
   pub left-or-none : (t : ℕ) → (at_door (kept_to goes i h vs u) j t ≡ 0) ⊎ (at_door (kept_to goes i h vs u) j t ≡ t)

@@ -1,5 +1,5 @@
 -- On the records of a diagram the steps of sweep and cut come to their definitions.
-use Rattle.std.proofs.Common.{◌≡◌, ℕ, ◌+◌, ◌-◌, ◌*◌, ◌≤◌, true, eqb, List, ◌++◌, length, drop, sym, refl, ap, ◌∙◌, subst, ap₂, arith}
+use Rattle.std.proofs.Common.{◌≡◌, ℕ, ◌+◌, ◌-◌, ◌*◌, ◌≤◌, true, eqb, List, ◌++◌, map, length, take, drop, sym, refl, ap, ◌∙◌, subst, ap₂, arith}
 use Rattle.std.proofs.lemmas.Bool.{cond_both, cond-false}
 use Rattle.std.proofs.lemmas.List.{drop-drop}
 use Rattle.round.specs.declared.table.Round.{Round}
@@ -15,19 +15,20 @@ use Rattle.layers.specs.Shape.{IsShaped, IsTimely}
 use Rattle.layers.proofs.Counts.{all-kept, kept-same}
 use Rattle.layers.proofs.Proper.{tied-ranged, RangedAll, Less, kept-less, proper-less}
 use Rattle.layers.proofs.Shaped.{shaped-proper, relaid-shaped, ended-one, relaid-timely}
-use Rattle.labels.specs.Passes.{fits, blank_node, relabelled}
-use Rattle.labels.proofs.Laying.{Arranged, Good, relabelled-lawful}
+use Rattle.labels.specs.Passes.{fits, blank_node, unused_label, relabelled_used, relabelled}
+use Rattle.labels.proofs.Laying.{Arranged, Good, has-ready, relabelled-lawful, used-lawful}
+use Rattle.labels.proofs.Places.{Ready}
 use Rattle.labels.proofs.Rooms.{room-facts}
 use Rattle.labels.proofs.Shaped_arranged.{shaped-arranged, good-net}
 use Rattle.tidying.specs.Tidied.{first_mark}
 use Rattle.tidying.specs.Tidied.{tidied as tidiedFlat}
-use Rattle.tidying.proofs.Places.{Blanks, Rows, tidied-places}
+use Rattle.tidying.proofs.Places.{Blanks, tidied-places}
 use Rattle.tidying.proofs.TidyNet.{Standing, tidied-arranged}
 use Rattle.filter.specs.Steps.{IsLabelled, FilterDone, arc_count, none_goes, thinned, filter_steps, filter_labelled_steps, sweep_steps, after_filter}
 use Rattle.filter.specs.Kept.{kept_from}
 use Rattle.filter.proofs.CountNet.{arc-count}
 use Rattle.filter.proofs.KeptNet.{Goes, kept-arranged, kept-later, kept-tail}
-use Rattle.filter.proofs.Places.{kept-blanks, rows-blanks}
+use Rattle.filter.proofs.Places.{kept-blanks, ready-blanks}
 
 module _ {S V : Type 0} (r : Round) (W : ℕ) (xs : List (Node S V)) (fit : fits r.n W (length xs) ≡ true) (s : IsShaped r.n W xs) where
   abbrev pub D : Net
@@ -104,9 +105,9 @@ module _ {S V : Type 0} (by : Setting S V) (xs : List (Node S V)) (fit : fits by
         sym (drop-drop 1 (n * W) Left) ∙ ap (drop 1) (kept-later goes n W z xs (omega (arith, room.enough))) ∙ drop-drop 1 (n * W) xs,
       )
 
-  some-words : relabelled by Left ≡ after_filter by goes xs
+  laid-words : records_with by Left (tidied_arcs M) ≡ after_filter by goes xs
   unfolding records_with
-  some-words = relabelled-lawful by (tidied_arcs M) Left tidy-proper left-is.0 ∙ ap (λ (ws : List (Node S V)). labelled_records by (tidied_arcs M) ++ ws) left-is.1
+  laid-words = ap (λ (ws : List (Node S V)). labelled_records by (tidied_arcs M) ++ ws) left-is.1
 
   filter-words : filter_steps by goes xs ≡ after_filter by goes xs
   unfolding filter_steps thinned
@@ -114,26 +115,29 @@ module _ {S V : Type 0} (by : Setting S V) (xs : List (Node S V)) (fit : fits by
       let D' = D by.round by.width xs fit s in
       cond_both (none_goes goes by.round.n by.width xs) xs Left (λ ws. relabelled by ws ≡ after_filter by goes xs)
       (λ e. relabelled-lawful by D' xs (proper by.round by.width xs fit s) (shaped-arranged by.round by.width xs (enough by.round by.width xs fit s) s) ∙ ap (records_with by xs) (sym (none-tidied by.round by.width xs fit s goes e)))
-      (λ e. some-words)
+      (λ e. relabelled-lawful by (tidied_arcs M) Left tidy-proper left-is.0 ∙ laid-words)
 
-  pub labelled-words : IsLabelled by xs → filter_labelled_steps by goes xs ≡ after_filter by goes xs
-  unfolding filter_labelled_steps thinned
-  labelled-words same =
-      let q = none_goes goes by.round.n by.width xs in
-      cond_both q xs _ (λ ws. ws ≡ after_filter by goes xs) (λ e. sym same ∙ ap (records_with by xs) (sym (none-tidied by.round by.width xs fit s goes e))) (λ e. ap (relabelled by) (cond-false q xs Left e) ∙ some-words)
-
-  -- after the nodes of what is left its places are blank, if they were before
-  pub left-places : Rows by.width (blank_node by.rule by.tally) (D by.round by.width xs fit s) xs → Rows by.width (blank_node by.rule by.tally) (tidied_arcs M) Left
-  left-places rows =
+  -- the places after the nodes of labelled records are blank, and so are those of what is left
+  left-places : IsLabelled by xs → Ready by (tidied_arcs M) Left
+  left-places same =
       let n = by.round.n in
       let W = by.width in
       let z = blank_node by.rule by.tally in
       let room = room-facts n W (length xs) fit in
       let h : n * W ≤ length xs = omega (arith, room.enough) in
+      let D' = D by.round W xs fit s in
       let p = proper by.round W xs fit s in
+      let ready = has-ready by D' xs p room.enough (ap (λ ys. map (unused_label by) (take (n * W) ys)) (sym same)) in
       let stand = left-arranged by.round W xs fit s goes in
-      let blank = kept-blanks W z goes 0 n xs h (subst (λ k. Blanks W z k xs) p.deep (rows-blanks W z (D by.round W xs fit s) xs p.roomy rows)) in
-      tidied-places W z n M (kept_from goes W 0 n xs) room.high (deep-left by.round W xs fit s goes) (good-left by.round W xs fit s goes) refl refl stand.0 stand.1 (omega (arith, (kept-tail n goes W 0 n xs h).0)) blank
+      let blank = kept-blanks W z goes 0 n xs h (subst (λ k. Blanks W z k xs) p.deep (ready-blanks by D' xs p.roomy ready)) in
+      tidied-places by n M (kept_from goes W 0 n xs) room.high (deep-left by.round W xs fit s goes) (good-left by.round W xs fit s goes) stand.0 stand.1 (omega (arith, (kept-tail n goes W 0 n xs h).0)) blank
+
+  pub labelled-words : IsLabelled by xs → filter_labelled_steps by goes xs ≡ after_filter by goes xs
+  unfolding filter_labelled_steps thinned
+  labelled-words same =
+      let q = none_goes goes by.round.n by.width xs in
+      cond_both q xs _ (λ ws. ws ≡ after_filter by goes xs) (λ e. sym same ∙ ap (records_with by xs) (sym (none-tidied by.round by.width xs fit s goes e)))
+      (λ e. ap (relabelled_used by) (cond-false q xs Left e) ∙ used-lawful by (tidied_arcs M) Left tidy-proper left-is.0 (left-places same) ∙ laid-words)
 
   -- what is left is a diagram's
   filter-shaped : IsShaped by.round.n by.width (after_filter by goes xs)

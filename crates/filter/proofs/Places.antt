@@ -6,17 +6,20 @@ use Rattle.layers.specs.declared.node.Node.{Node}
 use Rattle.layers.specs.Lawful.{IsRoomy}
 use Rattle.layers.specs.Net.{Net}
 use Rattle.layers.specs.Targets.{redirected}
+use Rattle.layers.specs.Settings.{Setting}
+use Rattle.labels.specs.Passes.{blank_node}
+use Rattle.labels.proofs.Places.{Ready}
 use Rattle.tidying.specs.InUse.{on_nodes}
 use Rattle.tidying.proofs.InUse.{mapped-long, mapped-same}
-use Rattle.tidying.proofs.Places.{Rows, Blanks}
+use Rattle.tidying.proofs.Places.{Blanks}
 use Rattle.filter.specs.Kept.{kept_node, kept_from}
 use Rattle.filter.proofs.KeptNet.{Goes}
 
-module _ {S V : Type 0} (W : ℕ) (z : Node S V) where
-  pub rows-blanks : (Ls : Net) (xs : List (Node S V)) → IsRoomy W Ls → Rows W z Ls xs → Blanks W z (length Ls) xs
-  rows-blanks [] xs roomy h = tt
-  rows-blanks (L ∷ Ls) xs roomy h = ((h.0.0, omega (arith, h.0.1, roomy.0), h.0.2), rows-blanks Ls (drop W xs) roomy.1 h.1)
+pub ready-blanks : {S V : Type 0} (by : Setting S V) (Ls : Net) (xs : List (Node S V)) → IsRoomy by.width Ls → Ready by Ls xs → Blanks by.width (blank_node by.rule by.tally) (length Ls) xs
+ready-blanks by [] xs roomy h = tt
+ready-blanks by (L ∷ Ls) xs roomy h = ((h.0.0, omega (arith, h.0.1, roomy.0), h.0.2), ready-blanks by Ls (drop by.width xs) roomy.1 h.1)
 
+module _ {S V : Type 0} (W : ℕ) (z : Node S V) where
   pub kept-blanks : (goes : Goes S V) (i k : ℕ) (xs : List (Node S V)) → k * W ≤ length xs → Blanks W z k xs → Blanks W z k (kept_from goes W i k xs)
   unfolding kept_from kept_node redirected
   kept-blanks goes i zero xs h b = tt

@@ -12,7 +12,7 @@ use Rattle.layers.specs.Labels.{leg, is_barred, is_above_ceiling}
 use Rattle.layers.specs.Tidy.{tidied_arcs}
 use Rattle.layers.specs.Calls.{arcs, labels, keeps_all_arcs, kept_arcs, records_with, arcs_lost, after_sweep, sweep_answer, after_cut, cut_answer}
 use Rattle.layers.specs.Shape.{IsShaped, IsTimely}
-use Rattle.labels.specs.Passes.{fits, blank_node, relabelled}
+use Rattle.labels.specs.Passes.{fits, blank_node, relabelled_used, relabelled}
 use Rattle.tidying.specs.Counted.{arcs_within}
 use Rattle.tidying.specs.Tidied.{tidied, first_mark}
 use Rattle.filter.specs.Kept.{kept_from}
@@ -54,8 +54,8 @@ module _ {S V : Type 0} (by : Setting S V) where
 
   -- of a list whose labels stand: if none goes, it stays as it is
   unfoldable pub filter_labelled_steps : (ℕ → ℕ → ℕ → Option (Down S V) → Option Up → Bool) → List (Node S V) → List (Node S V)
-  unfolding none_goes thinned relabelled
-  filter_labelled_steps goes xs = if none_goes goes by.round.n by.width xs then xs else relabelled by (thinned goes xs)
+  unfolding none_goes thinned relabelled_used
+  filter_labelled_steps goes xs = if none_goes goes by.round.n by.width xs then xs else relabelled_used by (thinned goes xs)
 
   unfoldable pub sweep_steps : List (Node S V) → List (Node S V)
   unfolding filter_steps leg finish

@@ -9,7 +9,7 @@ ghost use Rattle.filter.specs.Steps.{arc_count, none_goes, thinned, filter_steps
 use crate::take::{Filter, take_from};
 use crate::test::Test;
 use labels::blank::blank_node;
-use labels::relabel::relabel;
+use labels::relabel::{relabel, relabel_used};
 use layers::node::Node;
 use layers::setting::Setting;
 use rules::rule::Rule;
@@ -70,8 +70,8 @@ pub(crate) fn filter<R: Rule, T: Tally, F: Test<State = R::State, Value = T::Val
     gone
 }
 
-/// The same of records whose labels are those that this setting gives: if no arc goes, the list
-/// stays as it is.
+/// The same of records whose labels are those that this setting gives, so the places that are not in use are blank: if no arc
+/// goes, the list stays as it is.
 pub(crate) fn filter_labelled<R: Rule, T: Tally, F: Test<State = R::State, Value = T::Value>>(
     by: &Setting<'_, R, T>,
     test: &F,
@@ -91,7 +91,7 @@ pub(crate) fn filter_labelled<R: Rule, T: Tally, F: Test<State = R::State, Value
 {
     let lost = thin(by, test, nodes);
     if lost != 0 {
-        relabel(by, nodes);
+        relabel_used(by, nodes);
     }
     lost
 }

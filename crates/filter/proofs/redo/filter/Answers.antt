@@ -1,10 +1,12 @@
-use Rattle.std.proofs.Common.{◌≡◌, ◌-◌, true, length, ap, ◌∙◌}
+use Rattle.std.proofs.Common.{◌≡◌, ◌-◌, true, map, length, sym, ap, ◌∙◌}
 use Rattle.std.proofs.lemmas.Bool.{cond-true}
 use Rattle.layers.specs.Settings.{lent_setting}
 use Rattle.labels.specs.Passes.{fits, relabelled}
+use Rattle.labels.proofs.Climbs.{arcs_of}
+use Rattle.labels.proofs.Keeps.{relabelled-arcs}
 use Rattle.filter.specs.Steps.{arc_count, filter_steps}
 use Rattle.filter.proofs.FilterWords.{filter-done}
-use Rattle.filter.proofs.Relabelled.{relabelled-count}
+use Rattle.filter.proofs.Relabelled.{same-count}
 use Rattle.filter.proofs.redo.filter.Goals as goal
 
 pub returns : goal.returns
@@ -19,5 +21,5 @@ returns g c =
     let is : c.relabel.new.nodes ≡ relabelled by ys = c.relabel.ensures.passes ∙ cond-true (fits n W (length ys)) _ _ room in
     let steps = is ∙ ap (relabelled by) c.thin-gone.ensures.steps in
     let counted : c.thin-gone.result ≡ arc_count n W xs - arc_count n W c.relabel.new.nodes =
-    c.thin-gone.ensures.counted ∙ ap (λ m. arc_count n W xs - m) (relabelled-count by ys c.relabel.new.nodes is) in
+    c.thin-gone.ensures.counted ∙ ap (λ m. arc_count n W xs - m) (same-count n W ys c.relabel.new.nodes (sym (ap (map arcs_of) is ∙ relabelled-arcs by ys))) in
     record { steps = steps; counted = counted; words = filter-done by xs _ c.requires.room _ _ (c.relabel.auto.nodes ∙ c.thin-gone.auto.nodes) counted steps }

@@ -1,10 +1,11 @@
-use Rattle.std.proofs.Common.{◌≡◌, ◌-◌, true, false, length, ap, sym, ◌∙◌}
+use Rattle.std.proofs.Common.{◌≡◌, ◌-◌, true, false, map, length, ap, sym, ◌∙◌}
 use Rattle.std.proofs.lemmas.Bool.{cond-true, cond-false, eq-eqb, ne_eqb}
 use Rattle.layers.specs.Settings.{lent_setting}
-use Rattle.labels.specs.Passes.{fits, relabelled}
+use Rattle.labels.specs.Passes.{fits, relabelled_used}
+use Rattle.labels.proofs.Climbs.{arcs_of}
 use Rattle.filter.specs.Steps.{arc_count, none_goes, thinned, filter_labelled_steps}
 use Rattle.filter.proofs.FilterWords.{labelled-done}
-use Rattle.filter.proofs.Relabelled.{relabelled-count}
+use Rattle.filter.proofs.Relabelled.{same-count, used-arcs}
 use Rattle.filter.proofs.redo.filter_labelled.Goals as goal
 
 pub returns-then-lost-ne0 : goal.returns-then-lost-ne0
@@ -18,11 +19,11 @@ returns-then-lost-ne0 g c =
     let q = none_goes (g.F.Test.goes c.args.test.now by.round) n W xs in
     let some : q ≡ false = sym c.thin-lost.ensures.none ∙ ne_eqb _ 0 c.if-lost-ne0.true in
     let room : fits n W (length ys) ≡ true = ap (fits n W) c.thin-lost.auto.nodes ∙ c.requires.room in
-    let is : c.relabel.new.nodes ≡ relabelled by ys = c.relabel.ensures.passes ∙ cond-true (fits n W (length ys)) _ _ room in
-    let steps = is ∙ ap (relabelled by) c.thin-lost.ensures.steps ∙ sym (cond-false q _ _ some) in
-    let counted : c.thin-lost.result ≡ arc_count n W xs - arc_count n W c.relabel.new.nodes =
-    c.thin-lost.ensures.counted ∙ ap (λ m. arc_count n W xs - m) (relabelled-count by ys c.relabel.new.nodes is) in
-    record { steps = steps; counted = counted; words = labelled-done by xs _ c.requires.room _ _ (c.relabel.auto.nodes ∙ c.thin-lost.auto.nodes) counted steps }
+    let is : c.relabel_used.new.nodes ≡ relabelled_used by ys = c.relabel_used.ensures.passes ∙ cond-true (fits n W (length ys)) _ _ room in
+    let steps = is ∙ ap (relabelled_used by) c.thin-lost.ensures.steps ∙ sym (cond-false q _ _ some) in
+    let counted : c.thin-lost.result ≡ arc_count n W xs - arc_count n W c.relabel_used.new.nodes =
+    c.thin-lost.ensures.counted ∙ ap (λ m. arc_count n W xs - m) (same-count n W ys c.relabel_used.new.nodes (sym (ap (map arcs_of) is ∙ used-arcs by ys))) in
+    record { steps = steps; counted = counted; words = labelled-done by xs _ c.requires.room _ _ (c.relabel_used.auto.nodes ∙ c.thin-lost.auto.nodes) counted steps }
 
 pub returns-else-lost-ne0 : goal.returns-else-lost-ne0
 unfolding filter_labelled_steps thinned

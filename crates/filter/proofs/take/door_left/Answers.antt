@@ -5,9 +5,9 @@ use Rattle.filter.proofs.take.door_left.Goals as goal
 pub returns-then-takes_out : goal.returns-then-takes_out
 returns-then-takes_out g c =
     let at = c.args.at.now in
-    left_here (g.F.Test.goes at.test.now at.round.now) at.layer at.left at.next.now c.args.u.now (c.args.k + 1) (get_or c.args.u.now.arcs.to c.args.k 0) true c.index-at-t.result (omega arith) (omega arith) c.index-at-t.is c.if-takes_out.ensures
+    left_here (g.F.Test.goes at.test.now at.round.now) at.layer at.left at.next.now c.args.u.now (c.args.k + 1) (get_or c.args.u.now.arcs.to c.args.k 0) true c.index-at-t.result (omega arith) (omega arith) c.if-takes_out.ensures
 
 pub returns-else-takes_out : goal.returns-else-takes_out
 returns-else-takes_out g c =
     let at = c.args.at.now in
-    left_here (g.F.Test.goes at.test.now at.round.now) at.layer at.left at.next.now c.args.u.now (c.args.k + 1) (get_or c.args.u.now.arcs.to c.args.k 0) false c.index-at-t.result (omega arith) (omega arith) c.index-at-t.is c.if-takes_out.ensures
+    left_here (g.F.Test.goes at.test.now at.round.now) at.layer at.left at.next.now c.args.u.now (c.args.k + 1) (get_or c.args.u.now.arcs.to c.args.k 0) false c.index-at-t.result (omega arith) (omega arith) c.if-takes_out.ensures
