@@ -1,12 +1,14 @@
 -- Counting arcs in the flat list comes to counting them in the net.
-use Rattle.std.proofs.Common.{◌≡◌, ℕ, zero, suc, ◌+◌, ◌*◌, ◌<◌, ◌≤◌, List, [], ◌∷◌, ◌++◌, map, length, get_or, take, drop, sym, refl, ap, ◌∙◌, ap₂, suc-mul, zero-mul, arith}
-use Rattle.std.proofs.lemmas.List.{length-map, get_or-map}
+use Rattle.std.proofs.Common.{◌≡◌, ℕ, zero, suc, ◌+◌, ◌*◌, ◌≤◌, List, [], ◌∷◌, ◌++◌, map, length, get_or, take, drop, sym, refl, ap, ◌∙◌, ap₂, suc-mul, zero-mul, arith}
+use Rattle.std.specs.List.{range_with_len}
+use Rattle.std.proofs.lemmas.Simd.{map-map}
+use Rattle.layers.specs.declared.node.Arcs.{Arcs}
 use Rattle.layers.specs.declared.node.Node.{Node}
 use Rattle.layers.specs.Net.{table, Outs, Layer, Net, node, count_doors, count_layer, count_arcs}
 use Rattle.layers.specs.Records.{padded_targets, arcs_at}
 use Rattle.layers.specs.Targets.{targets}
 use Rattle.labels.proofs.Laying.{Arranged, Good, arcs_of, split}
-use Rattle.labels.proofs.RedirectNet.{table-list, targets-arranged, arranged-long}
+use Rattle.layers.proofs.Bridge.{map-table, table-ext}
 use Rattle.tidying.specs.Counted.{arcs_within}
 use Rattle.filter.specs.Steps.{arc_count}
 
@@ -38,19 +40,14 @@ unfolding count_layer
 count-append [] B = omega arith
 count-append (nd ∷ A) B = omega (arith, count-append A B)
 
-some_of : {X : Type 0} (xs : List X) → 0 < length xs → X
-some_of [] h = absurd (omega arith)
-some_of (x ∷ xs) h = x
-
 module _ {S V : Type 0} (W : ℕ) where
   count-row : (L : Layer) (us : List (Node S V)) → length L ≤ W → ((a : ℕ) → length (node L a) ≤ 16) → map arcs_of us ≡ table W (arcs_at L) → count_layer (map targets us) ≡ count_layer L
+  unfolding targets
   count-row L us h f e =
-      let long = arranged-long W L us e in
-      ap count_layer (table-list W (λ a. padded_targets (node L a)) (map targets us) (length-map us targets ∙ long)
-      (λ k d lt. let z = some_of us (omega arith) in get_or-map targets us k z d (omega arith) ∙ targets-arranged W L us k z e lt))
-      ∙ count-table W L h f
+      let ts : Arcs → List ℕ = λ x. map (λ k. get_or x.to k 0) (range_with_len 0 16) in
+      ap count_layer (sym (map-map ts arcs_of us) ∙ ap (map ts) e ∙ map-table ts W (arcs_at L) ∙ table-ext W _ _ (λ a lt. refl)) ∙ count-table W L h f
 
-  pub count-arranged : (Ls : Net) (xs : List (Node S V)) → Good W Ls → Arranged W Ls xs → arcs_within (take (length Ls * W) xs) ≡ count_arcs Ls
+  count-arranged : (Ls : Net) (xs : List (Node S V)) → Good W Ls → Arranged W Ls xs → arcs_within (take (length Ls * W) xs) ≡ count_arcs Ls
   unfolding arcs_within count_arcs
   count-arranged [] xs g e = unfold count_layer in ap (λ (k : ℕ). count_layer (map targets (take k xs))) (zero-mul W)
   count-arranged (L ∷ Ls) xs g e =

@@ -1,5 +1,5 @@
 -- Taking out arcs on the flat list comes to taking them out of the net.
-use Rattle.std.proofs.Common.{◌≡◌, ℕ, zero, suc, ◌+◌, ◌*◌, ◌<◌, ◌≤◌, Bool, cond, List, [], ◌∷◌, ◌++◌, map, length, get_or, take, drop, Some, None, Option, sym, refl, ap, ◌∙◌, subst, ap₂, suc-mul, arith, take-append-drop}
+use Rattle.std.proofs.Common.{◌≡◌, ℕ, zero, suc, ◌+◌, ◌-◌, ◌*◌, ◌<◌, ◌≤◌, Bool, cond, List, [], ◌∷◌, ◌++◌, map, length, get_or, take, drop, Some, None, Option, sym, refl, ap, ◌∙◌, subst, ap₂, suc-mul, arith, take-append-drop}
 use Rattle.std.proofs.lemmas.Bool.{lt-ltb}
 use Rattle.std.proofs.lemmas.List.{get_or-drop, get_or-map, get_or_past, length-map, map-append, take_at, drop_at, drop-drop, length-append, length-drop, length-take, get_or-take, length-take-le}
 use Rattle.layers.specs.declared.node.Arcs.{Arcs}
@@ -17,11 +17,16 @@ use Rattle.labels.proofs.Laying.{Arranged, arcs_of}
 use Rattle.labels.proofs.RedirectNet.{redirect-arranged, arranged-long, arcs-arranged, redirected-arcs, targets-is}
 use Rattle.tidying.specs.InUse.{on_nodes}
 use Rattle.tidying.proofs.InUse.{nodes-first, mapped-long, mapped-nodes}
+use Rattle.tidying.specs.Tidied.{tidied, first_mark}
+use Rattle.tidying.proofs.Steps.{tail-is}
 use Rattle.tidying.proofs.TidyNet.{Standing}
 use Rattle.filter.specs.Kept.{kept_to, kept_node, kept_from}
 
+abbrev pub Goes : (S V : Type 0) → Type 0
+Goes S V = ℕ → ℕ → ℕ → Option (Down S V) → Option Up → Bool
+
 module _ {S V : Type 0} (n : ℕ) where
-  arcs-many : (N : List (Node S V)) → length (arcs_in n N) ≡ length N
+  pub arcs-many : (N : List (Node S V)) → length (arcs_in n N) ≡ length N
   arcs-many N = length-map N (λ (x : Node S V). take n x.arcs.to)
 
 -- the label of a node as it stands, read off the layer and off the list
@@ -85,10 +90,8 @@ module _ {S V : Type 0} (n : ℕ) (goes : ℕ → ℕ → ℕ → Option (Down S
   front-row X Y L e = let l = arranged-long W L X e in (take_at X Y W l, drop_at X Y W l)
 
   -- an arc to the end finds it standing
-  abbrev pub EndedFrom : ℕ → List (Node S V) → Type 0
-  EndedFrom zero xs = Unit {0}
-  EndedFrom (suc zero) xs = (a j b : ℕ) → target (node (arcs_in n (nodes_in (take W xs))) a) j ≡ suc b → length (nodes_in (take 1 (drop W xs))) ≡ 1
-  EndedFrom (suc (suc k)) xs = EndedFrom (suc k) (drop W xs)
+  abbrev Ended : ℕ → List (Node S V) → Type 0
+  Ended k xs = (a j b : ℕ) → target (node (get_or (arcs_of_layers n (layers W k xs)) (k - 1) []) a) j ≡ suc b → length (get_or (layers W k xs) k []) ≡ 1
 
   row-short : (us : List (Node S V)) (L : Layer) → map arcs_of us ≡ table W (arcs_at L) → length (arcs_in n (nodes_in us)) ≤ W
   row-short us L e = omega (arith, arcs-many n (nodes_in us), standing-short us, arranged-long W L us e)
@@ -102,13 +105,13 @@ module _ {S V : Type 0} (n : ℕ) (goes : ℕ → ℕ → ℕ → Option (Down S
   Filtered i k xs = kept_arcs goes i (arcs_of_layers n (layers W k xs)) (labels_in (layers W k xs))
 
   -- and as many places are in use
-  row-stands : (i h : ℕ) (us vs ys : List (Node S V)) (f : ℕ → ℕ → ℕ → ℕ) → ys ≡ on_nodes (map (kept_node goes i h vs)) us → length (redirect f (arcs_in n (nodes_in us))) ≤ length (nodes_in ys)
+  row-stands : (i h : ℕ) (us vs ys : List (Node S V)) (f : ℕ → ℕ → ℕ → ℕ) → ys ≡ on_nodes (map (kept_node goes i h vs)) us → length (redirect f (arcs_in n (nodes_in us))) ≡ length (nodes_in ys)
   unfolding kept_node
   row-stands i h us vs ys f e =
       let kept = ap (λ (zs : List (Node S V)). length (nodes_in zs)) e ∙ mapped-nodes (kept_node goes i h vs) (λ x. unfold redirected in refl) us in
       omega (arith, kept, redirect-length f (arcs_in n (nodes_in us)), arcs-many n (nodes_in us))
 
-  pub kept-arranged : (i k : ℕ) (xs : List (Node S V)) → Arranged W (arcs_of_layers n (layers W k xs)) xs → RangedAll (arcs_of_layers n (layers W k xs)) → EndedFrom k xs
+  pub kept-arranged : (i k : ℕ) (xs : List (Node S V)) → Arranged W (arcs_of_layers n (layers W k xs)) xs → RangedAll (arcs_of_layers n (layers W k xs)) → Ended k xs
       → Arranged W (Filtered i k xs) (kept_from goes W i k xs) × Standing W (Filtered i k xs) (kept_from goes W i k xs)
   unfolding kept_arcs kept_from
   kept-arranged i zero xs e g s = (e, tt)
@@ -126,7 +129,8 @@ module _ {S V : Type 0} (n : ℕ) (goes : ℕ → ℕ → ℕ → Option (Down S
       let row = kept_row i (suc (suc k)) W us vs (row-short us L e.0) e.0 (λ a j b t. let y = g.0 a j b t in omega (arith, row-wide k (drop W xs))) in
       let rest = kept_from goes W (suc i) (suc k) (drop W xs) in
       let f = front-row (on_nodes (map (kept_node goes i (suc (suc k)) vs)) us) rest _ row in
-      let later = kept-arranged (suc i) (suc k) (drop W xs) e.1 g.1 s in
+      let last : suc (suc k) - 1 ≡ suc (suc k - 1) = omega arith in
+      let later = kept-arranged (suc i) (suc k) (drop W xs) e.1 g.1 (λ a j b t. s a j b (ap (λ (l : ℕ). target (node (get_or (arcs_of_layers n (layers W (suc (suc k)) xs)) l []) a) j) last ∙ t)) in
       let deep = length (arcs_of_layers n (layers W (suc k) (drop W xs))) in
       let h : suc (suc k) ≡ suc deep = ap suc (sym (drawn-deep n W (suc k) (drop W xs))) in (
         (ap (map arcs_of) f.0 ∙ row ∙ ap (λ (h : ℕ). table W (arcs_at (redirect (Left i h us (take W vs)) L))) h, subst (Arranged W (Filtered (suc i) (suc k) (drop W xs))) (sym f.1) later.0),
@@ -148,3 +152,8 @@ module _ {S V : Type 0} (n : ℕ) (goes : ℕ → ℕ → ℕ → Option (Down S
         omega (arith, e, length-append row rest, long, ih.0, length-drop W xs),
         ap (λ (m : ℕ). drop m (row ++ rest)) e ∙ sym (drop-drop (k * W) W (row ++ rest)) ∙ ap (drop (k * W)) (drop_at row rest W long) ∙ ih.1 ∙ drop-drop (k * W) W xs ∙ ap (λ (m : ℕ). drop m xs) (sym e),
       )
+
+-- and is not tidied either
+pub kept-later : {S V : Type 0} (goes : ℕ → ℕ → ℕ → Option (Down S V) → Option Up → Bool) (n W : ℕ) (z : Node S V) (xs : List (Node S V)) → n * W ≤ length xs
+    → drop (n * W) (tidied W z n first_mark (kept_from goes W 0 n xs)) ≡ drop (n * W) xs
+kept-later goes n W z xs h = let t = kept-tail n goes W 0 n xs h in tail-is W z n first_mark (kept_from goes W 0 n xs) (omega (arith, t.0)) ∙ t.1

@@ -4,5 +4,6 @@ pub mod FilterWords
 mod Kept
 mod KeptNet
 mod Layering
+mod Places
 mod Relabelled
 mod Timely

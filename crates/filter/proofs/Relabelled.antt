@@ -1,80 +1,27 @@
--- Labelling anew leaves the arcs of any list as they are.
-use Rattle.std.proofs.Common.{◌≡◌, ℕ, zero, suc, ◌-◌, ◌*◌, ◌≤◌, Bool, Option, List, [], ◌∷◌, ◌++◌, map, length, get_or, take, drop, refl, sym, ap, ◌∙◌, ap₂, arith, take-append-drop}
+-- Where the arcs stay, as many stay.
+use Rattle.std.proofs.Common.{◌≡◌, ℕ, ◌-◌, ◌*◌, List, map, get_or, take, refl, sym, ap, ◌∙◌}
 use Rattle.std.specs.List.{range_with_len}
-use Rattle.std.proofs.lemmas.List.{drop-map, take-map, map-append}
-use Rattle.std.proofs.lemmas.List.FromFn.{fill_by_all}
 use Rattle.std.proofs.lemmas.Simd.{map-map}
 use Rattle.layers.specs.declared.node.Arcs.{Arcs}
-use Rattle.layers.specs.declared.node.Down.{Down}
 use Rattle.layers.specs.declared.node.Node.{Node}
-use Rattle.layers.specs.declared.node.Up.{Up}
 use Rattle.layers.specs.Net.{count_layer}
-use Rattle.layers.specs.Settings.{Setting}
 use Rattle.layers.specs.Targets.{targets}
-use Rattle.labels.proofs.Laying.{arcs_of}
-use Rattle.labels.specs.Passes.{blank_node, labelled, next_layer, labelled_after, first_layer, pass_down, risen, risen_from, pass_up, relabelled}
+use Rattle.layers.specs.Settings.{Setting}
+use Rattle.labels.specs.Passes.{begun, pass_up, relabelled_used}
+use Rattle.labels.proofs.Climbs.{arcs_of}
+use Rattle.labels.proofs.Keeps.{fronts, rises_keep, renewals-keep, begun-keeps}
 use Rattle.tidying.specs.Counted.{arcs_within}
-use Rattle.tidying.specs.Tidied.{first_mark}
-use Rattle.tidying.proofs.Steps.{tail-is}
-use Rattle.filter.specs.Kept.{kept_from}
-use Rattle.filter.specs.Steps.{redone}
-use Rattle.filter.proofs.KeptNet.{kept-tail}
+use Rattle.filter.specs.Steps.{arc_count}
 
-module _ {S V : Type 0} where
-  abbrev Same : List (Node S V) → List (Node S V) → Type 0
-  Same xs ys = map arcs_of xs ≡ map arcs_of ys
+pub same-count : {S V : Type 0} (n W : ℕ) (xs ys : List (Node S V)) → map arcs_of xs ≡ map arcs_of ys → arc_count n W xs ≡ arc_count n W ys
+unfolding arc_count arcs_within targets
+same-count n W xs ys e =
+    let ts : Arcs → List ℕ = λ a. map (λ k. get_or a.to k 0) (range_with_len 0 16) in
+    ap count_layer (sym (map-map ts arcs_of (take (n * W) xs)) ∙ ap (map ts) (fronts arcs_of (n * W) xs ys e) ∙ map-map ts arcs_of (take (n * W) ys))
 
-  same-parts : (k : ℕ) (xs A B : List (Node S V)) → Same A (take k xs) → Same B (drop k xs) → Same (A ++ B) xs
-  same-parts k xs A B p q = map-append arcs_of A B ∙ ap₂ (λ (ps qs : List Arcs). ps ++ qs) p q ∙ sym (map-append arcs_of (take k xs) (drop k xs)) ∙ ap (map arcs_of) (take-append-drop k xs)
-
-  risen-same : (w k : ℕ) (xs : List (Node S V)) → Same (risen_from w k xs) xs
-  unfolding risen_from risen
-  risen-same w zero xs = let ys = drop w xs in same-parts w xs _ _ (map-map arcs_of (risen _) (take w xs)) (same-parts 1 ys _ _ (map-map arcs_of _ (take 1 ys)) refl)
-  risen-same w (suc k) xs = same-parts w xs _ _ (map-map arcs_of (risen _) (take w xs)) (risen-same w k (drop w xs))
-
-  -- the counts too
-  pub count-same : (xs ys : List (Node S V)) → Same xs ys → arcs_within xs ≡ arcs_within ys
-  unfolding arcs_within targets
-  count-same xs ys e =
-      let ts : Arcs → List ℕ = λ a. map (λ k. get_or a.to k 0) (range_with_len 0 16) in
-      ap count_layer (sym (map-map ts arcs_of xs) ∙ ap (map ts) e ∙ map-map ts arcs_of ys)
-
-module _ {S V : Type 0} (by : Setting S V) where
-  next-same : (us vs : List (Node S V)) → Same (next_layer by us vs) vs
-  unfolding next_layer labelled
-  next-same us vs =
-      let z = blank_node by.rule by.tally in
-      map-map arcs_of (labelled by us vs) (range_with_len 0 (length vs)) ∙ sym (map-map arcs_of (λ k. get_or vs k z) (range_with_len 0 (length vs)))
-      ∙ ap (map arcs_of) (sym (fill_by_all (λ k. get_or vs k z) vs (length vs) z refl (λ k lt. refl)))
-
-  after-same : (k : ℕ) (xs : List (Node S V)) → Same (labelled_after by k xs) xs
-  unfolding labelled_after
-  after-same zero xs = let ys = drop by.width xs in same-parts by.width xs _ _ refl (same-parts 1 ys _ _ (next-same (take by.width xs) (take 1 ys)) refl)
-  after-same (suc k) xs =
-      let ys = drop by.width xs in
-      same-parts by.width xs _ _ refl (after-same k _ ∙ same-parts by.width ys _ _ (next-same (take by.width xs) (take by.width ys)) refl)
-
-  first-same : (us : List (Node S V)) → Same (first_layer by.rule by.tally us) us
-  first-same [] = refl
-  first-same (u ∷ us) = ap (λ (ps : List Arcs). u.arcs ∷ ps) (map-map arcs_of _ us)
-
-  relabelled-same : (xs : List (Node S V)) → Same (relabelled by xs) xs
-  unfolding relabelled pass_down pass_up
-  relabelled-same xs = risen-same by.width (by.round.n - 1) (pass_down by xs) ∙ after-same (by.round.n - 1) _ ∙ same-parts by.width xs _ _ (first-same (take by.width xs)) refl
-
-  -- of the first m records, and of those after them, too
-  pub relabelled-count : (m : ℕ) (xs : List (Node S V)) → arcs_within (take m (relabelled by xs)) ≡ arcs_within (take m xs)
-  relabelled-count m xs = count-same _ _ (sym (take-map arcs_of m (relabelled by xs)) ∙ ap (take m) (relabelled-same xs) ∙ take-map arcs_of m xs)
-
-  pub relabelled-rest : (m : ℕ) (xs : List (Node S V)) → arcs_within (drop m (relabelled by xs)) ≡ arcs_within (drop m xs)
-  relabelled-rest m xs = count-same _ _ (sym (drop-map arcs_of m (relabelled by xs)) ∙ ap (drop m) (relabelled-same xs) ∙ drop-map arcs_of m xs)
-
-  -- after the layers a filter alters nothing but the end's label
-  pub filter-tail : (goes : ℕ → ℕ → ℕ → Option (Down S V) → Option Up → Bool) (xs : List (Node S V)) → by.round.n * by.width ≤ length xs
-      → arcs_within (drop (by.round.n * by.width) (redone by (kept_from goes by.width 0 by.round.n xs))) ≡ arcs_within (drop (by.round.n * by.width) xs)
-  unfolding redone
-  filter-tail goes xs h =
-      let n = by.round.n in
-      let W = by.width in
-      let kept = kept-tail n goes W 0 n xs h in
-      relabelled-rest (n * W) _ ∙ ap arcs_within (tail-is W (blank_node by.rule by.tally) n first_mark (kept_from goes W 0 n xs) (omega (arith, kept.0)) ∙ kept.1)
+-- labelling anew lets them stay
+pub used-arcs : {S V : Type 0} (by : Setting S V) (xs : List (Node S V)) → map arcs_of (relabelled_used by xs) ≡ map arcs_of xs
+unfolding relabelled_used pass_up
+used-arcs by xs =
+    let more = by.round.n - 1 in
+    rises_keep arcs_of (λ x u. refl) by.width more _ ∙ renewals-keep by arcs_of (λ x l. refl) more (begun by.rule by.tally xs) ∙ begun-keeps by arcs_of (λ x l. refl) xs

@@ -19,8 +19,3 @@ module _ {S V : Type 0} where
   pub timely-from : (xs : List (Node S V)) → ((k : ℕ) → get_or (map (λ (x : Node S V). x.label.down.finish) xs) k 0 ≤ latest_finish 15) → timely xs ≡ true
   timely-from [] h = refl
   timely-from (x ∷ xs) h = and_from _ _ (le-leb x.label.down.finish (latest_finish 15) (h 0)) (timely-from xs (λ k. h (suc k)))
-
--- a fact of all records
-pub all_of : {X : Type 0} (P : X → Type 0) → ((x : X) → P x) → (xs : List X) → All P xs
-all_of P f [] = tt
-all_of P f (x ∷ xs) = (f x, all_of P f xs)

@@ -9,9 +9,10 @@ use Rattle.layers.specs.declared.node.Down.{Down}
 use Rattle.layers.specs.declared.node.Up.{Up}
 use Rattle.layers.specs.Settings.{Setting}
 use Rattle.layers.specs.Labels.{leg, is_barred, is_above_ceiling}
-use Rattle.layers.specs.Calls.{arcs, labels, keeps_all_arcs, records_with, after_sweep, sweep_answer, after_cut, cut_answer}
+use Rattle.layers.specs.Tidy.{tidied_arcs}
+use Rattle.layers.specs.Calls.{arcs, labels, keeps_all_arcs, kept_arcs, records_with, arcs_lost, after_sweep, sweep_answer, after_cut, cut_answer}
 use Rattle.layers.specs.Shape.{IsShaped, IsTimely}
-use Rattle.labels.specs.Passes.{fits, blank_node, relabelled}
+use Rattle.labels.specs.Passes.{fits, blank_node, relabelled_used, relabelled}
 use Rattle.tidying.specs.Counted.{arcs_within}
 use Rattle.tidying.specs.Tidied.{tidied, first_mark}
 use Rattle.filter.specs.Kept.{kept_from}
@@ -39,20 +40,22 @@ pub record Done {S V A : Type 0} (n W : ℕ) (defined ys : List (Node S V)) (ans
   pub timely : IsTimely n W ys
 
 module _ {S V : Type 0} (by : Setting S V) where
-  -- tidied, and labelled anew
-  unfoldable pub redone : List (Node S V) → List (Node S V)
-  unfolding relabelled tidied
-  redone ys = relabelled by (tidied by.width (blank_node by.rule by.tally) by.round.n first_mark ys)
+  -- the arcs that go taken out, and the list tidied; as it is if none goes
+  unfoldable pub thinned : (ℕ → ℕ → ℕ → Option (Down S V) → Option Up → Bool) → List (Node S V) → List (Node S V)
+  unfolding none_goes kept_from tidied
+  thinned goes xs =
+      if none_goes goes by.round.n by.width xs then xs
+      else tidied by.width (blank_node by.rule by.tally) by.round.n first_mark (kept_from goes by.width 0 by.round.n xs)
 
-  -- a filter: which arcs go. If none goes, the list is labelled anew as it is
+  -- a filter: which arcs go
   unfoldable pub filter_steps : (ℕ → ℕ → ℕ → Option (Down S V) → Option Up → Bool) → List (Node S V) → List (Node S V)
-  unfolding none_goes redone kept_from
-  filter_steps goes xs = if none_goes goes by.round.n by.width xs then relabelled by xs else redone (kept_from goes by.width 0 by.round.n xs)
+  unfolding thinned relabelled
+  filter_steps goes xs = relabelled by (thinned goes xs)
 
   -- of a list whose labels stand: if none goes, it stays as it is
   unfoldable pub filter_labelled_steps : (ℕ → ℕ → ℕ → Option (Down S V) → Option Up → Bool) → List (Node S V) → List (Node S V)
-  unfolding none_goes redone kept_from
-  filter_labelled_steps goes xs = if none_goes goes by.round.n by.width xs then xs else redone (kept_from goes by.width 0 by.round.n xs)
+  unfolding none_goes thinned relabelled_used
+  filter_labelled_steps goes xs = if none_goes goes by.round.n by.width xs then xs else relabelled_used by (thinned goes xs)
 
   unfoldable pub sweep_steps : List (Node S V) → List (Node S V)
   unfolding filter_steps leg finish
@@ -66,15 +69,23 @@ module _ {S V : Type 0} (by : Setting S V) where
   unfolding filter_steps leg finish
   cut_steps c = filter_steps (is_above_ceiling by.round by.tally c)
 
+  -- the labels are those that this setting gives
+  abbrev pub IsLabelled : List (Node S V) → Type 0
+  IsLabelled xs = records_with by xs (arcs by.round.n by.width xs) ≡ xs
+
+  -- what a filter leaves of the records of a diagram, by its definition
+  abbrev pub after_filter : (ℕ → ℕ → ℕ → Option (Down S V) → Option Up → Bool) → List (Node S V) → List (Node S V)
+  after_filter goes xs = records_with by xs (tidied_arcs (kept_arcs goes 0 (arcs by.round.n by.width xs) (labels by.round.n by.width xs)))
+
+  abbrev pub FilterDone : (ℕ → ℕ → ℕ → Option (Down S V) → Option Up → Bool) → List (Node S V) → List (Node S V) → ℕ → Type 0
+  FilterDone goes xs ys m =
+      IsShaped by.round.n by.width xs → Done by.round.n by.width (after_filter goes xs) ys (arcs_lost by.round.n by.width xs (after_filter goes xs)) m
+
   -- on the records of a diagram: what the definitions of the calls say
   abbrev pub SweepDone : List (Node S V) → List (Node S V) → ℕ → Type 0
   SweepDone xs ys m =
       fits by.round.n by.width (length xs) ≡ true → IsShaped by.round.n by.width xs
       → Done by.round.n by.width (after_sweep by xs) ys (sweep_answer by xs) m
-
-  -- the labels are those that this setting gives
-  abbrev pub IsLabelled : List (Node S V) → Type 0
-  IsLabelled xs = records_with by xs (arcs by.round.n by.width xs) ≡ xs
 
   abbrev pub SweepLabelledDone : List (Node S V) → List (Node S V) → ℕ → Type 0
   SweepLabelledDone xs ys m =

@@ -1,9 +1,8 @@
 //! Whether a sweep would take out no arc.
-ghost use Rattle.std.specs.Prelude.{◌≡◌, ◌+◌, ◌*◌, ◌<◌, ◌≤◌, ◌==◌, false, map, length, take, if◌then◌else◌};
-ghost use Rattle.std.specs.List.{AllByRecursion};
+ghost use Rattle.std.specs.Prelude.{◌≡◌, ◌+◌, ◌*◌, ◌<◌, ◌≤◌, false, length, take, if◌then◌else◌};
+ghost use Rattle.std.specs.List.{AllByRecursion, list_all};
 ghost use Rattle.labels.specs.Passes.{fits};
-ghost use Rattle.tidying.specs.Counted.{arcs_within};
-ghost use Rattle.filter.specs.Kept.{HasLabel, kept_node, kept_from};
+ghost use Rattle.filter.specs.Kept.{HasLabel, stays, all_stay};
 ghost use Rattle.filter.specs.Steps.{quiet_steps, QuietDone};
 
 use crate::sweep::SixTests;
@@ -16,7 +15,7 @@ use rules::rule::Rule;
 use std::marker::PhantomData;
 use tidying::count::count_nodes;
 
-/// Whether no arc of these nodes goes: as many would be left.
+/// Whether no arc of these nodes goes.
 fn nodes_stay<F: Test>(
     at: &Step<'_, F, F::State, F::Value>,
     us: &[Node<F::State, F::Value>],
@@ -25,8 +24,7 @@ fn nodes_stay<F: Test>(
     requires left_bound { at.now.left ≤ 16 }
     requires fits { AllByRecursion (HasLabel (F.fits at.now.test.now)) us.now }
     ensures { let goes = F.goes at.now.test.now at.now.round.now in
-        result ≡ (arcs_within (map (kept_node goes at.now.layer at.now.left at.now.next.now) us.now)
-        == arcs_within us.now) }
+        result ≡ list_all (stays goes at.now.layer at.now.left at.now.next.now) us.now }
 {
     for a in 0..us.len() {
         let mut node = us[a];
@@ -50,8 +48,7 @@ fn stay_from<F: Test>(
     requires fits { AllByRecursion (HasLabel (F.fits by.now.test.now))
         (take (left * by.now.width) nodes.now) }
     ensures { let goes = F.goes by.now.test.now by.now.round.now in
-        result ≡ (arcs_within (kept_from goes by.now.width layer left nodes.now)
-        == arcs_within nodes.now) }
+        result ≡ all_stay goes by.now.width layer left nodes.now }
 {
     if left == 0 {
         return true;

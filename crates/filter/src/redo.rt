@@ -1,40 +1,24 @@
 //! What every filter does: arcs are taken out, then the list is tidied and labelled anew.
-ghost use Rattle.std.specs.Prelude.{◌≡◌, ◌+◌, ◌-◌, ◌*◌, ◌≤◌, ◌==◌, true, length, take};
+ghost use Rattle.std.specs.Prelude.{◌≡◌, ◌-◌, ◌*◌, ◌==◌, true, length, take};
 ghost use Rattle.std.specs.List.{AllByRecursion};
 ghost use Rattle.layers.specs.Settings.{lent_setting};
 ghost use Rattle.labels.specs.Passes.{fits};
-ghost use Rattle.tidying.specs.Counted.{arcs_within};
 ghost use Rattle.filter.specs.Kept.{HasLabel};
-ghost use Rattle.filter.specs.Steps.{arc_count, none_goes, redone, filter_steps, filter_labelled_steps};
+ghost use Rattle.filter.specs.Steps.{arc_count, none_goes, thinned, filter_steps, filter_labelled_steps, IsLabelled, FilterDone};
 
 use crate::take::{Filter, take_from};
 use crate::test::Test;
 use labels::blank::blank_node;
-use labels::relabel::relabel;
+use labels::relabel::{relabel, relabel_used};
 use layers::node::Node;
 use layers::setting::Setting;
 use rules::rule::Rule;
 use tallies::tally::Tally;
 use tidying::tidy::tidy;
 
-/// Tidies, labels anew, and answers how many arcs went.
-fn redo<R: Rule, T: Tally>(by: &Setting<'_, R, T>, nodes: &mut [Node<R::State, T::Value>]) -> usize
-    requires { fits by.now.round.now.n by.now.width (length nodes.old) ≡ true }
-    ensures records { let by = lent_setting by.now (R.sense by.now.rule.now)
-        (T.sense by.now.tally.now) in
-        nodes.new ≡ redone by nodes.old }
-    ensures lost { result + arcs_within nodes.new ≡ arcs_within nodes.old }
-    ensures few { result ≤ 32768 }
-{
-    let blank = blank_node(by.rule, by.tally);
-    let lost = tidy(by.round, nodes, by.width, &blank.label);
-    relabel(by, nodes);
-    lost
-}
-
-/// Takes out each arc that goes by the test, and answers how many arcs went. If any goes, tidies
-/// and labels anew; if none, the list stays as it is.
-pub(crate) fn filter_labelled<R: Rule, T: Tally, F: Test<State = R::State, Value = T::Value>>(
+/// Takes out each arc that goes by the test, and answers how many arcs went. If any goes, tidies;
+/// if none, the list stays as it is.
+fn thin<R: Rule, T: Tally, F: Test<State = R::State, Value = T::Value>>(
     by: &Setting<'_, R, T>,
     test: &F,
     nodes: &mut [Node<R::State, T::Value>],
@@ -44,7 +28,7 @@ pub(crate) fn filter_labelled<R: Rule, T: Tally, F: Test<State = R::State, Value
         (take (by.now.round.now.n * by.now.width) nodes.old) }
     ensures steps { let by = lent_setting by.now (R.sense by.now.rule.now)
         (T.sense by.now.tally.now) in
-        nodes.new ≡ filter_labelled_steps by (F.goes test.now by.round) nodes.old }
+        nodes.new ≡ thinned by (F.goes test.now by.round) nodes.old }
     ensures none { let r = by.now.round.now in
         (result == 0) ≡ none_goes (F.goes test.now r) r.n by.now.width nodes.old }
     ensures counted { result ≡ arc_count by.now.round.now.n by.now.width nodes.old -
@@ -59,10 +43,11 @@ pub(crate) fn filter_labelled<R: Rule, T: Tally, F: Test<State = R::State, Value
     if gone == 0 {
         return 0;
     }
-    gone + redo(by, nodes)
+    let blank = blank_node(by.rule, by.tally);
+    gone + tidy(by.round, nodes, by.width, &blank.label)
 }
 
-/// The same, but labels anew in any case.
+/// Takes out each arc that goes by the test, tidies and labels anew, and answers how many arcs went.
 pub(crate) fn filter<R: Rule, T: Tally, F: Test<State = R::State, Value = T::Value>>(
     by: &Setting<'_, R, T>,
     test: &F,
@@ -76,10 +61,37 @@ pub(crate) fn filter<R: Rule, T: Tally, F: Test<State = R::State, Value = T::Val
         nodes.new ≡ filter_steps by (F.goes test.now by.round) nodes.old }
     ensures counted { result ≡ arc_count by.now.round.now.n by.now.width nodes.old -
         arc_count by.now.round.now.n by.now.width nodes.new }
+    ensures words { let by = lent_setting by.now (R.sense by.now.rule.now)
+        (T.sense by.now.tally.now) in
+        FilterDone by (F.goes test.now by.round) nodes.old nodes.new result }
 {
-    let gone = filter_labelled(by, test, nodes);
-    if gone == 0 {
-        relabel(by, nodes);
-    }
+    let gone = thin(by, test, nodes);
+    relabel(by, nodes);
     gone
+}
+
+/// The same of records whose labels are those that this setting gives, so the places that are not in use are blank: if no arc
+/// goes, the list stays as it is.
+pub(crate) fn filter_labelled<R: Rule, T: Tally, F: Test<State = R::State, Value = T::Value>>(
+    by: &Setting<'_, R, T>,
+    test: &F,
+    nodes: &mut [Node<R::State, T::Value>],
+) -> usize
+    requires room { fits by.now.round.now.n by.now.width (length nodes.old) ≡ true }
+    requires fits { AllByRecursion (HasLabel (F.fits test.now))
+        (take (by.now.round.now.n * by.now.width) nodes.old) }
+    ensures steps { let by = lent_setting by.now (R.sense by.now.rule.now)
+        (T.sense by.now.tally.now) in
+        nodes.new ≡ filter_labelled_steps by (F.goes test.now by.round) nodes.old }
+    ensures counted { result ≡ arc_count by.now.round.now.n by.now.width nodes.old -
+        arc_count by.now.round.now.n by.now.width nodes.new }
+    ensures words { let by = lent_setting by.now (R.sense by.now.rule.now)
+        (T.sense by.now.tally.now) in
+        IsLabelled by nodes.old → FilterDone by (F.goes test.now by.round) nodes.old nodes.new result }
+{
+    let lost = thin(by, test, nodes);
+    if lost != 0 {
+        relabel_used(by, nodes);
+    }
+    lost
 }

@@ -8,6 +8,7 @@ ghost use Rattle.filter.specs.Kept.{HasLabel, kept_to, kept_node, kept_from};
 
 use crate::test::{Arc, Test};
 use labels::leg::legs;
+use labels::outs::outs_of;
 use layers::node::Node;
 use round::table::Round;
 use tidying::count::{count_nodes, count_of};
@@ -33,12 +34,12 @@ pub(crate) struct Step<'a, F, S, V> {
 
 /// What is left of u's arc by the door k + 1, where `legs` are those of u; one that leads past the
 /// list goes.
+#[tactic(auto, using(crate::proofs::Doors::left_none, crate::proofs::Doors::left_past))]
 fn door_left<F: Test>(
     at: &Step<'_, F, F::State, F::Value>,
     u: &Node<F::State, F::Value>,
     legs: &[u16; 16],
     k: usize,
-    to: u8,
 ) -> u8
     requires layer_bound { at.now.layer ≤ 16 }
     requires left_bound { at.now.left ≤ 16 }
@@ -46,8 +47,10 @@ fn door_left<F: Test>(
     requires is_leg { slice_index legs.now k ≡ leg at.now.round.now u.now.label.down.lasts (k + 1) }
     requires fits { F.fits at.now.test.now u.now.label.down }
     ensures { let goes = F.goes at.now.test.now at.now.round.now in
-        result ≡ at_door (kept_to goes at.now.layer at.now.left at.now.next.now u.now) (k + 1) to }
+        result ≡ at_door (kept_to goes at.now.layer at.now.left at.now.next.now u.now) (k + 1)
+        (slice_index u.now.arcs.to k) }
 {
+    let to = u.arcs.to[k];
     let t = to as usize;
     if t == 0 || t > at.next.len() {
         return 0;
@@ -75,14 +78,16 @@ fn targets_left<F: Test>(
     requires layer_bound { at.now.layer ≤ 16 }
     requires left_bound { at.now.left ≤ 16 }
     requires fits { F.fits at.now.test.now u.now.label.down }
-    ensures left { let goes = F.goes at.now.test.now at.now.round.now in
+    ensures { let goes = F.goes at.now.test.now at.now.round.now in
         with_targets u.now result ≡ kept_node goes at.now.layer at.now.left at.now.next.now u.now }
-    ensures sixteen { length u.now.arcs.to ≡ 16 }
 {
     let legs = legs(at.round, u.label.down.lasts);
-    let mut to = u.arcs.to;
-    for (k, t) in to.iter_mut().enumerate() {
-        *t = door_left(at, u, &legs, k, *t);
+    let outs = outs_of(&u.arcs.to);
+    let doors = &outs.doors[..outs.many];
+    let mut to = [0; 16];
+    for k in doors {
+        let k = usize::from(*k);
+        to[k] = door_left(at, u, &legs, k);
     }
     to
 }

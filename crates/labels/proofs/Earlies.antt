@@ -13,7 +13,7 @@ use Rattle.layers.specs.declared.node.Node.{Node}
 use Rattle.layers.specs.declared.node.Down.{Down}
 use Rattle.layers.specs.Labels.{leg, arrival_over, merge, blank_label}
 use Rattle.labels.specs.Passes.{arrivals, cleared, with_down, Early, blank_node, gathered, labelled, next_layer, next_renewed, renewed_after, first_layer}
-use Rattle.labels.proofs.Folds.{folded_keeps}
+use Rattle.labels.proofs.Folds.{all_mono, folded_keeps}
 use Rattle.labels.proofs.Scattered.{all-arrivals}
 use Rattle.labels.proofs.Legs.{leg-most}
 use Rattle.layers.specs.Settings.{Setting}
@@ -59,13 +59,12 @@ module _ {S V : Type 0} (by : Setting S V) where
       rest [] = tt
       rest (u ∷ us) = (omega arith, rest us)
 
-  pub next-long : (us vs : List (Node S V)) → length (next_layer by us vs) ≡ length vs
-  unfolding next_layer
-  next-long us vs = length-map-range_with_len (labelled by us vs) 0 (length vs)
-
 pub after_more : {S V : Type 0} (by : Setting S V) (k : ℕ) (xs : List (Node S V)) → k ≢ 0
     → renewed_after by k xs
     ≡ take by.width xs ++ renewed_after by (k - 1) (next_renewed by (take by.width xs) (take by.width (drop by.width xs)) ++ drop by.width (drop by.width xs))
 unfolding renewed_after
 after_more by zero xs ne = absurd (ne refl)
 after_more by (suc k) xs ne = let e : suc k - 1 ≡ k = omega arith in rw e
+
+pub early-last : {S V : Type 0} (e : ℕ) (us : List (Node S V)) → e ≤ 15 → All (Early (latest_finish e)) us → All (Early (latest_finish 15)) us
+early-last e us le h = all_mono (Early (latest_finish e)) (Early (latest_finish 15)) (λ u h. omega arith) us h

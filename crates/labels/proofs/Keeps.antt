@@ -1,9 +1,8 @@
 -- What the passes keep: the arcs, and each pass the labels of the other.
-use Rattle.std.proofs.Common.{◌≡◌, ℕ, zero, suc, ◌+◌, ◌-◌, ◌*◌, eqb, List, [], ◌∷◌, ◌++◌, map, length, get_or, take, drop, fold, sym, refl, ap, ◌∙◌, ap₂, arith}
+use Rattle.std.proofs.Common.{◌≡◌, ℕ, zero, suc, ◌+◌, ◌-◌, ◌*◌, eqb, List, [], ◌∷◌, ◌++◌, map, get_or, take, drop, fold, sym, refl, ap, ◌∙◌, ap₂}
 use Rattle.std.specs.List.{range_with_len}
 use Rattle.std.proofs.lemmas.Bool.{cond_both}
-use Rattle.std.proofs.lemmas.List.{same_lists, get_or-map, length-map, map-append, take-map, take-append-drop}
-use Rattle.std.proofs.lemmas.List.FromFn.{get_or-map-range_with_len, length-map-range_with_len}
+use Rattle.std.proofs.lemmas.List.{map-append, take-map, take-append-drop}
 use Rattle.std.proofs.Math.Seq.{map-set_same}
 use Rattle.layers.specs.declared.node.Node.{Node}
 use Rattle.layers.specs.declared.node.Arcs.{Arcs}
@@ -13,7 +12,7 @@ use Rattle.layers.specs.declared.node.Up.{Up}
 use Rattle.layers.specs.Labels.{arrival_over, blank_label, no_up}
 use Rattle.layers.specs.Records.{is_used}
 use Rattle.layers.specs.Settings.{Setting}
-use Rattle.labels.specs.Passes.{with_down, with_up, bare, blank_node, cleared, unlabelled, begun, renewed, sources, first_layer, next_layer, labelled, labelled_after, pass_down, landed, hit, crossed, spread, crossed_all, next_renewed, end_renewed, renewed_after, risen, risen_from, pass_up, relabelled_used, relabelled}
+use Rattle.labels.specs.Passes.{with_down, with_up, bare, blank_node, cleared, unlabelled, begun, renewed, sources, landed, hit, crossed, spread, crossed_all, next_renewed, end_renewed, renewed_after, risen, risen_from, pass_up, relabelled_used, relabelled}
 use Rattle.labels.proofs.Climbs.{arcs_of, down_of, up_of}
 use Rattle.labels.proofs.Folds.{folded_keeps}
 
@@ -57,27 +56,6 @@ module _ {S V : Type 0} where
 module _ {S V : Type 0} (by : Setting S V) where
   -- ---- the pass down keeps what is not a downward label
   module _ {X : Type 0} (f : Node S V → X) (h : (x : Node S V) (l : Down S V) → f (with_down x l) ≡ f x) where
-    next-keeps : (us vs : List (Node S V)) → map f (next_layer by us vs) ≡ map f vs
-    unfolding next_layer labelled
-    next-keeps us vs =
-        let g = labelled by us vs in
-        let n = length vs in
-        let z = blank_node by.rule by.tally in
-        let long : length (map f (map g (range_with_len 0 n))) ≡ n = length-map (map g (range_with_len 0 n)) f ∙ length-map-range_with_len g 0 n in
-        same_lists (map f (map g (range_with_len 0 n))) (map f vs) (long ∙ sym (length-map vs f))
-        (λ b d lt.
-        get_or-map f (map g (range_with_len 0 n)) b z d (omega (arith, long, length-map-range_with_len g 0 n))
-        ∙ ap f (get_or-map-range_with_len g 0 n b b z (omega (arith, long)) (omega arith))
-        ∙ h (get_or vs b z) (g b).label.down ∙ sym (get_or-map f vs b z d (omega (arith, long))))
-
-    after-keeps : (k : ℕ) (xs : List (Node S V)) → map f (labelled_after by k xs) ≡ map f xs
-    unfolding labelled_after
-    after-keeps zero xs = let us = take by.width xs in let rest = drop by.width xs in in-parts f by.width _ _ xs refl (in-parts f 1 _ _ rest (next-keeps us (take 1 rest)) refl)
-    after-keeps (suc k) xs =
-        let us = take by.width xs in
-        let rest = drop by.width xs in
-        in-parts f by.width _ _ xs refl (after-keeps k (next_layer by us (take by.width rest) ++ drop by.width rest) ∙ in-parts f by.width _ _ rest (next-keeps us (take by.width rest)) refl)
-
     crossed-keeps : (us vs : List (Node S V)) → map f (crossed_all by us vs) ≡ map f vs
     unfolding crossed_all spread crossed hit landed
     crossed-keeps us vs =
@@ -96,7 +74,7 @@ module _ {S V : Type 0} (by : Setting S V) where
     abbrev clear : Node S V → Node S V
     clear = cleared by.rule by.tally
 
-    renewals-keep : (k : ℕ) (xs : List (Node S V)) → map f (renewed_after by k xs) ≡ map f xs
+    pub renewals-keep : (k : ℕ) (xs : List (Node S V)) → map f (renewed_after by k xs) ≡ map f xs
     unfolding renewed_after next_renewed end_renewed
     renewals-keep zero xs =
         let rest = drop by.width xs in
@@ -105,13 +83,9 @@ module _ {S V : Type 0} (by : Setting S V) where
         let rest = drop by.width xs in
         in-parts f by.width _ _ xs refl (renewals-keep k _ ∙ in-parts f by.width _ _ rest (crossed-keeps (take by.width xs) (renewed clear (take by.width rest)) ∙ renewed-keeps f clear (λ x. h x blank) (take by.width rest)) refl)
 
-    first-keeps : (us : List (Node S V)) → map f (first_layer by.rule by.tally us) ≡ map f us
-    first-keeps [] = refl
-    first-keeps (u ∷ us) = ap₂ (λ y ys. y ∷ ys) (h u _) (each-kept f _ (λ x. h x _) us)
-
-    pub down_keeps : (xs : List (Node S V)) → map f (pass_down by xs) ≡ map f xs
-    unfolding pass_down
-    down_keeps xs = after-keeps (by.round.n - 1) _ ∙ in-parts f by.width _ _ xs (first-keeps (take by.width xs)) refl
+    pub begun-keeps : (xs : List (Node S V)) → map f (begun by.rule by.tally xs) ≡ map f xs
+    begun-keeps [] = refl
+    begun-keeps (x ∷ xs) = ap (λ y. y ∷ map f xs) (h x _)
 
   -- the arcs of any list stay
   pub relabelled-arcs : (xs : List (Node S V)) → map arcs_of (relabelled by xs) ≡ map arcs_of xs
@@ -119,9 +93,5 @@ module _ {S V : Type 0} (by : Setting S V) where
   relabelled-arcs xs =
       let at = by.round.n * by.width in
       let ys = map (unlabelled by.rule by.tally) (take at xs) ++ drop at xs in
-      rises_keep arcs_of (λ x u. refl) by.width (by.round.n - 1) _ ∙ renewals-keep arcs_of (λ x l. refl) (by.round.n - 1) (begun by.rule by.tally ys) ∙ begins ys
+      rises_keep arcs_of (λ x u. refl) by.width (by.round.n - 1) _ ∙ renewals-keep arcs_of (λ x l. refl) (by.round.n - 1) (begun by.rule by.tally ys) ∙ begun-keeps arcs_of (λ x l. refl) ys
       ∙ in-parts arcs_of at _ _ xs (each-kept arcs_of _ (λ x. refl) (take at xs)) refl
-    where
-      begins : (ys : List (Node S V)) → map arcs_of (begun by.rule by.tally ys) ≡ map arcs_of ys
-      begins [] = refl
-      begins (y ∷ ys) = refl

@@ -1,9 +1,11 @@
 -- The two passes over records with the arcs of a net leave the net laid out with its labels.
-use Rattle.std.proofs.Common.{◌≡◌, ℕ, zero, suc, ◌+◌, ◌-◌, ◌*◌, ◌<◌, ◌≤◌, Bool, true, false, cond, not, eqb, List, [], ◌∷◌, ◌++◌, map, length, get_or, take, drop, Some, None, fold, Option, sym, refl, ap, ◌∙◌, subst, ap₂, inl, ⊎_elim, append_assoc, suc-mul, zero-mul, add-one, arith}
-use Rattle.std.specs.List.{range_with_len, flat_map}
+use Rattle.std.proofs.Common.{◌≡◌, ℕ, zero, suc, ◌+◌, ◌-◌, ◌*◌, ◌<◌, ◌≤◌, Bool, true, false, cond, not, eqb, List, [], ◌∷◌, ◌++◌, map, length, get_or, take, drop, Some, None, fold, Option, sym, refl, ap, ◌∙◌, subst, ap₂, inl, ⊎_elim, append_assoc, suc-mul, zero-mul, zero-add, add-one, arith}
+use Rattle.std.specs.List.{range_with_len, flat_map, AllByRecursion as All}
+use Rattle.std.proofs.Math.Nat.{mul-le-mul_right}
+use Rattle.round.specs.Clock.{latest_finish}
 use Rattle.std.proofs.lemmas.List.FromFn.{get_or-map-range_with_len, length-map-range_with_len}
 use Rattle.std.proofs.Math.Seq.{take-add}
-use Rattle.std.proofs.lemmas.List.{map-append, same_lists, get_or-map, get_or_past, length-map, drop-drop, drop-map, drop_at, take-map, take_at, length-append, length-take, length-take-le, length-drop, get_or-take, get_or-drop, get_or_append_left}
+use Rattle.std.proofs.lemmas.List.{map-append, same_lists, get_or-map, get_or_past, length-map, drop-drop, drop-map, drop_at, take-map, take_at, length-take, length-take-le, length-drop, get_or-take, get_or-drop, get_or_append_left}
 use Rattle.std.proofs.lemmas.Simd.{map-map}
 use Rattle.std.proofs.lemmas.Bool.{cases_lt, cond_both, ne_eqb}
 use Rattle.layers.specs.declared.node.Arcs.{Arcs}
@@ -20,16 +22,16 @@ use Rattle.layers.proofs.Flows.{table_at, Among, ins-from}
 use Rattle.layers.proofs.Bridge.{table-long, map-table, labels_full, ups-full}
 use Rattle.layers.specs.Calls.{records_with}
 use Rattle.layers.proofs.Proper.{RangedAll, tied-ranged}
-use Rattle.labels.specs.Passes.{with_up, blank_node, by_door, from_node, arrivals, gathered, labelled, next_layer, labelled_after, up_by, ups_of, gathered_up, renewed, begun, unused_label, HasPlaces, risen, risen_from, cleared, unlabelled, first_layer, bare, pass_down, pass_up, relabelled_used, relabelled}
+use Rattle.labels.specs.Passes.{with_up, blank_node, by_door, from_node, arrivals, gathered, labelled, next_layer, up_by, ups_of, gathered_up, renewed, begun, renewed_after, Early, HasUps, HasDownsBefore, unused_label, HasPlaces, risen, risen_from, cleared, unlabelled, first_layer, bare, pass_up, relabelled_used, relabelled}
 use Rattle.std.proofs.lemmas.Nat.{pow_pos}
 pub use Rattle.labels.proofs.Climbs.{arcs_of}
-use Rattle.labels.proofs.Climbs.{Linked, linked, node-climbed, climbed-is, up_of}
+use Rattle.labels.proofs.Climbs.{down_of, Linked, linked, node-climbed, climbed-is, up_of}
 use Rattle.labels.proofs.Folds.{folded_keeps}
 use Rattle.labels.proofs.Scattered.{or_some}
 use Rattle.labels.proofs.Inward.{Standing, Narrow, arrivals-in, gathered-is}
-use Rattle.labels.proofs.Earlies.{first-long, first_early}
-use Rattle.labels.proofs.Keeps.{down_keeps, fronts, in-parts}
-use Rattle.labels.proofs.Places.{Stands, Idle, Blank, Ready, renewed-map, idle-stays, after-is, begun-is}
+use Rattle.labels.proofs.Earlies.{first-long, early-last, next-early, first_early}
+use Rattle.labels.proofs.Keeps.{renewals-keep, begun-keeps, rises_keep, same-records, fronts, in-parts}
+use Rattle.labels.proofs.Places.{next-is, end-is, Stands, Idle, Blank, Ready, renewed-map, idle-stays, begun-is}
 use Rattle.layers.proofs.Model.{or_blank, or_no_up}
 use Rattle.layers.specs.Settings.{Setting}
 
@@ -187,33 +189,34 @@ module _ {S V : Type 0} (by : Setting S V) where
   Half labs [] ys = map bare (take 1 ys) ≡ table 1 (record_of_place by [] labs [])
   Half labs (L ∷ Ls) ys = (map bare (take by.width ys) ≡ table by.width (record_of_place by L labs [])) × Half (labels_next by labs L (width Ls)) Ls (drop by.width ys)
 
-  down-laid : (k : ℕ) (labs : List (Option (Down S V))) (L : Layer) (Ls : Net) (xs : List (Node S V)) → length Ls ≡ k → Good by.width (L ∷ Ls)
-      → IsTied (L ∷ Ls) → Standing by labs L
-      → map bare (take by.width xs) ≡ table by.width (record_of_place by L labs []) → Arranged by.width Ls (drop by.width xs)
-      → Half labs (L ∷ Ls) (labelled_after by k xs) × (past by.width (suc k) (labelled_after by k xs) ≡ past by.width (suc k) xs)
-  unfolding labelled_after
-  down-laid zero labs L [] xs k good tied last here arr =
+  down-laid : (k e : ℕ) (labs : List (Option (Down S V))) (L : Layer) (Ls : Net) (xs : List (Node S V)) → length Ls ≡ k → e + k ≤ 15 → All (Early (latest_finish e)) (take by.width xs)
+      → Good by.width (L ∷ Ls) → IsTied (L ∷ Ls) → Standing by labs L
+      → map bare (take by.width xs) ≡ table by.width (record_of_place by L labs []) → Arranged by.width Ls (drop by.width xs) → Ready by Ls (drop by.width xs)
+      → Half labs (L ∷ Ls) (renewed_after by k xs) × (past by.width (suc k) (renewed_after by k xs) ≡ past by.width (suc k) xs)
+  unfolding renewed_after
+  down-laid zero e labs L [] xs k few early good tied last here arr ready =
       let us = take by.width xs in
       let N = next_layer by us (take 1 (drop by.width xs)) in
       let D = drop 1 (drop by.width xs) in
       let nb = next-block by.width 1 1 labs L [] us (take 1 (drop by.width xs)) last good.0 good.1 good.2 here arr in
       let us-long = mapped-long bare (record_of_place by L labs []) by.width us here in
       let n-long = mapped-long bare (record_of_place by [] (labels_next by labs L 1) []) 1 N nb in
-      rw (take_at us (N ++ D) by.width us-long, drop_at us (N ++ D) by.width us-long, take_at N D 1 n-long, drop_at N D 1 n-long) ((here, nb), refl)
-  down-laid zero labs L (M ∷ Ls) xs k good tied last here arr = absurd (omega arith)
-  down-laid (suc k) labs L [] xs e good tied last here arr = absurd (omega arith)
-  down-laid (suc k) labs L (M ∷ Ls) xs e good tied last here arr =
+      rw (end-is by us (drop by.width xs) (early-last e us (omega arith) early), take_at us (N ++ D) by.width us-long, drop_at us (N ++ D) by.width us-long, take_at N D 1 n-long, drop_at N D 1 n-long) ((here, nb), refl)
+  down-laid zero e labs L (M ∷ Ls) xs k few early good tied last here arr ready = absurd (omega arith)
+  down-laid (suc k) e labs L [] xs q few early good tied last here arr ready = absurd (omega arith)
+  down-laid (suc k) e labs L (M ∷ Ls) xs q few early good tied last here arr ready =
       let labs' = labels_next by labs L (length M) in
       let us = take by.width xs in
-      let N = next_layer by us (take by.width (drop by.width xs)) in
+      let vs = take by.width (drop by.width xs) in
+      let N = next_layer by us vs in
       let D = drop by.width (drop by.width xs) in
-      let nb = next-block by.width by.width (length M) labs L M us (take by.width (drop by.width xs)) last good.0 good.1 good.2 here arr.0 in
+      let nb = next-block by.width by.width (length M) labs L M us vs last good.0 good.1 good.2 here arr.0 in
       let us-long = mapped-long bare (record_of_place by L labs []) by.width us here in
       let n-long = mapped-long bare (record_of_place by M labs' []) by.width N nb in
-      let Z = labelled_after by k (N ++ D) in
-      let ih = down-laid k labs' M Ls (N ++ D) (omega arith) good.3 tied.3 (standing-next labs L M Ls good.3.1 tied last)
-      (rw (take_at N D by.width n-long) nb) (rw (drop_at N D by.width n-long) arr.1) in
-      rw (take_at us Z by.width us-long, drop_at us Z by.width us-long) ((here, ih.0), ih.1 ∙ ap (past by.width k) (drop_at N D by.width n-long))
+      let Z = renewed_after by k (N ++ D) in
+      let ih = down-laid k (suc e) labs' M Ls (N ++ D) (omega arith) (omega arith) (rw (take_at N D by.width n-long) (next-early by e us vs early)) good.3 tied.3 (standing-next labs L M Ls good.3.1 tied last)
+      (rw (take_at N D by.width n-long) nb) (rw (drop_at N D by.width n-long) arr.1) (rw (drop_at N D by.width n-long) ready.1) in
+      rw (next-is by ready.0.0 us vs (early-last e us (omega arith) early) ready.0.2, take_at us Z by.width us-long, drop_at us Z by.width us-long) ((here, ih.0), ih.1 ∙ ap (past by.width k) (drop_at N D by.width n-long))
 
 -- ---- up
 module _ {S V : Type 0} (by : Setting S V) where
@@ -333,28 +336,6 @@ module _ {S V : Type 0} (by : Setting S V) where
   standing-first L e zero lt = (first_label by.rule by.tally, refl, refl)
   standing-first L e (suc a) lt = absurd (omega arith)
 
-  -- both passes, over all places of a layer
-  abbrev pub passed : List (Node S V) → List (Node S V)
-  passed xs = pass_up by.round.n by.width (pass_down by xs)
-
-  passed-laid : (k : ℕ) (L : Layer) (Ls : Net) (xs : List (Node S V)) → by.round.n ≡ suc k → length Ls ≡ k → length L ≡ 1
-      → Good by.width (L ∷ Ls) → IsTied (L ∷ Ls) → Arranged by.width (L ∷ Ls) xs → Spare (L ∷ Ls) (map up_of xs)
-      → passed xs ≡ labelled_records by (L ∷ Ls) ++ drop (by.round.n * by.width + 1) xs
-  unfolding labelled_records pass_down pass_up
-  passed-laid k L Ls xs en el first good tied arr spare =
-      let us = take by.width xs in
-      let F = first_layer by.rule by.tally us in
-      let D = drop by.width xs in
-      let long : length F ≡ by.width = first-long by.rule by.tally us ∙ mapped-long arcs_of (arcs_at L) by.width us arr.0 in
-      let d = down-laid by k (first_labels by.rule by.tally) L Ls (F ++ D) el good tied (standing-first L first)
-      (rw (take_at F D by.width long) (first_block L us arr.0)) (rw (drop_at F D by.width long) arr.1) in
-      let p : by.round.n - 1 ≡ k = omega arith in
-      let kept : map up_of (labelled_after by k (F ++ D)) ≡ map up_of xs = ap (λ (i : ℕ). map up_of (labelled_after by i (F ++ D))) (sym p) ∙ unfold pass_down in down_keeps by up_of (λ x l. refl) xs in
-      rw p
-      (up-laid k (first_labels by.rule by.tally) L Ls (labelled_after by k (F ++ D)) el good tied (standing-first L first) (sym first) d.0 (rw kept spare)
-      ∙ ap (λ ys. labelled_from by (first_labels by.rule by.tally) (L ∷ Ls) ++ ys)
-      (d.1 ∙ ap (past by.width k) (drop_at F D by.width long) ∙ past-is by.width (suc k) xs ∙ ap (λ (n : ℕ). drop (n * by.width + 1) xs) (sym en)))
-
   -- where the places that are not in use have blank labels, a net's places have none but its own upward sets
   pub ready-spare : (Ls : Net) (xs : List (Node S V)) → Ready by Ls xs → Spare Ls (map up_of xs)
   ready-spare [] xs r = tt
@@ -368,34 +349,34 @@ module _ {S V : Type 0} (by : Setting S V) where
     subst (Spare Ls) (sym (drop-map up_of by.width xs)) (ready-spare Ls (drop by.width xs) r.1),
   )
 
-  pub passed-lawful : (Ls : Net) (xs : List (Node S V)) → IsLawful by.round.n by.width Ls → Arranged by.width Ls xs → Spare Ls (map up_of xs) → passed xs ≡ records_with by xs Ls
-  unfolding records_with
-  passed-lawful [] xs p arr spare = let none : 0 ≡ by.round.n = p.deep in absurd (omega (arith, by.round.one))
-  passed-lawful (L ∷ Ls) xs p arr spare =
-      let deep : suc (length Ls) ≡ by.round.n = p.deep in
-      passed-laid (length Ls) L Ls xs (sym deep) refl p.one_first (good-net by.round.n by.width (L ∷ Ls) by.round.most p.even p.roomy (tied-ranged (L ∷ Ls) p.tied)) p.tied arr spare
-
-  used-passed : (Ls : Net) (xs : List (Node S V)) → IsLawful by.round.n by.width Ls → Ready by Ls xs → length Ls * by.width < length xs → relabelled_used by xs ≡ passed xs
-  unfolding relabelled_used pass_down pass_up
-  used-passed [] xs p ready room = let none : 0 ≡ by.round.n = p.deep in absurd (omega (arith, by.round.one))
-  used-passed (L ∷ Ls) xs p ready room =
+  used-laid : (L : Layer) (Ls : Net) (xs : List (Node S V)) → IsLawful by.round.n by.width (L ∷ Ls) → Arranged by.width (L ∷ Ls) xs → Ready by (L ∷ Ls) xs
+      → relabelled_used by xs ≡ labelled_records by (L ∷ Ls) ++ drop (by.round.n * by.width + 1) xs
+  unfolding labelled_records relabelled_used pass_up
+  used-laid L Ls xs p arr ready =
       let w = by.width in
-      let F = first_layer by.rule by.tally (take w xs) in
+      let us = take w xs in
+      let F = first_layer by.rule by.tally us in
       let D = drop w xs in
-      let deep : suc (length Ls) ≡ by.round.n = p.deep in
-      let k : by.round.n - 1 ≡ length Ls = omega arith in
-      let more : suc (length Ls) * w ≡ w + length Ls * w = omega (arith, suc-mul (length Ls) w) in
-      let one : length L ≡ 1 = p.one_first in
-      let low : length L ≤ w = p.roomy.0 in
-      let long : length F ≡ w = first-long by.rule by.tally (take w xs) ∙ length-take-le w xs (omega (arith, more, room)) in
+      let k = length Ls in
+      let deep : suc k ≡ by.round.n = p.deep in
+      let first : length L ≡ 1 = p.one_first in
+      let good = good-net by.round.n w (L ∷ Ls) by.round.most p.even p.roomy (tied-ranged (L ∷ Ls) p.tied) in
+      let room : length L ≤ w = good.1 in
+      let long : length F ≡ w = first-long by.rule by.tally us ∙ mapped-long arcs_of (arcs_at L) w us arr.0 in
       let begins : begun by.rule by.tally xs ≡ F ++ D = begun-is by ready.0.0 w xs (omega arith) (omega (arith, ready.0.1)) ready.0.2 in
-      rw (k, begins)
-      (ap (risen_from w (length Ls))
-      (after-is by Ls 0 (F ++ D) (omega (arith, by.round.most)) (rw (take_at F D w long) (first_early by (take w xs))) (rw (drop_at F D w long) ready.1)
-      (omega (arith, more, room, long, length-append F D, length-drop w xs))))
+      let d = down-laid by k 0 (first_labels by.rule by.tally) L Ls (F ++ D) refl (omega (arith, by.round.most)) (rw (take_at F D w long) (first_early by us)) good p.tied (standing-first L first)
+      (rw (take_at F D w long) (first_block L us arr.0)) (rw (drop_at F D w long) arr.1) (rw (drop_at F D w long) ready.1) in
+      let kept : map up_of (renewed_after by k (F ++ D)) ≡ map up_of xs = renewals-keep by up_of (λ x l. refl) k (F ++ D) ∙ ap (map up_of) (sym begins) ∙ begun-keeps by up_of (λ x l. refl) xs in
+      let less : by.round.n - 1 ≡ k = omega arith in
+      rw (less, begins)
+      (up-laid k (first_labels by.rule by.tally) L Ls (renewed_after by k (F ++ D)) refl good p.tied (standing-first L first) (sym first) d.0 (rw kept (ready-spare (L ∷ Ls) xs ready))
+      ∙ ap (λ ys. labelled_from by (first_labels by.rule by.tally) (L ∷ Ls) ++ ys)
+      (d.1 ∙ ap (past w k) (drop_at F D w long) ∙ past-is w (suc k) xs ∙ ap (λ (n : ℕ). drop (n * w + 1) xs) deep))
 
   pub used-lawful : (Ls : Net) (xs : List (Node S V)) → IsLawful by.round.n by.width Ls → Arranged by.width Ls xs → Ready by Ls xs → relabelled_used by xs ≡ records_with by xs Ls
-  used-lawful Ls xs p arr ready = used-passed Ls xs p ready (arranged-room by.width Ls xs arr) ∙ passed-lawful Ls xs p arr (ready-spare Ls xs ready)
+  unfolding records_with
+  used-lawful [] xs p arr ready = let none : 0 ≡ by.round.n = p.deep in absurd (omega (arith, by.round.one))
+  used-lawful (L ∷ Ls) xs p arr ready = used-laid L Ls xs p arr ready
 
   blank-ready : (Ls : Net) (xs : List (Node S V)) → ((a : ℕ) (d : Node S V) → a < length Ls * by.width → a < length xs → Blank by (get_or xs a d)) → Ready by Ls xs
   blank-ready [] xs h = tt
@@ -442,43 +423,56 @@ module _ {S V : Type 0} (by : Setting S V) where
   blank-if true l m e = cc
   blank-if false l m e = absurd cc
 
-  places-ready : (labs : List (Option (Down S V))) (Ls : Net) (xs later : List (Node S V)) → IsTied Ls → IsRoomy by.width Ls → StandsFirst labs Ls → length Ls * by.width ≤ length xs
-      → map (unused_label by) (take (length Ls * by.width) xs) ≡ map (unused_label by) (take (length Ls * by.width) (labelled_from by labs Ls ++ later)) → Ready by Ls xs
+  -- what g sees of the first m of these layers is what it sees of those of the net
+  abbrev Rows : {X : Type 0} → (Node S V → X) → ℕ → List (Option (Down S V)) → Net → List (Node S V) → Type 0
+  Rows g zero labs Ls xs = Unit {0}
+  Rows g (suc m) labs [] xs = Unit {0}
+  Rows g (suc m) labs (L ∷ Ls) xs = (map g (take by.width xs) ≡ table by.width (λ a. g (record_of_place by L labs (ups (L ∷ Ls)) a))) × Rows g m (labels_next by labs L (width Ls)) Ls (drop by.width xs)
+
+  rows-of : {X : Type 0} (g : Node S V → X) (m : ℕ) (labs : List (Option (Down S V))) (Ls : Net) (xs later : List (Node S V)) → m * by.width ≤ length xs
+      → map g (take (m * by.width) xs) ≡ map g (take (m * by.width) (labelled_from by labs Ls ++ later)) → Rows g m labs Ls xs
   unfolding labelled_from
-  places-ready labs [] xs later tied roomy s room e = tt
-  places-ready labs (L ∷ Ls) xs later tied roomy s room e =
+  rows-of g zero labs Ls xs later room e = tt
+  rows-of g (suc m) labs [] xs later room e = tt
+  rows-of g (suc m) labs (L ∷ Ls) xs later room e =
       let w = by.width in
-      let g = unused_label by in
-      let m = length Ls * w in
-      let more : suc (length Ls) * w ≡ w + m = omega (arith, suc-mul (length Ls) w) in
+      let more : suc m * w ≡ w + m * w = omega (arith, suc-mul m w) in
       let R = record_of_place by L labs (ups (L ∷ Ls)) in
       let X = labelled_from by (labels_next by labs L (width Ls)) Ls in
-      let Z = table w R ++ (X ++ later) in
-      let us = take w xs in
-      let A = map g us in
-      let B = map g (take m (drop w xs)) in
-      let T : List (Option (Label S V)) = table w (λ a. g (R a)) in
-      let whole : A ++ B ≡ T ++ map g (take m (X ++ later)) =
-      sym (split g w m xs) ∙ ap (λ (k : ℕ). map g (take k xs)) (sym more) ∙ e ∙ ap (λ (k : ℕ). map g (take k ((table w R ++ X) ++ later))) more
-      ∙ ap (λ ys. map g (take (w + m) ys)) (append_assoc (table w R) X later) ∙ split g w m Z
-      ∙ ap₂ (λ ys zs. map g ys ++ map g (take m zs)) (take_at (table w R) (X ++ later) w (table-long w R)) (drop_at (table w R) (X ++ later) w (table-long w R))
-      ∙ ap (λ ys. ys ++ map g (take m (X ++ later))) (map-table g w R) in
-      let A-long : length A ≡ w = length-map us g ∙ length-take-le w xs (omega (arith, more)) in
-      let T-long : length T ≡ w = table-long w (λ a. g (R a)) in
-      let here : A ≡ T = sym (take_at A B w A-long) ∙ ap (take w) whole ∙ take_at T (map g (take m (X ++ later))) w T-long in
-      let rest = sym (drop_at A B w A-long) ∙ ap (drop w) whole ∙ drop_at T (map g (take m (X ++ later))) w T-long in (
+      let A = map g (take w xs) in
+      let B = map g (take (m * w) (drop w xs)) in
+      let T = table w (λ a. g (R a)) in
+      let C = map g (take (m * w) (X ++ later)) in
+      let whole : A ++ B ≡ T ++ C =
+      sym (split g w (m * w) xs) ∙ ap (λ (k : ℕ). map g (take k xs)) (sym more) ∙ e ∙ ap (λ (k : ℕ). map g (take k ((table w R ++ X) ++ later))) more
+      ∙ ap (λ ys. map g (take (w + m * w) ys)) (append_assoc (table w R) X later) ∙ split g w (m * w) (table w R ++ (X ++ later))
+      ∙ ap₂ (λ ys zs. map g ys ++ map g (take (m * w) zs)) (take_at (table w R) (X ++ later) w (table-long w R)) (drop_at (table w R) (X ++ later) w (table-long w R))
+      ∙ ap (λ ys. ys ++ C) (map-table g w R) in
+      let A-long : length A ≡ w = length-map (take w xs) g ∙ length-take-le w xs (omega (arith, more)) in
+      let T-long : length T ≡ w = table-long w (λ a. g (R a)) in (
+        sym (take_at A B w A-long) ∙ ap (take w) whole ∙ take_at T C w T-long,
+        rows-of g m (labels_next by labs L (width Ls)) Ls (drop w xs) later (omega (arith, more, length-drop w xs)) (sym (drop_at A B w A-long) ∙ ap (drop w) whole ∙ drop_at T C w T-long),
+      )
+
+  places-ready : (labs : List (Option (Down S V))) (Ls : Net) (xs : List (Node S V)) → IsTied Ls → IsRoomy by.width Ls → StandsFirst labs Ls → Rows (unused_label by) (length Ls) labs Ls xs → Ready by Ls xs
+  places-ready labs [] xs tied roomy s e = tt
+  places-ready labs (L ∷ Ls) xs tied roomy s e =
+      let w = by.width in
+      let g = unused_label by in
+      let R = record_of_place by L labs (ups (L ∷ Ls)) in
+      let us = take w xs in (
         (
           length L,
           omega arith,
           λ a d lt.
-              let at : g (get_or us a d) ≡ g (R a) = mapped-at g (λ a. g (R a)) w us a d here (omega (arith, length-map us g, A-long)) in (
+              let at : g (get_or us a d) ≡ g (R a) = mapped-at g (λ a. g (R a)) w us a d e.0 (omega (arith, mapped-long g (λ a. g (R a)) w us e.0)) in (
                 λ h. used-if (eqb (get_or us a d).label.down.lasts 0) (get_or us a d).label (at ∙ (let l = s.0 a h in rw (l.1, l.2) refl)),
                 λ h.
                     blank-if (eqb (get_or us a d).label.down.lasts 0) (get_or us a d).label _
                     (at ∙ rw (get_or_past labs a None (omega (arith, s.1)), get_or_past (ups (L ∷ Ls)) a None (omega (arith, ups-long L Ls))) refl),
               ),
         ),
-        places-ready (labels_next by labs L (width Ls)) Ls (drop w xs) later (tied-on L Ls tied) roomy.1 (stands-on labs L Ls roomy tied s) (omega (arith, more, length-drop w xs)) rest,
+        places-ready (labels_next by labs L (width Ls)) Ls (drop w xs) (tied-on L Ls tied) roomy.1 (stands-on labs L Ls roomy tied s) e.1,
       )
 
   first-stands : (Ls : Net) → IsLawful by.round.n by.width Ls → StandsFirst (first_labels by.rule by.tally) Ls
@@ -489,5 +483,81 @@ module _ {S V : Type 0} (by : Setting S V) where
   unfolding records_with labelled_records
   has-ready Ls xs p room has =
       let n : by.round.n ≡ length Ls = sym p.deep in
-      places-ready (first_labels by.rule by.tally) Ls xs (drop (by.round.n * by.width + 1) xs) p.tied p.roomy (first-stands Ls p) (omega (arith, ap (λ (k : ℕ). k * by.width) n))
-      (ap (λ (k : ℕ). map (unused_label by) (take (k * by.width) xs)) (sym n) ∙ has ∙ ap (λ (k : ℕ). map (unused_label by) (take (k * by.width) (records_with by xs Ls))) n)
+      places-ready (first_labels by.rule by.tally) Ls xs p.tied p.roomy (first-stands Ls p)
+      (subst (λ (k : ℕ). Rows (unused_label by) k (first_labels by.rule by.tally) Ls xs) n (rows-of (unused_label by) by.round.n (first_labels by.rule by.tally) Ls xs (drop (by.round.n * by.width + 1) xs) (omega arith) has))
+
+  -- ---- from a layer on: the labels of the layers up to it stand
+  front-laid : (L : Layer) (labs : List (Option (Down S V))) (U : List (Option Up)) (us : List (Node S V)) → map arcs_of us ≡ table by.width (arcs_at L)
+      → map down_of us ≡ table by.width (λ a. down_of (record_of_place by L labs U a)) → map bare us ≡ table by.width (record_of_place by L labs [])
+  front-laid L labs U us arr downs =
+      let w = by.width in
+      mapped-is bare (record_of_place by L labs []) w us (mapped-long arcs_of (arcs_at L) w us arr)
+      (λ a d lt. ap₂ (λ (o : Arcs) (l : Down S V). record { arcs = o; label = record { down = l; up = no_up } }) (mapped-at arcs_of (arcs_at L) w us a d arr lt)
+      (mapped-at down_of (λ a. down_of (record_of_place by L labs U a)) w us a d downs lt))
+
+  early-same : (m : ℕ) (us vs : List (Node S V)) → map bare us ≡ map bare vs → All (Early m) us → All (Early m) vs
+  early-same m us [] e h = tt
+  early-same m [] (v ∷ vs) e h = absurd cc
+  early-same m (u ∷ us) (v ∷ vs) e h =
+      let here : bare u ≡ bare v = cc in
+      let rest : map bare us ≡ map bare vs = cc in
+      (subst (λ (x : Node S V). x.label.down.finish ≤ m) here h.0, early-same m us vs rest h.1)
+
+  -- layer d, and k more before the end
+  abbrev below : ℕ → ℕ → List (Node S V) → List (Node S V)
+  below d k xs = take (d * by.width) xs ++ renewed_after by k (drop (d * by.width) xs)
+
+  below-from : (d k e : ℕ) (labs : List (Option (Down S V))) (L : Layer) (Ls : Net) (xs : List (Node S V)) → length Ls ≡ d + k → e + (d + k) ≤ 15 → All (Early (latest_finish e)) (take by.width xs)
+      → Good by.width (L ∷ Ls) → IsTied (L ∷ Ls) → Standing by labs L → Arranged by.width (L ∷ Ls) xs → Ready by (L ∷ Ls) xs → Rows down_of (suc d) labs (L ∷ Ls) xs
+      → Half by labs (L ∷ Ls) (below d k xs) × (past by.width (suc (d + k)) (below d k xs) ≡ past by.width (suc (d + k)) xs)
+  below-from zero k e labs L Ls xs q few early good tied s arr ready rows =
+      let none : 0 * by.width ≡ 0 = zero-mul by.width in
+      rw (none, zero-add k) (down-laid by k e labs L Ls xs (q ∙ zero-add k) (omega arith) early good tied s (front-laid L labs (ups (L ∷ Ls)) (take by.width xs) arr.0 rows.0) arr.1 ready.1)
+  below-from (suc d) k e labs L [] xs q few early good tied s arr ready rows = absurd (omega arith)
+  below-from (suc d) k e labs L (M ∷ Ls) xs q few early good tied s arr ready rows =
+      let w = by.width in
+      let labs' = labels_next by labs L (length M) in
+      let us = take w xs in
+      let rest = drop w xs in
+      let vs = take w rest in
+      let here = front-laid L labs (ups (L ∷ M ∷ Ls)) us arr.0 rows.0 in
+      let next = front-laid M labs' (ups (M ∷ Ls)) vs arr.1.0 rows.1.0 in
+      let nb = next-block by w w (length M) labs L M us vs s good.0 good.1 good.2 here arr.1.0 in
+      let long = mapped-long bare (record_of_place by L labs []) w us here in
+      let ih = below-from d k (suc e) labs' M Ls rest (omega arith) (omega arith) (early-same (latest_finish (suc e)) (next_layer by us vs) vs (nb ∙ sym next) (next-early by e us vs early))
+      good.3 tied.3 (standing-next by labs L M Ls good.3.1 tied s) arr.1 ready.1 rows.1 in
+      let less : suc d * w ≡ w + d * w = omega (arith, suc-mul d w) in
+      let one : suc d + k ≡ suc (d + k) = omega arith in
+      let is : below (suc d) k xs ≡ us ++ below d k rest =
+      ap (λ (i : ℕ). take i xs ++ renewed_after by k (drop i xs)) less ∙ ap₂ (λ ys zs. ys ++ renewed_after by k zs) (take-add w (d * w) xs) (sym (drop-drop (d * w) w xs))
+      ∙ append_assoc us (take (d * w) rest) (renewed_after by k (drop (d * w) rest)) in
+      rw (is, one, take_at us (below d k rest) w long, drop_at us (below d k rest) w long) ((here, ih.0), ap (past w (suc (d + k))) (drop_at us (below d k rest) w long) ∙ ih.1)
+
+  pub below-lawful : (i : ℕ) (Ls : Net) (xs : List (Node S V)) → 1 ≤ i → i ≤ by.round.n → by.round.n * by.width + 1 ≤ length xs → IsLawful by.round.n by.width Ls → Arranged by.width Ls xs → HasUps by Ls xs → HasDownsBefore by i Ls xs → Ready by Ls xs
+      → below (i - 1) (by.round.n - i) xs ≡ records_with by xs Ls
+  unfolding records_with labelled_records
+  below-lawful i [] xs low high room p arr up down ready = let none : 0 ≡ by.round.n = p.deep in absurd (omega (arith, by.round.one))
+  below-lawful i (L ∷ Ls) xs low high room p arr up down ready =
+      let w = by.width in
+      let n = by.round.n in
+      let d = i - 1 in
+      let k = n - i in
+      let deep : suc (length Ls) ≡ n = p.deep in
+      let same : length Ls ≡ d + k = omega arith in
+      let first : length L ≡ 1 = p.one_first in
+      let labs = first_labels by.rule by.tally in
+      let good = good-net n w (L ∷ Ls) by.round.most p.even p.roomy (tied-ranged (L ∷ Ls) p.tied) in
+      let back : i ≡ suc d = omega arith in
+      let rows : Rows down_of (suc d) labs (L ∷ Ls) xs = subst (λ (j : ℕ). Rows down_of j labs (L ∷ Ls) xs) back
+      (rows-of down_of i labs (L ∷ Ls) xs (drop (n * w + 1) xs) (omega (arith, mul-le-mul_right w high)) down) in
+      let us = take w xs in
+      let here = front-laid L labs (ups (L ∷ Ls)) us arr.0 rows.0 in
+      let early = early-same (latest_finish 0) (first_layer by.rule by.tally us) us (first_block L us arr.0 ∙ sym here) (first_early by us) in
+      let Y = below d k xs in
+      let b = below-from d k 0 labs L Ls xs same (omega (arith, by.round.most)) early good p.tied (standing-first L first) arr ready rows in
+      let kept : map up_of Y ≡ map up_of xs = in-parts up_of (d * w) (take (d * w) xs) (renewed_after by k (drop (d * w) xs)) xs refl (renewals-keep by up_of (λ x l. refl) k (drop (d * w) xs)) in
+      let end : n * w + 1 ≡ suc (d + k) * w + 1 = ap (λ (m : ℕ). m * w + 1) (omega arith) in
+      let U : risen_from w (d + k) Y ≡ labelled_from by labs (L ∷ Ls) ++ drop (n * w + 1) xs =
+      up-laid (d + k) labs L Ls Y same good p.tied (standing-first L first) (sym first) b.0 (rw kept (ready-spare (L ∷ Ls) xs ready))
+      ∙ ap (λ ys. labelled_from by labs (L ∷ Ls) ++ ys) (b.1 ∙ past-is w (suc (d + k)) xs ∙ ap (λ (m : ℕ). drop m xs) (sym end)) in
+      same-records Y (risen_from w (d + k) Y) (sym (rises_keep arcs_of (λ x u. refl) w (d + k) Y)) (sym (rises_keep down_of (λ x u. refl) w (d + k) Y)) (kept ∙ up ∙ ap (map up_of) (sym U)) ∙ U

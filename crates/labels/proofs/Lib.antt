@@ -7,7 +7,6 @@ pub mod Inward
 pub mod Keeps
 pub mod Laying
 pub mod Legs
-pub mod Lifts
 pub mod Overs
 pub mod Places
 pub mod RedirectNet

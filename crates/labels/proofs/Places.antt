@@ -1,8 +1,8 @@
 -- Where the places that are not in use have blank labels, a pass over those in use is a pass over all.
-use Rattle.std.proofs.Common.{◌≡◌, ℕ, zero, suc, ◌+◌, ◌*◌, ◌<◌, ◌≤◌, Bool, true, false, cond, not, ◌&&◌, eqb, leb, List, [], ◌∷◌, ◌++◌, map, length, get_or, take, drop, fold, sym, refl, ap, ◌∙◌, ap₂, suc-mul, arith}
+use Rattle.std.proofs.Common.{◌≡◌, ℕ, zero, suc, ◌<◌, ◌≤◌, Bool, true, false, cond, not, ◌&&◌, eqb, leb, List, [], ◌∷◌, ◌++◌, map, length, get_or, take, drop, fold, sym, refl, ap, ◌∙◌, ap₂, arith}
 use Rattle.std.specs.List.{AllByRecursion as All}
 use Rattle.std.proofs.lemmas.Bool.{le-leb, eq-eqb}
-use Rattle.std.proofs.lemmas.List.{take_at, drop_at, take-append-drop, length-append, length-drop, length-take-le}
+use Rattle.std.proofs.lemmas.List.{take-append-drop}
 use Rattle.round.specs.Clock.{latest_finish}
 use Rattle.layers.specs.declared.node.Label.{Label}
 use Rattle.layers.specs.declared.node.Node.{Node}
@@ -10,9 +10,7 @@ use Rattle.layers.specs.Labels.{blank_label, no_up}
 use Rattle.layers.specs.Net.{Net}
 use Rattle.layers.specs.Records.{is_used, nodes_in}
 use Rattle.layers.specs.Settings.{Setting}
-use Rattle.labels.specs.Passes.{Early, cleared, with_up, first_layer, begun, renewed, sources, spread, crossed_all, next_layer, labelled_after, next_renewed, end_renewed, renewed_after, ups_of, gathered_up, risen}
-use Rattle.labels.proofs.Earlies.{next-early, next-long}
-use Rattle.labels.proofs.Folds.{all_mono}
+use Rattle.labels.specs.Passes.{Early, cleared, with_up, first_layer, begun, renewed, sources, spread, crossed_all, next_layer, next_renewed, end_renewed, ups_of, gathered_up, risen}
 use Rattle.labels.proofs.Scattered.{spreads-layer}
 
 and-true : (q r : Bool) → r ≡ true → q && r ≡ q
@@ -59,11 +57,11 @@ module _ {S V : Type 0} (by : Setting S V) where
     ap (λ (l : Label S V). record { arcs = x.arcs; label = l }) (ap (λ (l : Label S V). record { down = blank_label by.rule by.tally; up = l.up }) e ∙ sym e),
   )
 
-  next-is : (m : ℕ) (us vs : List (Node S V)) → All (Early (latest_finish 15)) us → Stands Blank m vs → next_renewed by us vs ≡ next_layer by us vs
+  pub next-is : (m : ℕ) (us vs : List (Node S V)) → All (Early (latest_finish 15)) us → Stands Blank m vs → next_renewed by us vs ≡ next_layer by us vs
   unfolding next_renewed crossed_all
   next-is m us vs h s = ap₂ (λ ys zs. fold (spread by) ys zs) (renewed-map Blank (cleared by.rule by.tally) blank-stays m vs s) (sources-are us h) ∙ spreads-layer by us vs
 
-  end-is : (us vs : List (Node S V)) → All (Early (latest_finish 15)) us → end_renewed by us vs ≡ next_layer by us (take 1 vs) ++ drop 1 vs
+  pub end-is : (us vs : List (Node S V)) → All (Early (latest_finish 15)) us → end_renewed by us vs ≡ next_layer by us (take 1 vs) ++ drop 1 vs
   unfolding end_renewed crossed_all
   end-is us vs h = ap (λ ys. ys ++ drop 1 vs) (ap (fold (spread by) (map (cleared by.rule by.tally) (take 1 vs))) (sources-are us h) ∙ spreads-layer by us (take 1 vs))
 
@@ -71,24 +69,6 @@ module _ {S V : Type 0} (by : Setting S V) where
   abbrev pub Ready : Net → List (Node S V) → Type 0
   Ready [] xs = Unit {0}
   Ready (L ∷ Ls) xs = ((m : ℕ) × (m ≤ length L) × Stands Blank m (take by.width xs)) × Ready Ls (drop by.width xs)
-
-  pub after-is : (Ls : Net) (e : ℕ) (xs : List (Node S V)) → e + length Ls ≤ 15 → All (Early (latest_finish e)) (take by.width xs) → Ready Ls (drop by.width xs)
-      → length Ls * by.width + by.width < length xs → renewed_after by (length Ls) xs ≡ labelled_after by (length Ls) xs
-  unfolding renewed_after labelled_after
-  after-is [] e xs few early ready room = ap (λ ys. take by.width xs ++ ys) (end-is (take by.width xs) (drop by.width xs) (all_mono (Early (latest_finish e)) (Early (latest_finish 15)) (λ u h. omega arith) (take by.width xs) early))
-  after-is (M ∷ Ls) e xs few early ready room =
-      let w = by.width in
-      let us = take w xs in
-      let rest = drop w xs in
-      let N = next_layer by us (take w rest) in
-      let more : suc (length Ls) * w ≡ w + length Ls * w = omega (arith, suc-mul (length Ls) w) in
-      let long : length N ≡ w = next-long by us (take w rest) ∙ length-take-le w rest (omega (arith, more, length-drop w xs)) in
-      ap (λ ys. us ++ ys)
-      (ap (λ ys. renewed_after by (length Ls) (ys ++ drop w rest))
-      (next-is ready.0.0 us (take w rest) (all_mono (Early (latest_finish e)) (Early (latest_finish 15)) (λ u h. omega arith) us early) ready.0.2)
-      ∙ after-is Ls (suc e) (N ++ drop w rest) (omega arith) (rw (take_at N (drop w rest) w long) (next-early by e us (take w rest) early))
-      (rw (drop_at N (drop w rest) w long) ready.1)
-      (omega (arith, more, long, length-append N (drop w rest), length-drop w rest, length-drop w xs)))
 
   pub begun-is : (m w : ℕ) (xs : List (Node S V)) → 1 ≤ w → m ≤ 1 → Stands Blank m (take w xs) → begun by.rule by.tally xs ≡ first_layer by.rule by.tally (take w xs) ++ drop w xs
   begun-is m zero xs low few s = absurd (omega arith)

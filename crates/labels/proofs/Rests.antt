@@ -6,9 +6,6 @@ use Rattle.std.proofs.lemmas.List.{drop_all, length-drop, length-take-le}
 pub one_more : (left w : ℕ) → left ≢ 0 → left * w ≡ (left - 1) * w + w
 one_more left w ne = let e : left ≡ left - 1 + 1 = omega arith in ap (λ n. n * w) e ∙ omega (arith, add-mul (left - 1) 1 w, one-mul w)
 
-pub one-fits : (left w m : ℕ) → left ≢ 0 → left * w < m → w < m
-one-fits left w m ne le = omega (arith, one_more left w ne)
-
 pub rest-fits : (left w m : ℕ) → left ≢ 0 → left * w < m → (left - 1) * w < m - w
 rest-fits left w m ne le = omega (arith, one_more left w ne)
 

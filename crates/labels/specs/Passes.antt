@@ -122,17 +122,6 @@ module _ {S V : Type 0} (by : Setting S V) where
   unfolding labelled
   next_layer us vs = map (labelled us vs) (range_with_len 0 (length vs))
 
-  -- the labels after the layer in front, with so many layers between it and the end
-  unfoldable pub labelled_after : ℕ → List (Node S V) → List (Node S V)
-  unfolding next_layer
-  labelled_after zero xs = let rest = drop by.width xs in take by.width xs ++ (next_layer (take by.width xs) (take 1 rest) ++ drop 1 rest)
-  labelled_after (suc k) xs = let rest = drop by.width xs in take by.width xs ++ labelled_after k (next_layer (take by.width xs) (take by.width rest) ++ drop by.width rest)
-
-  -- the whole pass
-  unfoldable pub pass_down : List (Node S V) → List (Node S V)
-  unfolding labelled_after
-  pass_down xs = labelled_after (by.round.n - 1) (first_layer by.rule by.tally (take by.width xs) ++ drop by.width xs)
-
   -- over the door k + 1 of u
   unfoldable pub crossed : Node S V → List (Node S V) → ℕ → List (Node S V)
   unfolding hit arrival_over

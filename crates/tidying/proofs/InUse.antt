@@ -1,5 +1,5 @@
 -- The nodes of a layer, its places in use, stand first
-use Rattle.std.proofs.Common.{◌≡◌, ℕ, zero, suc, ◌<◌, ◌≤◌, Bool, true, not, eqb, List, [], ◌∷◌, ◌++◌, length, map, get_or, take, drop, replicate, filter, refl, ap, inl, inr, arith}
+use Rattle.std.proofs.Common.{◌≡◌, ℕ, zero, suc, ◌<◌, ◌≤◌, Bool, true, not, eqb, List, [], ◌∷◌, ◌++◌, length, map, get_or, take, drop, replicate, filter, refl, ap, ap₂, inl, inr, arith}
 use Rattle.std.specs.List.{prefix_len}
 use Rattle.std.proofs.lemmas.Bool.{cases_Bool, cond_both}
 use Rattle.std.proofs.lemmas.List.{length-append, length-drop, length-map, length-take}
@@ -30,10 +30,6 @@ module _ {S V : Type 0} where
   nodes-past [] = refl
   nodes-past (u ∷ us) = elim (cases_Bool (is_used u)) [ inl e ↦ rw e (nodes-past us) | inr e ↦ rw (e, e) refl ]
 
-  -- a pass over the first k places, which are the nodes
-  pub pass-done : (f : List (Node S V) → List (Node S V)) (us row ys : List (Node S V)) (k : ℕ) → row ≡ us → k ≡ length (nodes_in row) → take k row ≡ nodes_in row → ys ≡ f (take k row) → ys ++ drop k row ≡ on_nodes f us
-  pass-done f us row ys k whole many first done = rw (done, first, many, whole) refl
-
   module _ (f : Node S V → Node S V) where
     pub mapped-long : (us : List (Node S V)) → length (on_nodes (map f) us) ≡ length us
     mapped-long us = omega (arith, length-append (map f (nodes_in us)) (drop (length (nodes_in us)) us), length-map (nodes_in us) f, length-drop (length (nodes_in us)) us, standing-short us)
@@ -41,6 +37,10 @@ module _ {S V : Type 0} where
     pub mapped-nodes : ((x : Node S V) → is_used (f x) ≡ is_used x) → (us : List (Node S V)) → length (nodes_in (on_nodes (map f) us)) ≡ length (nodes_in us)
     mapped-nodes keeps [] = refl
     mapped-nodes keeps (u ∷ us) = elim (cases_Bool (is_used u)) [ inl e ↦ rw (e, keeps u, e) (ap suc (mapped-nodes keeps us)) | inr e ↦ rw (e, e) refl ]
+
+    pub mapped-same : {Y : Type 0} (g : Node S V → Y) → ((x : Node S V) → g (f x) ≡ g x) → (us : List (Node S V)) → map g (on_nodes (map f) us) ≡ map g us
+    mapped-same g keeps [] = refl
+    mapped-same g keeps (u ∷ us) = elim (cases_Bool (is_used u)) [ inl e ↦ rw e (ap₂ (λ y ys. y ∷ ys) (keeps u) (mapped-same g keeps us)) | inr e ↦ rw e refl ]
 
 module _ {S V : Type 0} (z : Node S V) where
   nodes-blank : (m : ℕ) (q : List (Node S V)) → nodes_in q ≡ [] → (c : ℕ) → get_or (nodes_in (replicate m z ++ q)) c z ≡ z

@@ -64,3 +64,12 @@ module _ {X : Type 0} (p : X → Bool) (z : X) (gone : p z ≡ false) where
   kept-targets see none (v ∷ vs) (true ∷ gs) (x ∷ R) h w e zero k = rw (h 0) (e 0 k refl)
   kept-targets see none (v ∷ vs) (true ∷ gs) (x ∷ R) h w e (suc c) k = rw (h 0) (kept-targets see none vs gs R (λ i. h (suc i)) (λ i f. omega (arith, w (suc i) f)) (λ i. e (suc i)) c k)
   kept-targets see none (v ∷ vs) (false ∷ gs) (x ∷ R) h w e c k = rw (h 0) (kept-targets see none vs gs R (λ i. h (suc i)) (λ i f. omega (arith, w (suc i) f)) (λ i. e (suc i)) c k)
+
+  -- as many
+  pub kept-many : (vs : List X) (gs : List Bool) (R : Layer) → Keeps vs gs → ((i : ℕ) → get_or gs i false ≡ true → i < length R) → length (compress gs R) ≡ length (filter p vs)
+  unfolding compress
+  kept-many [] gs R h w = ap length (compress-none gs R (λ i. sym (h i) ∙ gone))
+  kept-many (v ∷ vs) [] R h w = sym (ap length (none-kept (v ∷ vs) h))
+  kept-many (v ∷ vs) (g ∷ gs) [] h w = sym (ap length (none-kept (v ∷ vs) (λ i. h i ∙ false_from_ne_true (get_or (g ∷ gs) i false) (λ f. absurd (omega (arith, w i f))))))
+  kept-many (v ∷ vs) (true ∷ gs) (x ∷ R) h w = rw (h 0) (ap suc (kept-many vs gs R (λ i. h (suc i)) (λ i f. omega (arith, w (suc i) f))))
+  kept-many (v ∷ vs) (false ∷ gs) (x ∷ R) h w = rw (h 0) (kept-many vs gs R (λ i. h (suc i)) (λ i f. omega (arith, w (suc i) f)))

@@ -1,10 +1,11 @@
 pub mod Counts
 pub mod InUse
-mod Lists
+pub mod Lists
 mod Marks
 mod Numbers
 mod Kept
 mod Nets
+pub mod Places
 mod Renewed
 pub mod Steps
 pub mod Targets

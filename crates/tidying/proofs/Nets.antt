@@ -1,5 +1,5 @@
 -- Tidying records with the arcs of a net leaves records with the arcs of the tidied net
-use Rattle.std.proofs.Common.{◌≡◌, ℕ, zero, suc, ◌*◌, ◌<◌, ◌≤◌, Bool, true, false, if◌then◌else◌, ◌⊎◌, List, [], ◌∷◌, length, get_or, take, drop, replicate, Some, None, Option, sym, refl, ap, ◌∙◌, subst, ap₂, inl, inr, suc-mul, arith}
+use Rattle.std.proofs.Common.{◌≡◌, ℕ, zero, suc, ◌*◌, ◌<◌, ◌≤◌, Bool, true, false, if◌then◌else◌, ◌⊎◌, List, [], ◌∷◌, length, get_or, take, drop, replicate, filter, Some, None, Option, sym, refl, ap, ◌∙◌, subst, ap₂, inl, inr, suc-mul, arith}
 use Rattle.std.proofs.lemmas.Bool.{false_from_ne_true, true_from_ne_false, true≢false}
 use Rattle.std.proofs.lemmas.Bool.Decides.{same_from_decides}
 use Rattle.std.proofs.lemmas.List.{length-drop}
@@ -14,7 +14,7 @@ use Rattle.layers.proofs.Tied.{flags-back, redirect-back, redirect-length, marke
 use Rattle.tidying.specs.Tidied.{lively, reached_next, numbers, tidied, first_mark}
 use Rattle.tidying.proofs.InUse.{nodes-few}
 use Rattle.tidying.proofs.Lists.{get_or-blank, zero-or-suc}
-use Rattle.tidying.proofs.Kept.{compress-one, kept-rank, kept-targets}
+use Rattle.tidying.proofs.Kept.{compress-one, kept-many, kept-rank, kept-targets}
 use Rattle.tidying.proofs.Marks.{On, reached-on, on-reached, set-on}
 use Rattle.tidying.proofs.Renewed.{dead, arc-in, renewed-layer, renewed-sent, renewed-live, numbers-zero, number-is, block-nodes}
 use Rattle.tidying.proofs.Steps.{block, front, back}
@@ -137,6 +137,10 @@ module _ {S V : Type 0} (w : ℕ) (z : Node S V) (bare : Bare z) (small : w < 25
       unfolding renumber
       number-flag a = number-is w z bare small (length Ls) from xs a ∙ ap₂ (λ (q : Bool) (n : ℕ). if q then suc n else 0) (live a) (kept-rank lively z (dead w z bare small) vs gs a live)
 
+      -- as many stay
+      block-many : length (compress gs RL) ≡ length (filter lively vs)
+      block-many = kept-many lively z (dead w z bare small) vs gs RL live flag-in
+
       block-like : (c : ℕ) → Like (get_or (nodes_in (block w z (length Ls) from xs)) c z) (node (compress gs RL) c)
       block-like c k =
           kept-targets lively z (dead w z bare small) targets bare vs gs RL live flag-in (λ i k e. moved i (flag-on i e) k) c k
@@ -185,9 +189,33 @@ module _ {S V : Type 0} (w : ℕ) (z : Node S V) (bare : Bare z) (small : w < 25
             (tidy-likes Ls next (marks_next fr L (width Ls)) (drop w xs) (omega (arith, more, length-drop w xs)) like.1 agree),
       )
 
-  first-back : (a : ℕ) → get_or {A = Option Mark} (Some tt ∷ []) a None ≡ Some tt → On first_mark (suc a)
-  first-back zero e = refl
-  first-back (suc a) e = absurd cc
+  -- the layers keep as many nodes
+  abbrev pub Many : Net → Net → List Bool → List (Node S V) → Type 0
+  Many [] [] from xs = Unit {0}
+  Many [] (M ∷ Ms) from xs = ⊥
+  Many (L ∷ Ls) [] from xs = ⊥
+  Many (L ∷ Ls) (M ∷ Ms) from xs = (length M ≡ length (filter lively (renewed-layer w z bare small (length Ls) from xs))) × Many Ls Ms (reached_next from (nodes_in (take w xs))) (drop w xs)
+
+  tidy-many : (Ls : Net) (from : List Bool) (fr : List (Option Mark)) (xs : List (Node S V)) → Likes Ls xs → Agree (width Ls) from fr → Many Ls (tidy fr Ls) from xs
+  unfolding tidy
+  tidy-many [] from fr xs like same = tt
+  tidy-many (L ∷ Ls) from fr xs like same =
+      let here : (a : ℕ) → On from (suc a) ⊎ (a < length L) → Like (get_or (nodes_in (take w xs)) a z) (node L a) = λ a o. like.0 a in
+      let next = reached_next from (nodes_in (take w xs)) in
+      let agree = marks-agree L Ls from fr xs here same in
+      (block-many L Ls from fr xs here same (numbers-are Ls next (marks_next fr L (width Ls)) (drop w xs) like.1 agree), tidy-many Ls next (marks_next fr L (width Ls)) (drop w xs) like.1 agree)
+
+  first-agree : (n : ℕ) → Agree n first_mark (Some tt ∷ [])
+  first-agree n = record { to = λ a on lt. rw (first-on a on); back = λ a e lt. back a e }
+    where
+      back : (a : ℕ) → get_or {A = Option Mark} (Some tt ∷ []) a None ≡ Some tt → On first_mark (suc a)
+      back zero e = refl
+      back (suc a) e = absurd cc
+
+  pub first-many : (L : Layer) (Ls : Net) (xs : List (Node S V)) → Likes (L ∷ Ls) xs → Many Ls (tidy (marks_next (Some tt ∷ []) L (width Ls)) Ls) (reached_next first_mark (nodes_in (take w xs))) (drop w xs)
+  first-many L Ls xs like =
+      let fr : List (Option Mark) = Some tt ∷ [] in
+      tidy-many Ls (reached_next first_mark (nodes_in (take w xs))) (marks_next fr L (width Ls)) (drop w xs) like.1 (marks-agree L Ls first_mark fr xs (λ a o. like.0 a) (first-agree (length L)))
 
   -- the whole list, in which the first node alone is reached
   pub first-likes : (L : Layer) (Ls : Net) (xs : List (Node S V)) → length L ≡ 1 → suc (length Ls) * w ≤ length xs → Like (get_or (nodes_in (take w xs)) 0 z) (node L 0) → Likes Ls (drop w xs)
@@ -198,7 +226,7 @@ module _ {S V : Type 0} (w : ℕ) (z : Node S V) (bare : Bare z) (small : w < 25
       let fr : List (Option Mark) = Some tt ∷ [] in
       let here : (a : ℕ) → On first_mark (suc a) ⊎ (a < length L) → Like (get_or (nodes_in (take w xs)) a z) (node L a) =
       λ a o. (let e : a ≡ 0 = elim o [ inl on ↦ first-on a on | inr lt ↦ omega arith ] in subst (λ a. Like (get_or (nodes_in (take w xs)) a z) (node L a)) (sym e) like) in
-      let same : Agree (length L) first_mark fr = record { to = λ a on lt. rw (first-on a on); back = λ a e lt. first-back a e } in
+      let same = first-agree (length L) in
       let next = reached_next first_mark (nodes_in (take w xs)) in
       let agree = marks-agree L Ls first_mark fr xs here same in (
         (λ a. rw (front w z (length Ls) first_mark xs (omega (arith, more)))

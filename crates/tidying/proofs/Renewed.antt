@@ -52,7 +52,7 @@ module _ {S V : Type 0} (w : ℕ) (z : Node S V) (bare : Bare z) (small : w < 25
     abbrev pub renewed-layer : List (Node S V)
     renewed-layer = renewals z from new us
 
-    long : length renewed-layer ≡ length us
+    pub long : length renewed-layer ≡ length us
     unfolding renewals
     long = length-map-range_with_len (renew_at z from new us) 0 (length us)
 
@@ -100,15 +100,16 @@ module _ {S V : Type 0} (w : ℕ) (z : Node S V) (bare : Bare z) (small : w < 25
           omega (arith, none, number-is a, ap (λ (q : Bool). if q then suc (length (filter lively (take a renewed-layer))) else 0) l))
     ]
 
+    -- and are in use
+    pub live-used : (a : ℕ) → lively (get_or renewed-layer a z) ≡ true → is_used (get_or renewed-layer a z) ≡ true
+    live-used a live =
+        let l = renewed-live a live in
+        let lt = (arc-in us a l.1 l.2 l.3).0 in
+        ap is_used (at a lt ∙ renewed-on z new (get_or us a z) (get_or from (suc a) false) l.0) ∙ nodes-used (take w xs) a z lt
+
     -- read as nodes, what the layer becomes are those with arcs
     pub block-nodes : (c : ℕ) → get_or (nodes_in (block w z r from xs)) c z ≡ get_or (filter lively renewed-layer) c z
     unfolding together
     block-nodes c =
         let n = length renewed-layer - length (filter lively renewed-layer) in
-        rw append_assoc (nodes-moved z lively renewed-layer n (drop (length us) (take w xs)) (nodes-past (take w xs)) used c)
-      where
-        used : (a : ℕ) → lively (get_or renewed-layer a z) ≡ true → is_used (get_or renewed-layer a z) ≡ true
-        used a live =
-            let l = renewed-live a live in
-            let lt = (arc-in us a l.1 l.2 l.3).0 in
-            ap is_used (at a lt ∙ renewed-on z new (get_or us a z) (get_or from (suc a) false) l.0) ∙ nodes-used (take w xs) a z lt
+        rw append_assoc (nodes-moved z lively renewed-layer n (drop (length us) (take w xs)) (nodes-past (take w xs)) live-used c)

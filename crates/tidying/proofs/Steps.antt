@@ -34,22 +34,23 @@ module _ {S V : Type 0} (w : ℕ) (z : Node S V) where
   abbrev pub block : ℕ → List Bool → List (Node S V) → List (Node S V)
   block r from xs = on_nodes (λ us. together z (renewals z from (numbers w z r (reached_next from (nodes_in (take w xs))) (drop w xs)) us)) (take w xs)
 
+  pub together-long : (us : List (Node S V)) → length (together z us) ≡ length us
+  unfolding together
+  together-long us =
+      let n = length us - length (filter lively us) in
+      omega (arith, length-append (filter lively us) (replicate n z), length-replicate n z, length-filter lively us, count_by-le-length lively us)
+
   pub block-long : (r : ℕ) (from : List Bool) (xs : List (Node S V)) → w ≤ length xs → length (block r from xs) ≡ w
-  unfolding together renewals
+  unfolding renewals
   block-long r from xs fits =
       let us = nodes_in (take w xs) in
       let new = numbers w z r (reached_next from us) (drop w xs) in
       let vs = renewals z from new us in
-      let n = length vs - length (filter lively vs) in
-      let many = length-map-range_with_len (renew_at z from new us) 0 (length us) in
       omega (
         arith,
         length-append (together z vs) (drop (length us) (take w xs)),
-        length-append (filter lively vs) (replicate n z),
-        length-replicate n z,
-        length-filter lively vs,
-        count_by-le-length lively vs,
-        many,
+        together-long vs,
+        length-map-range_with_len (renew_at z from new us) 0 (length us),
         length-drop (length us) (take w xs),
         standing-short (take w xs),
         length-take-le w xs fits,

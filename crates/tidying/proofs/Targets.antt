@@ -1,6 +1,5 @@
 -- The targets of a record, and counts of arcs
-use Rattle.std.proofs.Common.{◌≡◌, ℕ, zero, suc, ◌+◌, ◌<◌, true, false, if◌then◌else◌, not, ◌==◌, ◌≢◌, List, [], ◌∷◌, ◌++◌, map, length, get_or, take, drop, set, sum_by, count_by, sym, refl, ap, ◌∙◌, arith, take-append-drop}
-use Rattle.std.specs.List.{range_with_len}
+use Rattle.std.proofs.Common.{◌≡◌, ℕ, zero, suc, ◌+◌, ◌<◌, true, false, if◌then◌else◌, not, ◌==◌, ◌≢◌, List, [], ◌∷◌, ◌++◌, length, get_or, take, drop, set, sum_by, count_by, sym, refl, ap, ◌∙◌, arith, take-append-drop}
 use Rattle.std.proofs.lemmas.Bool.Decides.{nat_tests}
 use Rattle.std.proofs.lemmas.List.FromFn.{fill_by_all, get_or-map-range_with_len}
 use Rattle.std.proofs.lemmas.List.Sums.{sum_by-append, sum_by-cons, sum_by-set}
@@ -36,14 +35,6 @@ doors-counted (suc b ∷ ts) = grind (arith, nat_tests, sum_by-cons one_if (suc 
 pub arcs_counted : {S V : Type 0} (x : Node S V) → length x.arcs.to ≡ 16 → arcs_of x ≡ count_by (λ t. not (t == 0)) x.arcs.to
 unfolding arcs_of
 arcs_counted x long = doors-counted (targets x) ∙ ap (sum_by one_if) (targets_read x long)
-
--- read door by door, and written so
-pub arcs_read : {S V : Type 0} (x : Node S V) → arcs_of x ≡ sum_by one_if (map (λ k. get_or x.arcs.to k 0) (range_with_len 0 16))
-unfolding arcs_of targets
-arcs_read x = doors-counted (targets x)
-
-pub arcs_written : {S V : Type 0} (f : ℕ → ℕ) (x : Node S V) → x.arcs.to ≡ map f (range_with_len 0 16) → arcs_of x ≡ sum_by one_if (map f (range_with_len 0 16))
-arcs_written f x e = arcs_counted x (ap length e) ∙ ap (sum_by one_if) e
 
 pub arcs-summed : {S V : Type 0} (xs : List (Node S V)) → arcs_within xs ≡ sum_by arcs_of xs
 unfolding arcs_within arcs_of count_layer

@@ -1,4 +1,4 @@
--- Where records are arranged as a net, tidying them is tidying the net; and what stands after the layers stays
+-- Where records are arranged as a net, tidying them is tidying the net
 use Rattle.std.proofs.Common.{◌≡◌, ℕ, zero, suc, ◌+◌, ◌-◌, ◌*◌, ◌<◌, ◌≤◌, Bool, true, false, List, [], ◌∷◌, ◌++◌, map, length, get_or, take, drop, replicate, filter, sym, refl, ap, ◌∙◌, subst, inl, inr, suc-mul, arith}
 use Rattle.std.specs.List.{All, range_with_len}
 use Rattle.std.proofs.lemmas.Bool.{cases_lt}
@@ -18,19 +18,19 @@ use Rattle.tidying.specs.Tidied.{lively, reached_next, renewed, renew_at, renewa
 use Rattle.tidying.proofs.Lists.{get_or-blank, get_or-filled}
 use Rattle.tidying.proofs.Nets.{Like, Likes, first-likes}
 use Rattle.tidying.proofs.Renewed.{renewed-layer, block-nodes}
-use Rattle.tidying.proofs.Steps.{block, block-long, front, back, tail-is}
+use Rattle.tidying.proofs.Steps.{block, block-long, front, back}
 use Rattle.tidying.proofs.Targets.{Bare, length-targets}
 
 padded-same : (nd : Outs) (k : ℕ) → length nd ≤ 16 → get_or (padded_targets nd) k 0 ≡ get_or nd k 0
 padded-same nd k short = elim (cases_lt k 16) [ inl lt ↦ padded-at nd k lt | inr ge ↦ get_or_past (padded_targets nd) k 0 ge ∙ sym (get_or_past nd k 0 (omega arith)) ]
 
--- each layer has places in use for all nodes of the net
+-- each layer has as many places in use as the net has nodes
 abbrev pub Standing : {S V : Type 0} → ℕ → Net → List (Node S V) → Type 0
 Standing w [] xs = Unit {0}
-Standing w (L ∷ Ls) xs = (length L ≤ length (nodes_in (take w xs))) × Standing w Ls (drop w xs)
+Standing w (L ∷ Ls) xs = (length L ≡ length (nodes_in (take w xs))) × Standing w Ls (drop w xs)
 
 module _ {S V : Type 0} (w : ℕ) (z : Node S V) (zb : z.arcs ≡ arcs_at [] 0) (small : w < 256) where
-  bare : Bare z
+  pub bare : Bare z
   bare k = ap (λ (ts : List ℕ). get_or ts k 0) (targets-is z [] (ap (λ (x : Arcs). x.to) zb)) ∙ get_or-blank {X = ℕ} 16 k 0
 
   -- ---- from arranged records to their arcs
@@ -46,9 +46,9 @@ module _ {S V : Type 0} (w : ℕ) (z : Node S V) (zb : z.arcs ≡ arcs_at [] 0) 
     | inr ge ↦ rw (get_or_past L a [] (omega arith), get_or_past (nodes_in us) a z ge) (sym (bare k))
   ]
 
-  arranged-likes : (Ls : Net) (xs : List (Node S V)) → Good w Ls → Arranged w Ls xs → Standing w Ls xs → Likes w z bare small Ls xs
+  pub arranged-likes : (Ls : Net) (xs : List (Node S V)) → Good w Ls → Arranged w Ls xs → Standing w Ls xs → Likes w z bare small Ls xs
   arranged-likes [] xs good arr st = tt
-  arranged-likes (L ∷ Ls) xs good arr st = (nodes-like L (take w xs) good.0 good.1 arr.0 st.0, arranged-likes Ls (drop w xs) good.3 arr.1 st.1)
+  arranged-likes (L ∷ Ls) xs good arr st = (nodes-like L (take w xs) good.0 good.1 arr.0 (omega (arith, st.0)), arranged-likes Ls (drop w xs) good.3 arr.1 st.1)
 
   -- no place has arcs but the nodes
   abbrev Idle : List (Node S V) → Type 0
@@ -134,20 +134,18 @@ module _ {S V : Type 0} (w : ℕ) (z : Node S V) (zb : z.arcs ≡ arcs_at [] 0) 
       rw (front w z r from xs h, back w z r from xs h) (
         block-long w z r from xs h,
         block-plain r from xs (row-plain L (take w xs) arr.0),
-        block-idle r from xs (row-idle L (take w xs) good.0 good.1 arr.0 st.0),
+        block-idle r from xs (row-idle L (take w xs) good.0 good.1 arr.0 (omega (arith, st.0))),
         tidied-solid Ls (reached_next from (nodes_in (take w xs))) (drop w xs) good.3 arr.1 st.1,
       )
 
 -- tidying the records is tidying the net
-pub tidied-arranged : {S V : Type 0} (w : ℕ) (z : Node S V) (Ls : Net) (xs : List (Node S V)) → w ≤ 128 → width Ls ≡ 1 → Good w Ls → z.arcs ≡ arcs_at [] 0 → Arranged w Ls xs → Standing w Ls xs
-    → Arranged w (tidiedNet Ls) (tidied w z (length Ls) first_mark xs)
-tidied-arranged w z [] xs le one good zb arr st = unfold tidiedNet tidied in arr
-tidied-arranged w z (L ∷ Ls) xs le one good zb arr st =
+pub tidied-arranged : {S V : Type 0} (w : ℕ) (z : Node S V) (n : ℕ) (Ls : Net) (xs : List (Node S V)) → w ≤ 128 → length Ls ≡ n → width Ls ≡ 1 → Good w Ls → z.arcs ≡ arcs_at [] 0 → Arranged w Ls xs → Standing w Ls xs
+    → Arranged w (tidiedNet Ls) (tidied w z n first_mark xs)
+tidied-arranged w z n [] xs le deep one good zb arr st = rw (← deep) (unfold tidiedNet tidied in arr)
+tidied-arranged w z n (L ∷ Ls) xs le deep one good zb arr st =
     let small : w < 256 = omega arith in
     let ys = tidied w z (suc (length Ls)) first_mark xs in
     let like = arranged-likes w z zb small (L ∷ Ls) xs good arr st in
-    likes-arranged w z zb small (tidiedNet (L ∷ Ls)) ys (first-likes w z (bare w z zb small) small L Ls xs one (fits w z zb small (L ∷ Ls) xs arr) (like.0 0) like.1)
-    (subst (λ r. Solid w z zb small r ys) (sym ((tidy-means (L ∷ Ls) (tidiedNet (L ∷ Ls))).1 refl).layers) (tidied-solid w z zb small (L ∷ Ls) first_mark xs good arr st))
-
-pub tidied-tail : {S V : Type 0} (w : ℕ) (z : Node S V) (Ls : Net) (xs : List (Node S V)) → length Ls * w + 1 ≤ length xs → drop (length Ls * w) (tidied w z (length Ls) first_mark xs) ≡ drop (length Ls * w) xs
-tidied-tail w z Ls xs h = tail-is w z (length Ls) first_mark xs (omega arith)
+    rw (← deep)
+    (likes-arranged w z zb small (tidiedNet (L ∷ Ls)) ys (first-likes w z (bare w z zb small) small L Ls xs one (fits w z zb small (L ∷ Ls) xs arr) (like.0 0) like.1)
+    (subst (λ r. Solid w z zb small r ys) (sym ((tidy-means (L ∷ Ls) (tidiedNet (L ∷ Ls))).1 refl).layers) (tidied-solid w z zb small (L ∷ Ls) first_mark xs good arr st)))

@@ -13,6 +13,7 @@ use round::table::Round;
 pub fn count_of<S: Copy, V: Copy>(x: &Node<S, V>) -> usize
     ensures many { result ≡ arcs_of x.now }
     ensures few { result ≤ 16 }
+    ensures sixteen { length x.now.arcs.to ≡ 16 }
 {
     x.arcs.to.iter().filter(|t| **t != 0).count()
 }

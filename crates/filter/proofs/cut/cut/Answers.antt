@@ -1,11 +1,8 @@
 use Rattle.std.proofs.Common.{◌≡◌, ◌*◌, Bool, true, false, ◌&&◌, length, take, sym, ◌∙◌}
 use Rattle.std.proofs.lemmas.Bool.{cond-true, cond-false, and_parts, and_from, both_ways}
-use Rattle.layers.specs.Settings.{lent_setting}
-use Rattle.layers.specs.Labels.{is_above_ceiling}
 use Rattle.layers.specs.Calls.{after_cut}
 use Rattle.labels.specs.Passes.{fits}
 use Rattle.filter.specs.Steps.{timely, cut_steps}
-use Rattle.filter.proofs.FilterWords.{filter-words, filter-done}
 use Rattle.filter.proofs.Timely.{timely-all, timely-from}
 use Rattle.filter.proofs.cut.cut.Goals as goal
 
@@ -33,17 +30,10 @@ filter-requires g c =
 pub returns : goal.returns
 unfolding cut_steps after_cut
 returns g c =
-    let by = lent_setting c.args.by.now (g.R.Rule.sense c.args.by.now.rule.now) (g.T.Tally.sense c.args.by.now.tally.now) in
-    let n = by.round.n in
-    let W = by.width in
-    let v = c.args.ceiling in
-    let goes = is_above_ceiling by.round by.tally v in
+    let n = c.args.by.now.round.now.n in
+    let W = c.args.by.now.width in
     let xs = c.args.nodes.now in
-    let ys = c.filter.new.nodes in
     let q : Bool = fits n W (length xs) && timely (take (n * W) xs) in
     let on : q ≡ true = sym c.if-not-may_cut.ensures in
-    record {
-      steps = c.filter.ensures.steps ∙ sym (cond-true q _ _ on);
-      counted = c.filter.ensures.counted ∙ sym (cond-true q _ _ on);
-      words = λ fit s timely. filter-done by xs fit s goes ys c.filter.result c.filter.auto.nodes (c.filter.ensures.steps ∙ filter-words by xs fit s goes) c.filter.ensures.counted;
-    }
+    let f = c.filter.ensures in
+    record { steps = f.steps ∙ sym (cond-true q _ _ on); counted = f.counted ∙ sym (cond-true q _ _ on); words = λ fit s timely. f.words s }

@@ -1,12 +1,7 @@
-use Rattle.std.proofs.Common.{ℕ, eqb, ◌-◌, List, map, length, sym, refl, ap, ◌∙◌, ap₂, add-one, arith}
-use Rattle.std.proofs.lemmas.Bool.{eq-eqb}
-use Rattle.layers.specs.declared.node.Node.{Node}
-use Rattle.layers.specs.Records.{nodes_in}
+use Rattle.std.proofs.Common.{ℕ, ◌+◌, ◌-◌, ◌&&◌, Bool, length, sym, ap, ◌∙◌, arith}
 use Rattle.labels.proofs.Rests.{rest-fits}
-use Rattle.tidying.specs.Counted.{arcs_within}
-use Rattle.filter.specs.Kept.{HasLabel, kept_node, kept_from}
-use Rattle.filter.proofs.Kept.{stay-more, stay-less}
-use Rattle.filter.proofs.Layering.{fits_here, fits_later}
+use Rattle.filter.specs.Kept.{HasLabel, all_stay}
+use Rattle.filter.proofs.Layering.{Split, stay-step, fits_here, fits_later}
 use Rattle.filter.proofs.quiet.+stay_from.Goals as goal
 
 pub nodes_stay-requires-clause-fits : goal.nodes_stay-requires-clause-fits
@@ -21,31 +16,26 @@ stay_from-requires g t c κs within =
     (omega arith, (within.0, (within.1.0, (within.1.1, (omega (arith, c.requires.layer_bound), (omega (arith, rest, c.split_at.ensures.back_len), later))))))
 
 pub returns-then-left-eq0 : goal.returns-then-left-eq0
-unfolding kept_from
+unfolding all_stay
 returns-then-left-eq0 g t c =
-    let n = arcs_within c.args.nodes.now in
-    sym (ap (λ (k : ℕ). eqb (arcs_within (kept_from (g.F.Test.goes c.args.by.now.test.now c.args.by.now.round.now) c.args.by.now.width c.args.layer k c.args.nodes.now)) n) c.if-left-eq0.true ∙ eq-eqb n n refl)
+    sym (ap (λ (k : ℕ). all_stay (g.F.Test.goes c.args.by.now.test.now c.args.by.now.round.now) c.args.by.now.width c.args.layer k c.args.nodes.now) c.if-left-eq0.true)
 
 pub returns-then-nodes_stay : goal.returns-then-nodes_stay
 returns-then-nodes_stay g t c =
     let goes = g.F.Test.goes c.args.by.now.test.now c.args.by.now.round.now in
-    let xs = c.args.nodes.now in
-    let w = c.args.by.now.width in
-    let i = c.args.layer in
-    let left = c.args.left - 1 in
     let parts = c.split_at.ensures in
-    let nodes = c.count_nodes-many.ensures.first ∙ ap nodes_in parts.front in
-    stay-more goes w i c.args.left xs c.if-left-eq0.false c.stay_from.result
-    (c.if-nodes_stay.ensures ∙ ap₂ (λ (vs us : List (Node g.row.F-State.Denot g.row.F-Value.Denot)). eqb (arcs_within (map (kept_node goes i c.args.left vs) us)) (arcs_within us)) parts.back nodes)
-    (c.stay_from.ensures ∙ ap₂ (λ (k : ℕ) (us : List (Node g.row.F-State.Denot g.row.F-Value.Denot)). eqb (arcs_within (kept_from goes w k left us)) (arcs_within us)) (add-one i) parts.back)
+    let split : Split c.args.by.now.width c.args.left c.count_nodes-many.result c.args.nodes.now c.split_at.result.0.now c.split_at.result.1.now =
+    record { some = c.if-left-eq0.false; front = parts.front; back = parts.back; many = c.count_nodes-many.ensures.many; nodes = c.count_nodes-many.ensures.first } in
+    c.stay_from.ensures
+    ∙ ap (λ (b : Bool). b && all_stay goes c.args.by.now.width (c.args.layer + 1) (c.args.left - 1) c.split_at.result.1.now) c.if-nodes_stay.ensures
+    ∙ stay-step goes c.args.by.now.width c.args.layer c.args.left _ c.args.nodes.now _ _ split
 
 pub returns-else-nodes_stay : goal.returns-else-nodes_stay
 returns-else-nodes_stay g t c =
     let goes = g.F.Test.goes c.args.by.now.test.now c.args.by.now.round.now in
-    let xs = c.args.nodes.now in
-    let w = c.args.by.now.width in
-    let i = c.args.layer in
     let parts = c.split_at.ensures in
-    let nodes = c.count_nodes-many.ensures.first ∙ ap nodes_in parts.front in
-    c.if-nodes_stay.false ∙ stay-less goes w i c.args.left xs c.if-left-eq0.false
-    (c.if-nodes_stay.ensures ∙ ap₂ (λ (vs us : List (Node g.row.F-State.Denot g.row.F-Value.Denot)). eqb (arcs_within (map (kept_node goes i c.args.left vs) us)) (arcs_within us)) parts.back nodes)
+    let split : Split c.args.by.now.width c.args.left c.count_nodes-many.result c.args.nodes.now c.split_at.result.0.now c.split_at.result.1.now =
+    record { some = c.if-left-eq0.false; front = parts.front; back = parts.back; many = c.count_nodes-many.ensures.many; nodes = c.count_nodes-many.ensures.first } in
+    c.if-nodes_stay.false
+    ∙ ap (λ (b : Bool). b && all_stay goes c.args.by.now.width (c.args.layer + 1) (c.args.left - 1) c.split_at.result.1.now) c.if-nodes_stay.ensures
+    ∙ stay-step goes c.args.by.now.width c.args.layer c.args.left _ c.args.nodes.now _ _ split

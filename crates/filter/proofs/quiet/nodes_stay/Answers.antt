@@ -1,25 +1,27 @@
-use Rattle.std.proofs.Common.{◌≡◌, get_or, ap, ◌∙◌, arith}
+use Rattle.std.proofs.Common.{◌≡◌, true, false, refl, ap, arith}
+use Rattle.std.proofs.lemmas.Bool.{eq-eqb, ne_eqb}
+use Rattle.std.proofs.lemmas.List.{drop_all, drop_more}
 use Rattle.tidying.specs.Counted.{arcs_of}
-use Rattle.filter.specs.Kept.{kept_node}
-use Rattle.filter.proofs.Kept.{sums-less, node-fewer, less-at, same-more}
+use Rattle.filter.specs.Kept.{stays}
 use Rattle.filter.proofs.quiet.nodes_stay.Goals as goal
 
 pub returns-then-thin_node-ne0 : goal.returns-then-thin_node-ne0
+unfolding stays
 returns-then-thin_node-ne0 g c =
     let at = c.args.at.now in
-    let us = c.args.us.now in
     let u = c.index-us-a.result in
-    let goes = g.F.Test.goes at.test.now at.round.now in
-    let f = kept_node goes at.layer at.left at.next.now in
-    let left : arcs_of c.thin_node.new.u ≡ arcs_of (f (get_or us c.loop-a.a u)) = ap arcs_of (c.thin_node.ensures.left ∙ ap f c.index-us-a.is) in
-    sums-less _ _ (less-at f (node-fewer goes at.layer at.left at.next.now) us c.loop-a.a u c.loop-a-test.true (omega (arith, left, ap arcs_of c.index-us-a.is, c.thin_node.ensures.gone, c.if-thin_node-ne0.true)))
+    let p = stays (g.F.Test.goes at.test.now at.round.now) at.layer at.left at.next.now in
+    let off : p u ≡ false = ne_eqb _ _ (λ e. c.if-thin_node-ne0.true (omega (arith, e, ap arcs_of c.thin_node.ensures.left, c.thin_node.ensures.gone))) in
+    rw (← c.loop-a.invariant, drop_more c.args.us.now c.loop-a.a u c.loop-a-test.true, ← c.index-us-a.is, off) refl
 
 pub loop-a-preserved : goal.loop-a-preserved
+unfolding stays
 loop-a-preserved g c =
     let at = c.args.at.now in
-    let us = c.args.us.now in
     let u = c.index-us-a.result in
-    let goes = g.F.Test.goes at.test.now at.round.now in
-    let f = kept_node goes at.layer at.left at.next.now in
-    let left : arcs_of c.thin_node.new.u ≡ arcs_of (f (get_or us c.loop-a.a u)) = ap arcs_of (c.thin_node.ensures.left ∙ ap f c.index-us-a.is) in
-    same-more f (node-fewer goes at.layer at.left at.next.now) us c.loop-a.a u c.loop-a-test.true c.loop-a.invariant (omega (arith, left, ap arcs_of c.index-us-a.is, c.thin_node.ensures.gone, c.if-thin_node-ne0.false))
+    let p = stays (g.F.Test.goes at.test.now at.round.now) at.layer at.left at.next.now in
+    let on : p u ≡ true = eq-eqb _ _ (omega (arith, c.if-thin_node-ne0.false, ap arcs_of c.thin_node.ensures.left, c.thin_node.ensures.gone)) in
+    rw (← c.loop-a.invariant, drop_more c.args.us.now c.loop-a.a u c.loop-a-test.true, ← c.index-us-a.is, on) refl
+
+pub returns : goal.returns
+returns g c = rw (← c.loop-a.invariant, drop_all c.loop-a.a c.args.us.now (omega arith)) refl

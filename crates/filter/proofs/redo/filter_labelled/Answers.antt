@@ -1,49 +1,36 @@
-use Rattle.std.proofs.Common.{◌≡◌, ◌*◌, true, false, length, drop, sym, ap, ◌∙◌, arith}
+use Rattle.std.proofs.Common.{◌≡◌, ◌-◌, true, false, map, length, ap, sym, ◌∙◌}
 use Rattle.std.proofs.lemmas.Bool.{cond-true, cond-false, eq-eqb, ne_eqb}
 use Rattle.layers.specs.Settings.{lent_setting}
-use Rattle.labels.proofs.Rooms.{room-facts}
-use Rattle.filter.specs.Steps.{none_goes, redone, filter_labelled_steps}
-use Rattle.tidying.specs.Counted.{arcs_within}
-use Rattle.filter.proofs.Kept.{count-whole, none-counted}
-use Rattle.filter.proofs.Relabelled.{filter-tail}
+use Rattle.labels.specs.Passes.{fits, relabelled_used}
+use Rattle.labels.proofs.Climbs.{arcs_of}
+use Rattle.filter.specs.Steps.{arc_count, none_goes, thinned, filter_labelled_steps}
+use Rattle.filter.proofs.FilterWords.{labelled-done}
+use Rattle.filter.proofs.Relabelled.{same-count, used-arcs}
 use Rattle.filter.proofs.redo.filter_labelled.Goals as goal
 
-pub take_from-gone-requires : goal.take_from-gone-requires
-take_from-gone-requires g c =
-    let f = room-facts c.args.by.now.round.now.n c.args.by.now.width (length c.args.nodes.now) c.requires.room in
-    record { layer_bound = omega arith; width_in_bounds = omega (arith, f.enough); width_bound = f.high; fits = c.requires.fits }
-
-pub returns-then-gone-eq0 : goal.returns-then-gone-eq0
+pub returns-then-lost-ne0 : goal.returns-then-lost-ne0
 unfolding filter_labelled_steps
-returns-then-gone-eq0 g c =
-    let r = c.args.by.now.round.now in
-    let W = c.args.by.now.width in
-    let xs = c.args.nodes.now in
-    let goes = g.F.Test.goes c.args.test.now r in
-    let gone = c.if-gone-eq0.true in
-    let same = c.take_from-gone.ensures.none gone in
-    let none : none_goes goes r.n W xs ≡ true = none-counted goes r.n W xs (room-facts r.n W (length xs) c.requires.room).enough _ c.take_from-gone.ensures.left _ c.take_from-gone.ensures.gone ∙ eq-eqb _ 0 gone in
-    record {
-      steps = same ∙ sym (cond-true (none_goes goes r.n W xs) _ _ none);
-      none = sym none;
-      counted = rw same (omega arith);
-    }
-
-pub returns : goal.returns
-unfolding filter_labelled_steps
-returns g c =
+returns-then-lost-ne0 g c =
     let by = lent_setting c.args.by.now (g.R.Rule.sense c.args.by.now.rule.now) (g.T.Tally.sense c.args.by.now.tally.now) in
     let n = by.round.n in
     let W = by.width in
     let xs = c.args.nodes.now in
-    let goes = g.F.Test.goes c.args.test.now by.round in
-    let gone = c.if-gone-eq0.false in
-    let enough = (room-facts n W (length xs) c.requires.room).enough in
-    let none : none_goes goes n W xs ≡ false = none-counted goes n W xs enough _ c.take_from-gone.ensures.left _ c.take_from-gone.ensures.gone ∙ ne_eqb _ 0 gone in
-    let is = c.redo.ensures.records ∙ ap (redone by) c.take_from-gone.ensures.left in
-    let tail = ap (λ ws. arcs_within (drop (n * W) ws)) is ∙ filter-tail by goes xs (omega (arith, enough)) in
-    record {
-      steps = is ∙ sym (cond-false (none_goes goes n W xs) _ _ none);
-      none = ne_eqb _ 0 (λ e. gone (omega (arith, e))) ∙ sym none;
-      counted = omega (arith, count-whole n W xs, count-whole n W c.redo.new.nodes, c.take_from-gone.ensures.gone, c.redo.ensures.lost, tail);
-    }
+    let ys = c.thin-lost.new.nodes in
+    let q = none_goes (g.F.Test.goes c.args.test.now by.round) n W xs in
+    let some : q ≡ false = sym c.thin-lost.ensures.none ∙ ne_eqb _ 0 c.if-lost-ne0.true in
+    let room : fits n W (length ys) ≡ true = ap (fits n W) c.thin-lost.auto.nodes ∙ c.requires.room in
+    let is : c.relabel_used.new.nodes ≡ relabelled_used by ys = c.relabel_used.ensures.passes ∙ cond-true (fits n W (length ys)) _ _ room in
+    let steps = is ∙ ap (relabelled_used by) c.thin-lost.ensures.steps ∙ sym (cond-false q _ _ some) in
+    let counted : c.thin-lost.result ≡ arc_count n W xs - arc_count n W c.relabel_used.new.nodes =
+    c.thin-lost.ensures.counted ∙ ap (λ m. arc_count n W xs - m) (same-count n W ys c.relabel_used.new.nodes (sym (ap (map arcs_of) is ∙ used-arcs by ys))) in
+    record { steps = steps; counted = counted; words = labelled-done by xs _ c.requires.room _ _ (c.relabel_used.auto.nodes ∙ c.thin-lost.auto.nodes) counted steps }
+
+pub returns-else-lost-ne0 : goal.returns-else-lost-ne0
+unfolding filter_labelled_steps thinned
+returns-else-lost-ne0 g c =
+    let by = lent_setting c.args.by.now (g.R.Rule.sense c.args.by.now.rule.now) (g.T.Tally.sense c.args.by.now.tally.now) in
+    let q = none_goes (g.F.Test.goes c.args.test.now by.round) by.round.n by.width c.args.nodes.now in
+    let none : q ≡ true = sym c.thin-lost.ensures.none ∙ eq-eqb _ 0 c.if-lost-ne0.false in
+    let steps = c.thin-lost.ensures.steps ∙ cond-true q _ _ none ∙ sym (cond-true q _ _ none) in
+    let counted = c.thin-lost.ensures.counted in
+    record { steps = steps; counted = counted; words = labelled-done by c.args.nodes.now _ c.requires.room _ _ c.thin-lost.auto.nodes counted steps }

@@ -1,12 +1,10 @@
-use Rattle.std.proofs.Common.{◌≡◌, ℕ, suc, ◌-◌, List, ◌++◌, map, length, take, drop, sym, ap, ◌∙◌, ap₂, add-one, arith, take-append-drop}
+use Rattle.std.proofs.Common.{◌≡◌, ℕ, ◌-◌, length, sym, ap, arith, take-append-drop}
 use Rattle.std.proofs.lemmas.List.{length-take}
-use Rattle.layers.specs.declared.node.Node.{Node}
 use Rattle.labels.proofs.Rests.{rest-fits}
-use Rattle.tidying.specs.InUse.{on_nodes}
-use Rattle.tidying.proofs.InUse.{pass-done}
+use Rattle.labels.proofs.Rooms.{few-records}
 use Rattle.tidying.proofs.Targets.{layer-less}
-use Rattle.filter.specs.Kept.{HasLabel, kept_node, kept_from}
-use Rattle.filter.proofs.Layering.{few_records, kept-more, fits_here, fits_later}
+use Rattle.filter.specs.Kept.{HasLabel, kept_from}
+use Rattle.filter.proofs.Layering.{kept-step, fits_here, fits_later}
 use Rattle.filter.proofs.take.+take_from.Goals as goal
 
 pub returns-then-left-eq0-clause-left : goal.returns-then-left-eq0-clause-left
@@ -28,26 +26,16 @@ take_from-later-requires g t c κs within =
 
 pub returns-clause-left : goal.returns-clause-left
 returns-clause-left g t c =
-    let goes = g.F.Test.goes c.args.by.now.test.now c.args.by.now.round.now in
-    let xs = c.args.nodes.now in
-    let w = c.args.by.now.width in
-    let i = c.args.layer in
-    let left = c.args.left - 1 in
+    let by = c.args.by.now in
     let parts = c.split_at_mut-us.ensures in
-    let row = c.split_at_mut-us.result.0.now in
-    let k = c.count_nodes-many.result in
-    let f = map (kept_node goes i c.args.left (drop w xs)) in
-    let here : c.thin_nodes-here.new.us ++ drop k row ≡ on_nodes f (take w xs) =
-    pass-done f (take w xs) row c.thin_nodes-here.new.us k parts.front c.count_nodes-many.ensures.many c.count_nodes-many.ensures.first
-    (c.thin_nodes-here.ensures.left ∙ ap (λ (vs : List (Node g.row.F-State.Denot g.row.F-Value.Denot)). map (kept_node goes i c.args.left vs) (take k row)) parts.back) in
-    let rest : c.take_from-later.new.nodes ≡ kept_from goes w (suc i) left (drop w xs) =
-    c.take_from-later.ensures.left ∙ ap₂ (λ (k : ℕ) (us : List (Node g.row.F-State.Denot g.row.F-Value.Denot)). kept_from goes w k left us) (add-one i) parts.back in
-    ap₂ (λ (us vs : List (Node g.row.F-State.Denot g.row.F-Value.Denot)). us ++ vs) here rest ∙ sym (kept-more goes w i c.args.left xs c.if-left-eq0.false)
+    kept-step (g.F.Test.goes by.test.now by.round.now) by.width c.args.layer c.args.left _ c.args.nodes.now _ _ _ _
+    (record { some = c.if-left-eq0.false; front = parts.front; back = parts.back; many = c.count_nodes-many.ensures.many; nodes = c.count_nodes-many.ensures.first })
+    c.thin_nodes-here.ensures.left c.take_from-later.ensures.left
 
 pub overflow_add-result : goal.overflow_add-result
 overflow_add-result g t c =
     let short = length-take c.count_nodes-many.result c.split_at_mut-us.result.0.now in
-    omega (arith, short, few_records (c.args.left - 1) c.args.by.now.width (omega (arith, c.requires.layer_bound)) c.requires.width_bound, c.thin_nodes-here.ensures.few, c.split_at_mut-us.ensures.front_len, c.take_from-later.ensures.few)
+    omega (arith, short, few-records (c.args.left - 1) c.args.by.now.width (omega (arith, c.requires.layer_bound)) c.requires.width_bound, c.thin_nodes-here.ensures.few, c.split_at_mut-us.ensures.front_len, c.take_from-later.ensures.few)
 
 pub returns-clause-gone : goal.returns-clause-gone
 returns-clause-gone g t c =
