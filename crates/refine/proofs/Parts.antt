@@ -1,5 +1,5 @@
 -- Parting on arcs: the new node is a copy of an old one, its label too. So are the labels of the parted net, as far as relabelling from the layer on rests on them.
-use Rattle.std.proofs.Common.{◌≡◌, ℕ, zero, suc, ◌+◌, ◌-◌, ◌*◌, ◌<◌, ◌≤◌, Bool, cond, ◌&&◌, eqb, List, [], ◌∷◌, ◌++◌, map, length, get_or, take, drop, set, Some, None, Option, sym, refl, ap, ◌∙◌, subst, ap₂, ⊎_elim, append_assoc, suc-mul, zero-mul, arith}
+use Rattle.std.proofs.Common.{◌≡◌, ℕ, zero, suc, ◌+◌, ◌-◌, ◌*◌, ◌<◌, ◌≤◌, Bool, ◌&&◌, eqb, List, [], ◌∷◌, ◌++◌, map, length, get_or, take, drop, set, Some, None, Option, sym, refl, ap, ◌∙◌, subst, ap₂, ⊎_elim, append_assoc, suc-mul, zero-mul, arith}
 use lib.Seq.{take-set-lt, take-append-add}
 use lib.ListN.{get_or-map as get_or-mapped}
 use Rattle.std.proofs.lemmas.Bool.{cases_lt, cond_both, eqb-true, and_parts}
@@ -21,7 +21,7 @@ use Rattle.layers.proofs.Flows.{table_at}
 use Rattle.layers.proofs.Model.{moved, or_blank, or_no_up}
 use Rattle.layers.proofs.Standing.{full}
 use Rattle.layers.proofs.Tied.{redirect-length}
-use Rattle.labels.specs.Passes.{part, arrivals, blank_node}
+use Rattle.labels.specs.Passes.{part, arrivals, blank_node, unused_label}
 use Rattle.labels.proofs.Climbs.{down_of, up_of}
 use Rattle.labels.proofs.Laying.{arcs_of, Arranged, split}
 use Rattle.split.specs.Parted.{parted_node, parted_second}
@@ -60,10 +60,6 @@ first-row : {X : Type 0} (w n : ℕ) (f : ℕ → X) (xs later : List X) → tak
 first-row w n f xs later =
     let e : suc n * w ≡ length (table w f) + n * w = omega (arith, suc-mul n w, table-long w f) in
     ap₂ (λ (k : ℕ) ys. take k ys) e (append_assoc (table w f) xs later) ∙ take-append-add (table w f) (xs ++ later) (n * w)
-
--- the label of a place that is not in use
-abbrev unused_of : {S V : Type 0} → Node S V → Option (Label S V)
-unused_of x = cond (eqb x.label.down.lasts 0) (Some x.label) None
 
 -- ---- upward sets
 abbrev climbing_from : List (Option Up) → Outs → Option Up
@@ -198,13 +194,13 @@ module _ {S V : Type 0} (by : Setting S V) where
         ap (map up_of) (append_assoc (table w f) xs later) ∙ map-append up_of (table w f) (xs ++ later)
         ∙ ap₂ (λ ys zs. ys ++ zs) (map-table up_of w f ∙ row-if up_at [] us (λ k. or_no_up (get_or us k None)) (λ k lt. refl) (λ k ge. ap or_no_up (get_or_past us k None ge))) (ups-laid (labels_next by labs L (width Ls)) Ls)
 
-    places-laid : (one : 1 ≤ w) (labs : List (Option (Down S V))) (Ls : Net) → Full by one labs Ls → map unused_of (take (length Ls * w) (labelled_from by labs Ls ++ later)) ≡ rows place [] Ls
-    places-laid one labs [] h = ap (λ (k : ℕ). map unused_of (take k (labelled_from by labs [] ++ later))) (zero-mul w)
+    places-laid : (one : 1 ≤ w) (labs : List (Option (Down S V))) (Ls : Net) → Full by one labs Ls → map (unused_label by) (take (length Ls * w) (labelled_from by labs Ls ++ later)) ≡ rows place [] Ls
+    places-laid one labs [] h = ap (λ (k : ℕ). map (unused_label by) (take k (labelled_from by labs [] ++ later))) (zero-mul w)
     places-laid one labs (L ∷ Ls) h =
         let us = ups (L ∷ Ls) in
-        front-row unused_of (length Ls) labs L Ls later
-        ∙ ap₂ (λ ys zs. ys ++ zs) (row-if place [] us (λ k. unused_of (record_of_place by L labs us k)) (λ k lt. let l = h.0.filled.there k (omega (arith, ups-long L Ls)) in rw (l.1, h.0.filled.lasting k l.0 l.1))
-        (λ k ge. ap₂ (λ o u. unused_of (record { arcs = arcs_at L k; label = record { down = or_blank by.rule by.tally o; up = or_no_up u } })) (get_or_past labs k None (omega (arith, h.0.filled.long, ups-long L Ls))) (get_or_past us k None ge)))
+        front-row (unused_label by) (length Ls) labs L Ls later
+        ∙ ap₂ (λ ys zs. ys ++ zs) (row-if place [] us (λ k. unused_label by (record_of_place by L labs us k)) (λ k lt. let l = h.0.filled.there k (omega (arith, ups-long L Ls)) in rw (l.1, h.0.filled.lasting k l.0 l.1))
+        (λ k ge. ap₂ (λ o u. unused_label by (record { arcs = arcs_at L k; label = record { down = or_blank by.rule by.tally o; up = or_no_up u } })) (get_or_past labs k None (omega (arith, h.0.filled.long, ups-long L Ls))) (get_or_past us k None ge)))
         (places-laid one (labels_next by labs L (width Ls)) Ls h.1)
 
     downs-laid : (c : ℕ) (labs : List (Option (Down S V))) (Ls : Net) → c ≤ length Ls → map down_of (take (c * w) (labelled_from by labs Ls ++ later)) ≡ downs c labs Ls
@@ -241,11 +237,11 @@ module _ {S V : Type 0} (by : Setting S V) where
     pub record Stands (d : ℕ) (Ls : Net) (xs : List (Node S V)) : Type 0 where
       pub ups : map up_of xs ≡ map up_of (labelled_records by Ls ++ later)
       pub downs : map down_of (take (suc d * w) xs) ≡ map down_of (take (suc d * w) (labelled_records by Ls ++ later))
-      pub places : map unused_of (take (by.round.n * w) xs) ≡ map unused_of (take (by.round.n * w) (labelled_records by Ls ++ later))
+      pub places : map (unused_label by) (take (by.round.n * w) xs) ≡ map (unused_label by) (take (by.round.n * w) (labelled_records by Ls ++ later))
 
-    places-all : (Ls : Net) → IsLawful by.round.n w Ls → map unused_of (take (by.round.n * w) (labelled_records by Ls ++ later)) ≡ rows place [] Ls
+    places-all : (Ls : Net) → IsLawful by.round.n w Ls → map (unused_label by) (take (by.round.n * w) (labelled_records by Ls ++ later)) ≡ rows place [] Ls
     unfolding labelled_records
-    places-all Ls p = subst (λ (k : ℕ). map unused_of (take (k * w) (labelled_from by (first_labels by.rule by.tally) Ls ++ later)) ≡ rows place [] Ls) p.deep (places-laid later one (first_labels by.rule by.tally) Ls (full by one later Ls p))
+    places-all Ls p = subst (λ (k : ℕ). map (unused_label by) (take (k * w) (labelled_from by (first_labels by.rule by.tally) Ls ++ later)) ≡ rows place [] Ls) p.deep (places-laid later one (first_labels by.rule by.tally) Ls (full by one later Ls p))
 
     pub parted-stands : (d a m : ℕ) (ls : List (Option (Down S V))) (Ls : Net) (xs : List (Node S V)) → Known by d Ls xs → IsLawful by.round.n w (parted_arcs by d a ls Ls) → m ≡ length (get_or Ls (suc d) []) → a < m → m < w
         → Stands d Ls xs → Stands d (parted_arcs by d a ls Ls) (parted_one by (d * w) a m xs)
@@ -269,10 +265,10 @@ module _ {S V : Type 0} (by : Setting S V) where
           downs = sym (take-map down_of (suc d * w) ys) ∙ ap (take (suc d * w)) (labels-parted down_of (λ x f. unfold redirected in refl) stays d a m i k z xs here refl refl)
               ∙ take-set-le (suc d * w) (map down_of xs) k _ (omega arith) ∙ take-map down_of (suc d * w) xs
               ∙ s.downs ∙ downs-laid later (suc d) first Ls (omega arith) ∙ sym (downs-parted a ls d first Ls) ∙ sym (downs-laid later (suc d) first Ms (omega (arith, deep, p.deep, known.proper.deep)));
-          places = sym (take-map unused_of (n * w) ys) ∙ ap (take (n * w)) (labels-parted unused_of (λ x f. unfold redirected in refl) stays d a m i k z xs here refl refl)
-              ∙ copied-front (unused_of z) (n * w) i k (map unused_of xs) (omega (arith, suc-mul d w)) (omega (arith, suc-mul d w))
-              ∙ ap (copied (unused_of z) i k) (take-map unused_of (n * w) xs ∙ s.places ∙ places-all Ls known.proper)
-              ∙ sym (rows-parted place [] a ls (unused_of z) d i k Ls deep known.proper.tied (omega arith) (omega arith) refl ek) ∙ sym (places-all Ms p);
+          places = sym (take-map (unused_label by) (n * w) ys) ∙ ap (take (n * w)) (labels-parted (unused_label by) (λ x f. unfold redirected in refl) stays d a m i k z xs here refl refl)
+              ∙ copied-front (unused_label by z) (n * w) i k (map (unused_label by) xs) (omega (arith, suc-mul d w)) (omega (arith, suc-mul d w))
+              ∙ ap (copied (unused_label by z) i k) (take-map (unused_label by) (n * w) xs ∙ s.places ∙ places-all Ls known.proper)
+              ∙ sym (rows-parted place [] a ls (unused_label by z) d i k Ls deep known.proper.tied (omega arith) (omega arith) refl ek) ∙ sym (places-all Ms p);
         }
 
 -- the arcs of all places
