@@ -8,14 +8,17 @@ use Rattle.layers.specs.Settings.{Setting}
 use Rattle.layers.specs.Labels.{bit_of, arrival_finish, arrival_over}
 use Rattle.split.specs.declared.source.Source.{Source}
 
--- what comes by door j from a node with the label l agrees with what comes from s
-unfoldable pub kept_by : {S V : Type 0} → Round → RuleSense S → Source S V → Down S V → ℕ → Bool
-kept_by r rule s l j =
-    s.door == j
-    && (bit_or s.label.all (bit_of j) == bit_or l.all (bit_of j)
+-- what comes by door j from a node with the label l agrees with what comes from s, which comes by that door
+abbrev pub kept_there : {S V : Type 0} → Round → RuleSense S → Source S V → Down S V → ℕ → Bool
+kept_there r rule s l j =
+    bit_or s.label.all (bit_of j) == bit_or l.all (bit_of j)
     && (bit_or s.label.some (bit_of j) == bit_or l.some (bit_of j)
     && (rule.same (rule.step s.label.state j) (rule.step l.state j)
-    && arrival_finish r s.label s.door == arrival_finish r l j)))
+    && arrival_finish r s.label s.door == arrival_finish r l j))
+
+-- the same of what comes from s by any door
+unfoldable pub kept_by : {S V : Type 0} → Round → RuleSense S → Source S V → Down S V → ℕ → Bool
+kept_by r rule s l j = s.door == j && kept_there r rule s l j
 
 module _ {S V : Type 0} (by : Setting S V) where
   -- what comes over the arc of a source

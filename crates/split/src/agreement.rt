@@ -6,7 +6,7 @@ ghost use Rattle.layers.specs.declared.node.Node.{Node as ANode};
 ghost use Rattle.layers.specs.Labels.{arrival_finish, all_agree, first_arrival};
 ghost use Rattle.layers.specs.Settings.{Setting as ASetting, lent_setting};
 ghost use Rattle.labels.specs.Passes.{arrivals};
-ghost use Rattle.split.specs.Agreed.{brought_first, kept_by};
+ghost use Rattle.split.specs.Agreed.{brought_first, kept_there, kept_by};
 ghost use Rattle.split.specs.Listed.{IsListed, written};
 
 use crate::by_first::ByFirst;
@@ -28,8 +28,30 @@ pub(crate) fn finish_of<S: Copy, V: Copy>(round: &Round, u: &Down<S, V>, j: usiz
     round.finish(u.finish, leg, j)
 }
 
-/// Whether what x brings, with that finish, agrees in all, some, finish, lasts and state with what comes by door j from a node
-/// with the label u.
+/// Whether what x brings by door j, with that finish, agrees in all, some, finish and state with what comes by that door from a
+/// node with the label u.
+fn agrees_there<R: Rule, T, V: Copy>(
+    by: &Setting<'_, R, T>,
+    x: &Source<R::State, V>,
+    finish: u64,
+    u: &Down<R::State, V>,
+    j: usize,
+) -> bool
+    requires door { j < 17 }
+    requires finish { finish ≡ arrival_finish by.now.round.now x.now.label x.now.door }
+    ensures { let s = by.now in
+        result ≡ kept_there s.round.now (R.sense s.rule.now) x.now u.now j }
+{
+    let last = 1u32 << j;
+    (x.label.all | last) == (u.all | last)
+        && (x.label.some | last) == (u.some | last)
+        && by
+            .rule
+            .same(by.rule.step(x.label.state, j), by.rule.step(u.state, j))
+        && finish == finish_of(by.round, u, j)
+}
+
+/// The same of what x brings by any door, so that the last places have to agree too.
 #[tactic(auto, unfolding(crate::specs::Agreed::kept_by))]
 pub(crate) fn agrees<R: Rule, T, V: Copy>(
     by: &Setting<'_, R, T>,
@@ -43,14 +65,7 @@ pub(crate) fn agrees<R: Rule, T, V: Copy>(
     ensures { let s = by.now in
         result ≡ kept_by s.round.now (R.sense s.rule.now) x.now u.now j }
 {
-    let last = 1u32 << j;
-    x.door == j
-        && (x.label.all | last) == (u.all | last)
-        && (x.label.some | last) == (u.some | last)
-        && by
-            .rule
-            .same(by.rule.step(x.label.state, j), by.rule.step(u.state, j))
-        && finish == finish_of(by.round, u, j)
+    x.door == j && agrees_there(by, x, finish, u, j)
 }
 
 /// The first of the listed in-arcs that leads to node t.
