@@ -130,7 +130,7 @@ module _ {S V : Type 0} (by : Setting S V) (xs : List (Node S V)) (fit : fits by
       let ready = has-ready by D' xs p room.enough (ap (λ ys. map (unused_label by) (take (n * W) ys)) (sym same)) in
       let stand = left-arranged by.round W xs fit s goes in
       let blank = kept-blanks W z goes 0 n xs h (subst (λ k. Blanks W z k xs) p.deep (ready-blanks by D' xs p.roomy ready)) in
-      tidied-places by n M (kept_from goes W 0 n xs) room.high (deep-left by.round W xs fit s goes) (good-left by.round W xs fit s goes) stand.0 stand.1 (omega (arith, (kept-tail n goes W 0 n xs h).0)) blank
+      tidied-places by n M (kept_from goes W 0 n xs) room.high (deep-left by.round W xs fit s goes) (M-less.wide ∙ p.one_first) (good-left by.round W xs fit s goes) stand.0 stand.1 (omega (arith, (kept-tail n goes W 0 n xs h).0)) blank
 
   pub labelled-words : IsLabelled by xs → filter_labelled_steps by goes xs ≡ after_filter by goes xs
   unfolding filter_labelled_steps thinned

@@ -1,6 +1,6 @@
 -- What it is to be timely.
-use Rattle.std.proofs.Common.{◌≡◌, ℕ, suc, ◌≤◌, Bool, true, ◌&&◌, leb, List, [], ◌∷◌, map, get_or, refl, ap}
-use Rattle.std.specs.List.{AllByRecursion as All, list_all}
+use Rattle.std.proofs.Common.{◌≡◌, ℕ, suc, ◌≤◌, true, List, [], ◌∷◌, map, get_or, refl}
+use Rattle.std.specs.List.{AllByRecursion as All}
 use Rattle.std.proofs.lemmas.Bool.{and_parts, and_from, leb-true, le-leb}
 use Rattle.round.specs.Clock.{latest_finish}
 use Rattle.layers.specs.declared.node.Node.{Node}
@@ -8,14 +8,10 @@ use Rattle.labels.specs.Passes.{Early}
 use Rattle.filter.specs.Steps.{timely}
 
 module _ {S V : Type 0} where
-  pub timely-each : (xs : List (Node S V)) → list_all (λ (x : Node S V). leb x.label.down.finish (latest_finish 15)) xs ≡ timely xs
-  timely-each [] = refl
-  timely-each (x ∷ xs) = ap (λ (b : Bool). leb x.label.down.finish (latest_finish 15) && b) (timely-each xs)
+  pub timely_all : (xs : List (Node S V)) → timely xs ≡ true → All (Early (latest_finish 15)) xs
+  timely_all [] e = tt
+  timely_all (x ∷ xs) e = let q = and_parts _ _ e in (leb-true x.label.down.finish (latest_finish 15) q.0, timely_all xs q.1)
 
-  pub timely-all : (xs : List (Node S V)) → timely xs ≡ true → All (Early (latest_finish 15)) xs
-  timely-all [] e = tt
-  timely-all (x ∷ xs) e = let q = and_parts _ _ e in (leb-true x.label.down.finish (latest_finish 15) q.0, timely-all xs q.1)
-
-  pub timely-from : (xs : List (Node S V)) → ((k : ℕ) → get_or (map (λ (x : Node S V). x.label.down.finish) xs) k 0 ≤ latest_finish 15) → timely xs ≡ true
-  timely-from [] h = refl
-  timely-from (x ∷ xs) h = and_from _ _ (le-leb x.label.down.finish (latest_finish 15) (h 0)) (timely-from xs (λ k. h (suc k)))
+  pub timely_from : (xs : List (Node S V)) → ((k : ℕ) → get_or (map (λ (x : Node S V). x.label.down.finish) xs) k 0 ≤ latest_finish 15) → timely xs ≡ true
+  timely_from [] h = refl
+  timely_from (x ∷ xs) h = and_from _ _ (le-leb x.label.down.finish (latest_finish 15) (h 0)) (timely_from xs (λ k. h (suc k)))

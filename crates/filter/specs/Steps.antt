@@ -1,6 +1,7 @@
 -- Sweep and cut as the code does them, on any list: arcs are taken out by the labels that stand, then the list is tidied and labelled anew.
 -- Nobody has to believe these steps: the facts at the end say, in the definitions of the calls, what they come to on the records of a diagram.
-use Rattle.std.specs.Prelude.{◌≡◌, ℕ, ◌*◌, Bool, true, if◌then◌else◌, ◌&&◌, List, [], ◌∷◌, length, take, Option, ◌==◌, nat_le}
+use Rattle.std.specs.Prelude.{◌≡◌, ℕ, ◌*◌, Bool, true, if◌then◌else◌, List, length, take, Option, ◌==◌, nat_le}
+use Rattle.std.specs.List.{list_all}
 use Rattle.round.specs.declared.table.Round.{Round}
 use Rattle.round.specs.Clock.{finish, latest_finish}
 use Rattle.rules.specs.Rules.{RuleSense}
@@ -19,8 +20,7 @@ use Rattle.filter.specs.Kept.{kept_from}
 
 -- no finish is above what the clock allows after 15 doors
 abbrev pub timely : {S V : Type 0} → List (Node S V) → Bool
-timely [] = true
-timely (x ∷ xs) = nat_le x.label.down.finish (latest_finish 15) && timely xs
+timely = list_all (λ x. nat_le x.label.down.finish (latest_finish 15))
 
 -- arcs of a diagram of n doors and width W
 unfoldable pub arc_count : {S V : Type 0} → ℕ → ℕ → List (Node S V) → ℕ

@@ -53,16 +53,9 @@ fn all_timely<S: Copy, V: Copy>(nodes: &[Node<S, V>], end: usize) -> bool
     nodes[..end].iter().all(|x| x.label.down.finish <= LATEST)
 }
 
-fn may_cut<S: Copy, V: Copy>(round: &Round, nodes: &[Node<S, V>], width: usize) -> bool
-    ensures { result ≡
-        (fits round.now.n width (length nodes.now)
-        && timely (take (round.now.n * width) nodes.now)) }
-{
-    has_room(round, width, nodes.len()) && all_timely(nodes, round.n * width)
-}
-
 /// Takes out each arc whose arrival has a value above the ceiling, by the labels that stand, tidies and labels anew, and answers
 /// how many arcs went. A list that has no room for the diagram, or has a finish that no diagram has, is left alone.
+#[tactic(auto, using(crate::proofs::Timely::timely_all, crate::proofs::Timely::timely_from), unfolding(crate::specs::Steps::cut_steps, layers::specs::Calls::after_cut))]
 pub fn cut<R: Rule, T: Tally>(
     by: &Setting<'_, R, T>,
     nodes: &mut [Node<R::State, T::Value>],
@@ -81,7 +74,10 @@ pub fn cut<R: Rule, T: Tally>(
         (T.sense by.now.tally.now) in
         CutDone by ceiling nodes.old nodes.new result }
 {
-    if !may_cut(by.round, nodes, by.width) {
+    if !has_room(by.round, by.width, nodes.len()) {
+        return 0;
+    }
+    if !all_timely(nodes, by.round.n * by.width) {
         return 0;
     }
     let test = Ceiling {

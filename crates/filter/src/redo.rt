@@ -87,7 +87,8 @@ pub(crate) fn filter_labelled<R: Rule, T: Tally, F: Test<State = R::State, Value
         arc_count by.now.round.now.n by.now.width nodes.new }
     ensures words { let by = lent_setting by.now (R.sense by.now.rule.now)
         (T.sense by.now.tally.now) in
-        IsLabelled by nodes.old → FilterDone by (F.goes test.now by.round) nodes.old nodes.new result }
+        IsLabelled by nodes.old
+        → FilterDone by (F.goes test.now by.round) nodes.old nodes.new result }
 {
     let lost = thin(by, test, nodes);
     if lost != 0 {

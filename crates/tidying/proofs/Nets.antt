@@ -175,20 +175,6 @@ module _ {S V : Type 0} (w : ℕ) (z : Node S V) (bare : Bare z) (small : w < 25
       let here : (a : ℕ) → On from (suc a) ⊎ (a < length L) → Like (get_or (nodes_in (take w xs)) a z) (node L a) = λ a o. like.0 a in
       number-flag L Ls from fr xs here same (numbers-are Ls (reached_next from (nodes_in (take w xs))) (marks_next fr L (width Ls)) (drop w xs) like.1 (marks-agree L Ls from fr xs here same)) b
 
-  tidy-likes : (Ls : Net) (from : List Bool) (fr : List (Option Mark)) (xs : List (Node S V)) → length Ls * w ≤ length xs → Likes Ls xs → Agree (width Ls) from fr → Likes (tidy fr Ls) (tidied w z (length Ls) from xs)
-  unfolding tidy
-  tidy-likes [] from fr xs fits like same = tt
-  tidy-likes (L ∷ Ls) from fr xs fits like same =
-      let more = suc-mul (length Ls) w in
-      let here : (a : ℕ) → On from (suc a) ⊎ (a < length L) → Like (get_or (nodes_in (take w xs)) a z) (node L a) = λ a o. like.0 a in
-      let next = reached_next from (nodes_in (take w xs)) in
-      let agree = marks-agree L Ls from fr xs here same in (
-        (λ a. rw (front w z (length Ls) from xs (omega (arith, more)))
-            (block-like L Ls from fr xs here same (numbers-are Ls next (marks_next fr L (width Ls)) (drop w xs) like.1 agree) a)),
-        rw (back w z (length Ls) from xs (omega (arith, more)))
-            (tidy-likes Ls next (marks_next fr L (width Ls)) (drop w xs) (omega (arith, more, length-drop w xs)) like.1 agree),
-      )
-
   -- the layers keep as many nodes
   abbrev pub Many : Net → Net → List Bool → List (Node S V) → Type 0
   Many [] [] from xs = Unit {0}
@@ -196,41 +182,45 @@ module _ {S V : Type 0} (w : ℕ) (z : Node S V) (bare : Bare z) (small : w < 25
   Many (L ∷ Ls) [] from xs = ⊥
   Many (L ∷ Ls) (M ∷ Ms) from xs = (length M ≡ length (filter lively (renewed-layer w z bare small (length Ls) from xs))) × Many Ls Ms (reached_next from (nodes_in (take w xs))) (drop w xs)
 
-  tidy-many : (Ls : Net) (from : List Bool) (fr : List (Option Mark)) (xs : List (Node S V)) → Likes Ls xs → Agree (width Ls) from fr → Many Ls (tidy fr Ls) from xs
+  tidy-likes : (Ls : Net) (from : List Bool) (fr : List (Option Mark)) (xs : List (Node S V)) → length Ls * w ≤ length xs → Likes Ls xs → Agree (width Ls) from fr
+      → Likes (tidy fr Ls) (tidied w z (length Ls) from xs) × Many Ls (tidy fr Ls) from xs
   unfolding tidy
-  tidy-many [] from fr xs like same = tt
-  tidy-many (L ∷ Ls) from fr xs like same =
+  tidy-likes [] from fr xs fits like same = (tt, tt)
+  tidy-likes (L ∷ Ls) from fr xs fits like same =
+      let more = suc-mul (length Ls) w in
       let here : (a : ℕ) → On from (suc a) ⊎ (a < length L) → Like (get_or (nodes_in (take w xs)) a z) (node L a) = λ a o. like.0 a in
       let next = reached_next from (nodes_in (take w xs)) in
       let agree = marks-agree L Ls from fr xs here same in
-      (block-many L Ls from fr xs here same (numbers-are Ls next (marks_next fr L (width Ls)) (drop w xs) like.1 agree), tidy-many Ls next (marks_next fr L (width Ls)) (drop w xs) like.1 agree)
+      let are = numbers-are Ls next (marks_next fr L (width Ls)) (drop w xs) like.1 agree in
+      let rest = tidy-likes Ls next (marks_next fr L (width Ls)) (drop w xs) (omega (arith, more, length-drop w xs)) like.1 agree in (
+        (
+          (λ a. rw (front w z (length Ls) from xs (omega (arith, more))) (block-like L Ls from fr xs here same are a)),
+          rw (back w z (length Ls) from xs (omega (arith, more))) rest.0,
+        ),
+        (block-many L Ls from fr xs here same are, rest.1),
+      )
 
-  first-agree : (n : ℕ) → Agree n first_mark (Some tt ∷ [])
-  first-agree n = record { to = λ a on lt. rw (first-on a on); back = λ a e lt. back a e }
-    where
-      back : (a : ℕ) → get_or {A = Option Mark} (Some tt ∷ []) a None ≡ Some tt → On first_mark (suc a)
-      back zero e = refl
-      back (suc a) e = absurd cc
-
-  pub first-many : (L : Layer) (Ls : Net) (xs : List (Node S V)) → Likes (L ∷ Ls) xs → Many Ls (tidy (marks_next (Some tt ∷ []) L (width Ls)) Ls) (reached_next first_mark (nodes_in (take w xs))) (drop w xs)
-  first-many L Ls xs like =
-      let fr : List (Option Mark) = Some tt ∷ [] in
-      tidy-many Ls (reached_next first_mark (nodes_in (take w xs))) (marks_next fr L (width Ls)) (drop w xs) like.1 (marks-agree L Ls first_mark fr xs (λ a o. like.0 a) (first-agree (length L)))
+  first-back : (a : ℕ) → get_or {A = Option Mark} (Some tt ∷ []) a None ≡ Some tt → On first_mark (suc a)
+  first-back zero e = refl
+  first-back (suc a) e = absurd cc
 
   -- the whole list, in which the first node alone is reached
   pub first-likes : (L : Layer) (Ls : Net) (xs : List (Node S V)) → length L ≡ 1 → suc (length Ls) * w ≤ length xs → Like (get_or (nodes_in (take w xs)) 0 z) (node L 0) → Likes Ls (drop w xs)
-      → Likes (tidiedNet (L ∷ Ls)) (tidied w z (suc (length Ls)) first_mark xs)
+      → Likes (tidiedNet (L ∷ Ls)) (tidied w z (suc (length Ls)) first_mark xs) × Many Ls (tidy (marks_next (Some tt ∷ []) L (width Ls)) Ls) (reached_next first_mark (nodes_in (take w xs))) (drop w xs)
   unfolding tidiedNet
   first-likes L Ls xs one fits like rest =
       let more = suc-mul (length Ls) w in
       let fr : List (Option Mark) = Some tt ∷ [] in
       let here : (a : ℕ) → On first_mark (suc a) ⊎ (a < length L) → Like (get_or (nodes_in (take w xs)) a z) (node L a) =
       λ a o. (let e : a ≡ 0 = elim o [ inl on ↦ first-on a on | inr lt ↦ omega arith ] in subst (λ a. Like (get_or (nodes_in (take w xs)) a z) (node L a)) (sym e) like) in
-      let same = first-agree (length L) in
+      let same : Agree (length L) first_mark fr = record { to = λ a on lt. rw (first-on a on); back = λ a e lt. first-back a e } in
       let next = reached_next first_mark (nodes_in (take w xs)) in
-      let agree = marks-agree L Ls first_mark fr xs here same in (
-        (λ a. rw (front w z (length Ls) first_mark xs (omega (arith, more)))
-            (block-first L Ls first_mark fr xs here same (numbers-are Ls next (marks_next fr L (width Ls)) (drop w xs) rest agree) refl one a)),
-        rw (back w z (length Ls) first_mark xs (omega (arith, more)))
-            (tidy-likes Ls next (marks_next fr L (width Ls)) (drop w xs) (omega (arith, more, length-drop w xs)) rest agree),
+      let agree = marks-agree L Ls first_mark fr xs here same in
+      let likes = tidy-likes Ls next (marks_next fr L (width Ls)) (drop w xs) (omega (arith, more, length-drop w xs)) rest agree in (
+        (
+          (λ a. rw (front w z (length Ls) first_mark xs (omega (arith, more)))
+              (block-first L Ls first_mark fr xs here same (numbers-are Ls next (marks_next fr L (width Ls)) (drop w xs) rest agree) refl one a)),
+          rw (back w z (length Ls) first_mark xs (omega (arith, more))) likes.0,
+        ),
+        likes.1,
       )

@@ -16,7 +16,7 @@ use Rattle.labels.specs.Passes.{blank_node}
 use Rattle.labels.proofs.Laying.{Arranged, Good}
 use Rattle.labels.proofs.Places.{Stands, Ready}
 use Rattle.tidying.specs.Tidied.{lively, reached_next, tidied, together, first_mark}
-use Rattle.tidying.proofs.Nets.{Likes, Many, first-many}
+use Rattle.tidying.proofs.Nets.{Likes, Many, first-likes}
 use Rattle.tidying.proofs.Renewed.{renewed-layer, live-used, long}
 use Rattle.tidying.proofs.Steps.{block, block-long, together-long, front, back}
 use Rattle.tidying.proofs.Targets.{Bare}
@@ -88,26 +88,26 @@ module _ {S V : Type 0} (by : Setting S V) (small : by.width < 256) where
       )
 
   -- the whole list, of which the first layer keeps its node or nothing
-  first-rows : (L : Layer) (Ls : Net) (xs : List (Node S V)) → length L ≡ length (nodes_in (take w xs)) → suc (length Ls) * w ≤ length xs → Likes w z bare small (L ∷ Ls) xs → Blanks w z (suc (length Ls)) xs
+  first-rows : (L : Layer) (Ls : Net) (xs : List (Node S V)) → length L ≡ 1 → length L ≡ length (nodes_in (take w xs)) → suc (length Ls) * w ≤ length xs → Likes w z bare small (L ∷ Ls) xs → Blanks w z (suc (length Ls)) xs
       → Ready by (tidiedNet (L ∷ Ls)) (tidied w z (suc (length Ls)) first_mark xs)
   unfolding tidiedNet
-  first-rows L Ls xs nodes fits like blank =
+  first-rows L Ls xs one nodes fits like blank =
       let r = length Ls in
       let h : w ≤ length xs = omega (arith, suc-mul r w) in
       let vs = renewed-layer w z bare small r first_mark xs in
       let few : length (filter lively vs) ≤ length L = omega (arith, nodes, length-filter lively vs, count_by-le-length lively vs, long w z bare small r first_mark xs) in
       rw (front w z r first_mark xs h, back w z r first_mark xs h) (
         (length (filter lively vs), subst (λ n. length (filter lively vs) ≤ n) (sym (redirect-length _ L)) few, block-stands w z bare small refl r blank.0.0 first_mark xs h blank.0.1 blank.0.2),
-        tidied-rows Ls (tidy (marks_next (Some tt ∷ []) L (width Ls)) Ls) (reached_next first_mark (nodes_in (take w xs))) (drop w xs) (omega (arith, suc-mul r w, length-drop w xs)) blank.1 (first-many w z bare small L Ls xs like),
+        tidied-rows Ls (tidy (marks_next (Some tt ∷ []) L (width Ls)) Ls) (reached_next first_mark (nodes_in (take w xs))) (drop w xs) (omega (arith, suc-mul r w, length-drop w xs)) blank.1 (first-likes w z bare small L Ls xs one fits (like.0 0) like.1).1,
       )
 
-pub tidied-places : {S V : Type 0} (by : Setting S V) (n : ℕ) (Ls : Net) (xs : List (Node S V)) → by.width ≤ 128 → length Ls ≡ n → Good by.width Ls → Arranged by.width Ls xs → Standing by.width Ls xs
+pub tidied-places : {S V : Type 0} (by : Setting S V) (n : ℕ) (Ls : Net) (xs : List (Node S V)) → by.width ≤ 128 → length Ls ≡ n → width Ls ≡ 1 → Good by.width Ls → Arranged by.width Ls xs → Standing by.width Ls xs
     → n * by.width ≤ length xs → Blanks by.width (blank_node by.rule by.tally) n xs → Ready by (tidiedNet Ls) (tidied by.width (blank_node by.rule by.tally) n first_mark xs)
 unfolding tidiedNet
-tidied-places by n [] xs le deep good arr st fits blank = tt
-tidied-places by n (L ∷ Ls) xs le deep good arr st fits blank =
+tidied-places by n [] xs le deep one good arr st fits blank = tt
+tidied-places by n (L ∷ Ls) xs le deep one good arr st fits blank =
     let w = by.width in
     let z = blank_node by.rule by.tally in
     let small : w < 256 = omega arith in
     let like = arranged-likes w z refl small (L ∷ Ls) xs good arr st in
-    subst (λ k. k * w ≤ length xs → Blanks w z k xs → Ready by (tidiedNet (L ∷ Ls)) (tidied w z k first_mark xs)) deep (λ h b. first-rows by small L Ls xs st.0 h like b) fits blank
+    subst (λ k. k * w ≤ length xs → Blanks w z k xs → Ready by (tidiedNet (L ∷ Ls)) (tidied w z k first_mark xs)) deep (λ h b. first-rows by small L Ls xs one st.0 h like b) fits blank

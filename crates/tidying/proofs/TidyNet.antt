@@ -147,5 +147,5 @@ tidied-arranged w z n (L ∷ Ls) xs le deep one good zb arr st =
     let ys = tidied w z (suc (length Ls)) first_mark xs in
     let like = arranged-likes w z zb small (L ∷ Ls) xs good arr st in
     rw (← deep)
-    (likes-arranged w z zb small (tidiedNet (L ∷ Ls)) ys (first-likes w z (bare w z zb small) small L Ls xs one (fits w z zb small (L ∷ Ls) xs arr) (like.0 0) like.1)
+    (likes-arranged w z zb small (tidiedNet (L ∷ Ls)) ys (first-likes w z (bare w z zb small) small L Ls xs one (fits w z zb small (L ∷ Ls) xs arr) (like.0 0) like.1).0
     (subst (λ r. Solid w z zb small r ys) (sym ((tidy-means (L ∷ Ls) (tidiedNet (L ∷ Ls))).1 refl).layers) (tidied-solid w z zb small (L ∷ Ls) first_mark xs good arr st)))

@@ -72,7 +72,7 @@ module _ {S V : Type 0} (w : ℕ) (z : Node S V) (bare : Bare z) (small : w < 25
       likes =
           let n = length-net_of r (drop w xs) in
           subst (λ r. Likes w z bare small (tidiedNet D) (tidied w z (suc r) first_mark xs)) n
-          (first-likes w z bare small L (net_of r (drop w xs)) xs refl (rw n fits) (λ k. refl) (likes-net_of r (drop w xs)))
+          (first-likes w z bare small L (net_of r (drop w xs)) xs refl (rw n fits) (λ k. refl) (likes-net_of r (drop w xs))).0
 
       go : (ds : List ℕ) → length ds ≡ suc r → (Leads w z xs 1 ds 1 → Leads w z ys 1 ds 1) × (Leads w z ys 1 ds 1 → Leads w z xs 1 ds 1)
       go [] len = absurd (omega arith)
