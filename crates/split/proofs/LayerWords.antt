@@ -16,7 +16,7 @@ use Rattle.layers.proofs.Shaped.{layer-at, shaped-proper}
 use Rattle.layers.proofs.Standing.{arcs-X, written, at-X, Reached, count-of, group-of, reached-part}
 use Rattle.layers.proofs.Tied.{redirect-length}
 use Rattle.layers.proofs.Ways.{length-snoc}
-use Rattle.labels.specs.Passes.{part, relabelled}
+use Rattle.labels.specs.Passes.{part}
 use Rattle.labels.proofs.Laying.{Arranged, arranged-of}
 use Rattle.split.specs.Steps.{place_check, node_count, alike, parted_one, parts_from, layer_steps}
 use Rattle.split.specs.Words.{LayerDone}
