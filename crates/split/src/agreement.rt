@@ -30,6 +30,7 @@ pub(crate) fn finish_of<S: Copy, V: Copy>(round: &Round, u: &Down<S, V>, j: usiz
 
 /// Whether what x brings by door j, with that finish, agrees in all, some, finish and state with what comes by that door from a
 /// node with the label u.
+#[inline(never)]
 fn agrees_there<R: Rule, T, V: Copy>(
     by: &Setting<'_, R, T>,
     x: &Source<R::State, V>,
@@ -53,6 +54,7 @@ fn agrees_there<R: Rule, T, V: Copy>(
 
 /// The same of what x brings by any door, so that the last places have to agree too.
 #[tactic(auto, unfolding(crate::specs::Agreed::kept_by))]
+#[inline]
 pub(crate) fn agrees<R: Rule, T, V: Copy>(
     by: &Setting<'_, R, T>,
     x: &Source<R::State, V>,

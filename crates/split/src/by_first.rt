@@ -27,6 +27,7 @@ impl<'a, R: Rule, T, V: Copy> Test for ByFirst<'a, R, T, R::State, V> {
     ghost keeps = { λ b u j. let s = b.by.now in
         kept_by s.round.now (R.sense s.rule.now) b.first u.down j };
 
+    #[inline]
     fn stays(&self, u: &Label<R::State, V>, j: usize) -> bool {
         agrees(self.by, &self.first, self.finish, &u.down, j)
     }

@@ -23,6 +23,7 @@ pub(crate) trait Test {
 }
 
 /// Whether the in-arc x does not stay.
+#[inline]
 fn leaves<K: Test>(test: &K, us: &[Node<K::State, K::Value>], x: &InArc) -> bool
     requires place_in_bounds { x.now.place < length us.now }
     requires door_bound { x.now.door < 16 }

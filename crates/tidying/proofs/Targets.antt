@@ -1,7 +1,9 @@
 -- The targets of a record, and counts of arcs
-use Rattle.std.proofs.Common.{◌≡◌, ℕ, zero, suc, ◌+◌, ◌<◌, true, false, if◌then◌else◌, not, ◌==◌, ◌≢◌, List, [], ◌∷◌, ◌++◌, length, get_or, take, drop, set, sum_by, count_by, sym, refl, ap, ◌∙◌, arith, take-append-drop}
+use Rattle.std.proofs.Common.{◌≡◌, ℕ, zero, suc, ◌+◌, ◌<◌, true, false, if◌then◌else◌, not, ◌==◌, ◌≢◌, List, [], ◌∷◌, ◌++◌, map, length, get_or, take, drop, set, sum_by, sym, refl, ap, ◌∙◌, arith, take-append-drop}
 use Rattle.std.proofs.lemmas.Bool.Decides.{nat_tests}
-use Rattle.std.proofs.lemmas.List.FromFn.{fill_by_all, get_or-map-range_with_len}
+use mir.Val.{bool_byte}
+use Rattle.std.specs.List.{range_with_len}
+use Rattle.std.proofs.lemmas.List.FromFn.{fill_by_all, get_or-map-range_with_len, map-range_with_len_more}
 use Rattle.std.proofs.lemmas.List.Sums.{sum_by-append, sum_by-cons, sum_by-set}
 use Rattle.layers.specs.declared.node.Label.{Label}
 use Rattle.layers.specs.declared.node.Node.{Node}
@@ -32,9 +34,25 @@ doors-counted [] = refl
 doors-counted (zero ∷ ts) = omega (arith, sum_by-cons one_if 0 ts, doors-counted ts)
 doors-counted (suc b ∷ ts) = grind (arith, nat_tests, sum_by-cons one_if (suc b) ts, doors-counted ts)
 
-pub arcs_counted : {S V : Type 0} (x : Node S V) → length x.arcs.to ≡ 16 → arcs_of x ≡ count_by (λ t. not (t == 0)) x.arcs.to
-unfolding arcs_of
-arcs_counted x long = doors-counted (targets x) ∙ ap (sum_by one_if) (targets_read x long)
+-- how many of these targets are arcs
+abbrev pub ones : List ℕ → ℕ
+ones ts = sum_by one_if ts
+
+one-said : (t : ℕ) → ones (t ∷ []) ≡ bool_byte (not (t == 0))
+one-said zero = omega (arith, sum_by-cons one_if 0 [])
+one-said (suc b) = grind (arith, nat_tests, sum_by-cons one_if (suc b) [])
+
+-- one door more
+pub counted_more : (to : List ℕ) (k m : ℕ) → m ≡ bool_byte (not (get_or to k 0 == 0))
+    → ones (map (λ i. get_or to i 0) (range_with_len 0 (k + 1))) ≡ ones (map (λ i. get_or to i 0) (range_with_len 0 k)) + m
+counted_more to k m e =
+    let f = λ (i : ℕ). get_or to i 0 in
+    ap ones (map-range_with_len_more f 0 k k (omega arith)) ∙ sum_by-append one_if (map f (range_with_len 0 k)) (f k ∷ [])
+    ∙ ap (λ n. ones (map f (range_with_len 0 k)) + n) (one-said (f k) ∙ sym e)
+
+pub arcs_counted : {S V : Type 0} (x : Node S V) → arcs_of x ≡ ones (map (λ i. get_or x.arcs.to i 0) (range_with_len 0 16))
+unfolding arcs_of targets
+arcs_counted x = doors-counted (targets x)
 
 pub arcs-summed : {S V : Type 0} (xs : List (Node S V)) → arcs_within xs ≡ sum_by arcs_of xs
 unfolding arcs_within arcs_of count_layer
