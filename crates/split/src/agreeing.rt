@@ -8,19 +8,20 @@ ghost use Rattle.split.specs.Words.{AgreedDone};
 
 use crate::agreement::alike;
 use crate::counting::count_in;
-use crate::listing::list_layer;
+use crate::listing::{InArcs, list_layer, no_in_arcs};
 use labels::room::has_room;
 use layers::node::Node;
 use layers::setting::Setting;
 use round::table::Round;
 use rules::rule::Rule;
 
-/// Whether the in-arcs of each node agree of the layer after that at `at`.
+/// Whether the in-arcs of each node agree of the layer after that at `at`; `list` is room for them.
 #[tactic(auto, using(crate::proofs::Stands::count_most), unfolding(crate::specs::Steps::agreed_to))]
 fn layer_agreed<R: Rule, T, V: Copy>(
     by: &Setting<'_, R, T>,
     nodes: &[Node<R::State, V>],
     at: usize,
+    list: &mut InArcs,
 ) -> bool
     requires two_in_bounds { at + by.now.width + by.now.width ≤ length nodes.now }
     requires width_bound { by.now.width ≤ 128 }
@@ -31,10 +32,10 @@ fn layer_agreed<R: Rule, T, V: Copy>(
 {
     let us = &nodes[at..at + by.width];
     let count = count_in(nodes, at + by.width, by.width);
-    let list = list_layer(us);
+    list_layer(us, list);
     let mut all = true;
     for b in 0..count {
-        all &= alike(by, us, &list, b as u8 + 1);
+        all &= alike(by, us, list, b as u8 + 1);
     }
     all
 }
@@ -61,9 +62,10 @@ pub fn agreed<R: Rule, V: Copy>(
         tally: &(),
         width,
     };
+    let mut list = no_in_arcs();
     let mut all = true;
     for k in 0..round.n - 1 {
-        all &= layer_agreed(&by, nodes, k * width);
+        all &= layer_agreed(&by, nodes, k * width, &mut list);
     }
     all
 }

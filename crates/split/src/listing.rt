@@ -59,22 +59,27 @@ fn find_starts(list: &mut InArcs)
     }
 }
 
-/// Lists the arcs of a layer of records.
-pub(crate) fn list_layer<S: Copy, V: Copy>(us: &[Node<S, V>]) -> InArcs
-    requires few { length us.now ≤ 128 }
-    ensures listed { IsListed us.now result }
-    ensures same { written us.now result ≡ us.now }
-{
+/// A list of no in-arcs.
+pub(crate) fn no_in_arcs() -> InArcs {
     let none = InArc { place: 0, door: 0 };
-    let mut list = InArcs {
+    InArcs {
         arcs: [none; 2048],
         to: [0; 2048],
         many: 0,
         starts: [2048; 256],
-    };
-    for (a, u) in us.iter().enumerate() {
-        list_node(u, a as u8, &mut list);
     }
-    find_starts(&mut list);
-    list
+}
+
+/// Lists the arcs of a layer of records, in place of what the list had.
+pub(crate) fn list_layer<S: Copy, V: Copy>(us: &[Node<S, V>], list: &mut InArcs)
+    requires few { length us.now ≤ 128 }
+    ensures listed { IsListed us.now list.new }
+    ensures same { written us.now list.new ≡ us.now }
+{
+    list.many = 0;
+    list.starts = [2048; 256];
+    for (a, u) in us.iter().enumerate() {
+        list_node(u, a as u8, list);
+    }
+    find_starts(list);
 }

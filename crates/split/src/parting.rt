@@ -11,7 +11,7 @@ use crate::by_first::ByFirst;
 use crate::check::{check_node, check_place};
 use crate::counting::count_in;
 use crate::dividing::{divide, first_leaving, put_back};
-use crate::listing::{InArcs, list_layer};
+use crate::listing::{InArcs, list_layer, no_in_arcs};
 use labels::relabel::relabel;
 use layers::node::Node;
 use layers::refusal::Refusal;
@@ -87,7 +87,8 @@ fn part_second<R: Rule, T: Tally>(
     ensures records { let by = lent_setting by.now (R.sense by.now.rule.now)
         (T.sense by.now.tally.now) in nodes.new ≡ next_records by 0 a count nodes.old }
 {
-    let mut list = list_layer(&nodes[..by.width]);
+    let mut list = no_in_arcs();
+    list_layer(&nodes[..by.width], &mut list);
     let answer = part_node(by, nodes, &mut list, a, count);
     put_back(&mut nodes[..by.width], &list);
     answer
@@ -182,7 +183,8 @@ fn part_from<R: Rule, T: Tally>(
         (result, nodes.new) ≡ parts_from by 0 by.width 0
         (node_count by.width by.width nodes.old) nodes.old }
 {
-    let mut list = list_layer(&nodes[..by.width]);
+    let mut list = no_in_arcs();
+    list_layer(&nodes[..by.width], &mut list);
     let full = part_listed(by, nodes, &mut list);
     put_back(&mut nodes[..by.width], &list);
     full

@@ -14,5 +14,5 @@ loop-b-preserved g c s =
     let b = c.loop-b.b in
     let w : c.args.at + by.width - c.args.at ≡ by.width = omega arith in
     and_comm c.loop-b.all c.alike-all.result
-    ∙ ap₂ ◌&&◌ (c.alike-all.ensures s ∙ ap (λ ys. all_agree by.rule (arrivals by (b + 1) ys)) c.list_layer-list.ensures.same ∙ ap₂ (λ (k t : ℕ). all_agree by.rule (arrivals by t (take k (drop c.args.at c.args.nodes.now)))) w (add-one b)) (c.loop-b.invariant s)
+    ∙ ap₂ ◌&&◌ (c.alike-all.ensures s ∙ ap (λ ys. all_agree by.rule (arrivals by (b + 1) ys)) c.list_layer.ensures.same ∙ ap₂ (λ (k t : ℕ). all_agree by.rule (arrivals by t (take k (drop c.args.at c.args.nodes.now)))) w (add-one b)) (c.loop-b.invariant s)
     ∙ ap (λ (k : ℕ). agreed_to by k us) (sym (add-one b))

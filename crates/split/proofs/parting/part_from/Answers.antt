@@ -10,4 +10,4 @@ returns g c =
     let xs = c.args.nodes.now in
     ap (λ us. (c.part_listed-full.result, us ++ drop by.width c.part_listed-full.new.nodes)) c.put_back.ensures
     ∙ c.part_listed-full.ensures.records
-    ∙ ap (parts_from by 0 by.width 0 (node_count by.width by.width xs)) (ap (λ us. us ++ drop by.width xs) c.list_layer-list.ensures.same ∙ take-append-drop by.width xs)
+    ∙ ap (parts_from by 0 by.width 0 (node_count by.width by.width xs)) (ap (λ us. us ++ drop by.width xs) c.list_layer.ensures.same ∙ take-append-drop by.width xs)
