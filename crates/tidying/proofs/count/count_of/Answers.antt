@@ -9,7 +9,7 @@ loop-k-preserved g c =
     let l = c.loop-k in
     let more = counted_more c.args.x.now.arcs.to l.k c.from-many.result c.from-many.ensures in
     let one : c.from-many.result ≤ 1 = rw c.from-many.ensures (byte-most _) in
-    record { counted = omega (arith, l.invariant.counted, more); few = omega (arith, l.invariant.few, one); }
+    record { counted = omega (arith, l.invariant.counted, more); few = omega (arith, l.invariant.few, one) }
 
 pub returns-clause-many : goal.returns-clause-many
 returns-clause-many g c =
