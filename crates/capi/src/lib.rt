@@ -7,6 +7,7 @@ ghost use Rattle.packed.specs.declared.often.Question.TheVariants.{Settled, Must
 ghost use Rattle.packed.specs.Sheets.{sheet_of, byte_count, written, code, OnRead};
 
 use packed::often::{Question, ask_often, refine_often};
+use packed::refusal::code_of;
 use packed::sheet::sheet;
 
 /// Reads a round, opens its diagram, makes the calls, and writes what the diagram then says and the answer of each.
@@ -28,10 +29,7 @@ pub extern "C" fn morvuges_sheet(text: &[u8], width: usize, calls: &[u8], out: &
 pub extern "C" fn morvuges_refine_often(text: &[u8], width: usize, times: usize) -> i64
     ensures { OnRead text.now (λ t. result ≡ code (often_of width times t)) }
 {
-    match refine_often(text, width, times) {
-        Ok(answer) => i64::from(answer),
-        Err(refusal) => refusal.code(),
-    }
+    code_of(refine_often(text, width, times))
 }
 
 /// Reads a round, opens its diagram and refines it, and asks so many times over whether it is settled; answers as the last time.
@@ -39,10 +37,7 @@ pub extern "C" fn morvuges_refine_often(text: &[u8], width: usize, times: usize)
 pub extern "C" fn morvuges_settled_often(text: &[u8], width: usize, times: usize) -> i64
     ensures { OnRead text.now (λ t. result ≡ code (asked_often Settled width times t)) }
 {
-    match ask_often(text, width, times, Question::Settled) {
-        Ok(answer) => i64::from(answer),
-        Err(refusal) => refusal.code(),
-    }
+    code_of(ask_often(text, width, times, Question::Settled))
 }
 
 /// Reads a round, opens its diagram and refines it, and asks for all musts so many times over; answers how many the last time had.
@@ -50,8 +45,5 @@ pub extern "C" fn morvuges_settled_often(text: &[u8], width: usize, times: usize
 pub extern "C" fn morvuges_musts_often(text: &[u8], width: usize, times: usize) -> i64
     ensures { OnRead text.now (λ t. result ≡ code (asked_often Musts width times t)) }
 {
-    match ask_often(text, width, times, Question::Musts) {
-        Ok(answer) => i64::from(answer),
-        Err(refusal) => refusal.code(),
-    }
+    code_of(ask_often(text, width, times, Question::Musts))
 }

@@ -1,6 +1,7 @@
 //! Why a sheet is refused.
 ghost use Rattle.std.specs.Prelude.{◌≡◌, ◌-◌, negsuc};
 ghost use Rattle.packed.specs.Refusals.{number_of};
+ghost use Rattle.packed.specs.Sheets.{code};
 
 use layers::refusal::Refusal as DiagramRefusal;
 use text::refusal::Refusal as TextRefusal;
@@ -36,5 +37,15 @@ impl Refusal {
         ensures { result ≡ negsuc (number_of self - 1) }
     {
         -i64::from(self.number())
+    }
+}
+
+/// What C is told of an answer: the answer, or the refusal's code.
+pub fn code_of(answer: Result<u32, Refusal>) -> i64
+    ensures { result ≡ code answer }
+{
+    match answer {
+        Ok(word) => i64::from(word),
+        Err(refusal) => refusal.code(),
     }
 }

@@ -3,7 +3,7 @@
 #![tactic(auto)]
 
 use packed::often::{Question, ask_often, refine_often};
-use packed::refusal::Refusal;
+use packed::refusal::code_of;
 use packed::sheet::sheet;
 use std::alloc::{AllocError, Global};
 use std::io::Read;
@@ -217,14 +217,6 @@ fn print_refusals(rt: &HostRuntime, text: &[u8]) -> anyhow::Result<()> {
         print_sheet(rt, case)?;
     }
     Ok(())
-}
-
-/// An answer as C is told of it.
-fn code_of(answer: Result<u32, Refusal>) -> i64 {
-    match answer {
-        Ok(answer) => i64::from(answer),
-        Err(refusal) => refusal.code(),
-    }
 }
 
 /// The last answer of so many refines; of asking so many times whether the diagram is settled, once it is refined; and for its musts.

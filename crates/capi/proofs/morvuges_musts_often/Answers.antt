@@ -1,4 +1,4 @@
-use Rattle.std.proofs.Common.{◌≡◌, Ok, Err, rules, w64, FitsSigned, ap, ◌∙◌}
+use Rattle.std.proofs.Common.{◌≡◌, rules, w64, FitsSigned, ap, ◌∙◌}
 use Rattle.std.proofs.lemmas.Int.{to_z-of_z}
 use Rattle.packed.specs.declared.often.Question.TheVariants.{Musts}
 use Rattle.packed.specs.Often.{asked_often}
@@ -6,16 +6,7 @@ use Rattle.packed.specs.Sheets.{code}
 use Rattle.packed.proofs.OnReads.{on-read-map}
 use Rattle.capi.proofs.morvuges_musts_often.Goals as goal
 
-pub returns-in-Ok : goal.returns-in-Ok
-returns-in-Ok c =
-    let z = c.from.result in
-    let fits : FitsSigned w64 z = search (rules, c.from.type_inv) in
-    on-read-map c.args.text.now (λ t. Ok c.in-Ok.answer ≡ asked_often Musts c.args.width c.args.times t) _
-    (λ t e. to_z-of_z w64 z fits ∙ c.from.ensures ∙ ap code e) c.in-Ok.ensures
-
-pub returns-in-Err : goal.returns-in-Err
-returns-in-Err c =
-    let z = c.code.result in
-    let fits : FitsSigned w64 z = search (rules, c.code.type_inv) in
-    on-read-map c.args.text.now (λ t. Err c.in-Err.refusal ≡ asked_often Musts c.args.width c.args.times t) _
-    (λ t e. to_z-of_z w64 z fits ∙ c.code.ensures ∙ ap code e) c.in-Err.ensures
+pub returns : goal.returns
+returns c =
+    let fits : FitsSigned w64 c.code_of.result = search (rules, c.code_of.type_inv) in
+    on-read-map c.args.text.now (λ t. c.ask_often.result ≡ asked_often Musts c.args.width c.args.times t) _ (λ t e. to_z-of_z w64 c.code_of.result fits ∙ c.code_of.ensures ∙ ap code e) c.ask_often.ensures
