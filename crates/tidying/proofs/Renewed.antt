@@ -117,9 +117,10 @@ module _ {S V : Type 0} (w : ℕ) (z : Node S V) (bare : Bare z) (small : w < 25
     pub live-number : (a k b : ℕ) → On from (suc a) → get_or (targets (get_or us a z)) k 0 ≡ suc b → get_or new (suc b) 0 ≢ 0 → (c : ℕ) × (get_or (numbers w z (suc r) from xs) (suc a) 0 ≡ suc c)
     live-number a k b on e ne = elim (zero-or-suc (get_or new (suc b) 0)) [
       | inl o ↦ absurd (ne o)
-      | inr h ↦
-          (rank (map lively renewed-layer) a,
-          number-is a ∙ renumber-at (map lively renewed-layer) a (live-at a ∙ lively-from (get_or renewed-layer a z) k h.0 (renewed-sent a k on ∙ ap (λ t. get_or new t 0) e ∙ h.1)))
+      | inr h ↦ (
+        rank (map lively renewed-layer) a,
+        number-is a ∙ renumber-at (map lively renewed-layer) a (live-at a ∙ lively-from (get_or renewed-layer a z) k h.0 (renewed-sent a k on ∙ ap (λ t. get_or new t 0) e ∙ h.1)),
+      )
     ]
 
     pub number-live : (a c : ℕ) → get_or (numbers w z (suc r) from xs) (suc a) 0 ≡ suc c → (lively (get_or renewed-layer a z) ≡ true) × (rank (map lively renewed-layer) a ≡ c)

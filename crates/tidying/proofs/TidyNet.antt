@@ -55,7 +55,6 @@ next-long : (fr : List (Option Mark)) (L : Layer) (n : ℕ) → length (marks_ne
 unfolding marks_next next
 next-long fr L n = table-long n _
 
-
 -- the first layer's one node stays, and has no arcs if it has no flag
 one-row : (w : ℕ) (gs : List Bool) (R : Layer) → length gs ≡ 1 → length R ≡ 1 → (get_or gs 0 false ≡ false → arcs_at R 0 ≡ arcs_at [] 0) → (table w (arcs_at (compress gs R)) ≡ table w (arcs_at R)) × (length (compress gs R) ≤ length R)
 unfolding compress
@@ -227,14 +226,14 @@ module _ {S V : Type 0} (by : Setting S V) (small : by.width < 256) where
           let n = length vs - length F in
           let D = drop (length us) (take w xs) in
           let idle : All (λ x. x.arcs ≡ z.arcs) (replicate n z ++ D) = All-append (λ x. x.arcs ≡ z.arcs) (replicate n z) D (All-replicate (λ x. x.arcs ≡ z.arcs) n z refl) (λ k d lt.
-              ap arcs_of (get_or-drop (length us) (take w xs) k d)
-              ∙ arcs-arranged w L (take w xs) (length us + k) d arr (omega (arith, length-drop (length us) (take w xs), arranged-long w L (take w xs) arr))
-              ∙ ap (λ (nd : Outs). record { to = padded_targets nd }) (get_or_past L (length us + k) [] (omega arith))) in
+          ap arcs_of (get_or-drop (length us) (take w xs) k d)
+          ∙ arcs-arranged w L (take w xs) (length us + k) d arr (omega (arith, length-drop (length us) (take w xs), arranged-long w L (take w xs) arr))
+          ∙ ap (λ (nd : Outs). record { to = padded_targets nd }) (get_or_past L (length us + k) [] (omega arith))) in
           table-list w (arcs_at M) (map arcs_of (block w z (length Ls) from xs)) (length-map (block w z (length Ls) from xs) arcs_of ∙ block-long w z (length Ls) from xs room) (λ k d lt.
-              get_or_default (map arcs_of (block w z (length Ls) from xs)) k d z.arcs (omega (arith, length-map (block w z (length Ls) from xs) arcs_of, block-long w z (length Ls) from xs room))
-              ∙ ap (λ ys. get_or ys k z.arcs) (ap (map arcs_of) (append_assoc F (replicate n z) D) ∙ map-append arcs_of F (replicate n z ++ D))
-              ∙ get_or-tail (map arcs_of F) (map arcs_of (replicate n z ++ D)) z.arcs (all-read arcs_of z.arcs (replicate n z ++ D) idle) k
-              ∙ ap (λ ys. get_or ys k z.arcs) kept-arcs ∙ get_or-mapped (λ (nd : Outs). record { to = padded_targets nd }) M k [] z.arcs refl)
+          get_or_default (map arcs_of (block w z (length Ls) from xs)) k d z.arcs (omega (arith, length-map (block w z (length Ls) from xs) arcs_of, block-long w z (length Ls) from xs room))
+          ∙ ap (λ ys. get_or ys k z.arcs) (ap (map arcs_of) (append_assoc F (replicate n z) D) ∙ map-append arcs_of F (replicate n z ++ D))
+          ∙ get_or-tail (map arcs_of F) (map arcs_of (replicate n z ++ D)) z.arcs (all-read arcs_of z.arcs (replicate n z ++ D) idle) k
+          ∙ ap (λ ys. get_or ys k z.arcs) kept-arcs ∙ get_or-mapped (λ (nd : Outs). record { to = padded_targets nd }) M k [] z.arcs refl)
 
       block-stands : All (λ x. x.label ≡ z.label) (drop (length us) (take w xs)) → Stands (λ x. x.label ≡ z.label) (length (filter lively vs)) (block w z (length Ls) from xs)
       unfolding together
@@ -271,12 +270,12 @@ module _ {S V : Type 0} (by : Setting S V) (small : by.width < 256) where
       )
 
 -- the whole list, in which the first node alone is reached: its layer keeps that node
-pub tidied-net : {S V : Type 0} (by : Setting S V) (Ls : Net) (xs : List (Node S V)) → by.width ≤ 128 → width Ls ≡ 1 → Good by.width Ls → Arranged by.width Ls xs → Standing by.width Ls xs
-    → Arranged by.width (tidied_arcs Ls) (tidied by.width (blank_node by.rule by.tally) (length Ls) first_mark xs)
-    × (Blanks by.width (blank_node by.rule by.tally) (length Ls) xs → Ready by (tidied_arcs Ls) (tidied by.width (blank_node by.rule by.tally) (length Ls) first_mark xs))
+pub tidied-net : {S V : Type 0} (by : Setting S V) (n : ℕ) (Ls : Net) (xs : List (Node S V)) → by.width ≤ 128 → length Ls ≡ n → width Ls ≡ 1 → Good by.width Ls → Arranged by.width Ls xs → Standing by.width Ls xs
+    → Arranged by.width (tidied_arcs Ls) (tidied by.width (blank_node by.rule by.tally) n first_mark xs)
+    × (Blanks by.width (blank_node by.rule by.tally) n xs → Ready by (tidied_arcs Ls) (tidied by.width (blank_node by.rule by.tally) n first_mark xs))
 unfolding tidied_arcs tidy
-tidied-net by [] xs le one good arr st = (unfold tidied in arr, λ blank. tt)
-tidied-net by (L ∷ Ls) xs le one good arr st =
+tidied-net by n [] xs le deep one good arr st = rw (← deep) (unfold tidied in arr, λ blank. tt)
+tidied-net by n (L ∷ Ls) xs le deep one good arr st =
     let small : by.width < 256 = omega arith in
     let w = by.width in
     let fr : List (Option Mark) = Some tt ∷ [] in
@@ -287,10 +286,10 @@ tidied-net by (L ∷ Ls) xs le one good arr st =
     let vs = renewed-layer w z (bare by small) small (length Ls) first_mark xs in
     let RL = redirect (λ a j b. renumber (flags (marks_next fr L (width Ls)) (marks_up Ls)) b) L in
     let none : get_or (flags fr (marks_up (L ∷ Ls))) 0 false ≡ false → arcs_at RL 0 ≡ arcs_at [] 0 = λ off. ap (λ (ts : List ℕ). record { to = ts }) (sym (padded-is (padded_targets []) (node RL 0) refl (λ k lt.
-        padded-at [] k lt ∙ sym (bare-from (get_or vs 0 z) (lively-none (get_or vs 0 z) (live by small L Ls first_mark fr xs good arr.0 st.0 same are 0 ∙ off)) k) ∙ moved by small L Ls first_mark fr xs good arr.0 st.0 same are 0 k refl))) in
+    padded-at [] k lt ∙ sym (bare-from (get_or vs 0 z) (lively-none (get_or vs 0 z) (live by small L Ls first_mark fr xs good arr.0 st.0 same are 0 ∙ off)) k) ∙ moved by small L Ls first_mark fr xs good arr.0 st.0 same are 0 k refl))) in
     let row = one-row w (flags fr (marks_up (L ∷ Ls))) RL (flags-many by small L Ls first_mark fr xs good arr.0 st.0 same are ∙ one) (redirect-length _ L ∙ one) none in
     let all = tidied-from by small (L ∷ Ls) first_mark fr xs good arr st same in
-    ((all.0.0 ∙ row.0, all.0.1), λ blank. let r = all.1 blank in ((r.0.0, omega (arith, r.0.1, row.1), r.0.2), r.1))
+    rw (← deep) ((all.0.0 ∙ row.0, all.0.1), λ blank. let r = all.1 blank in ((r.0.0, omega (arith, r.0.1, row.1), r.0.2), r.1))
   where
     first-back : (a : ℕ) → get_or {A = Option Mark} (Some tt ∷ []) a None ≡ Some tt → On first_mark (suc a)
     first-back zero e = refl

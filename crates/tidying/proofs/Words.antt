@@ -50,12 +50,15 @@ module _ {S V : Type 0} (w : ℕ) (z : Node S V) (bare : Bare z) (small : w < 25
       let us = nodes_in (take w xs) in
       let s = arc-in w z bare small us a k h.0 h.1 in
       let q = path-stays r (reached_next from us) (drop w xs) h.0 ds (on-reached z from us a k (suc h.0) (leads-in (drop w xs) h.0 ds 0 (omega arith) h.2) on s.0 s.1 h.1) (omega arith) h.2 in
-      let n = live-number w z bare small r from xs a k h.0 on h.1 (λ none. absurd (omega (arith, none, q.1))) in
-      (n.0, n.1, λ fits. (let more = suc-mul r w in (
+      let n = live-number w z bare small r from xs a k h.0 on h.1 (λ none. absurd (omega (arith, none, q.1))) in (
+        n.0,
+        n.1,
+        λ fits. (let more = suc-mul r w in (
           q.0,
           sent-left w z bare small r from xs (omega arith) a n.0 k n.1 ∙ ap (λ t. get_or (numbers w z r (reached_next from us) (drop w xs)) t 0) h.1 ∙ q.1,
           subst (λ ys. Leads w z ys (suc q.0) ds 1) (sym (back w z r from xs (omega arith))) (q.2 (omega (arith, length-drop w xs))),
-      )))
+        )),
+      )
 
   -- and a path that is left was one
   path-was : (r : ℕ) (from : List Bool) (xs : List (Node S V)) (a c : ℕ) (ds : List ℕ) → r * w ≤ length xs → get_or (numbers w z r from xs) (suc a) 0 ≡ suc c → length ds ≡ r → Leads w z (tidied w z r from xs) (suc c) ds 1 → Leads w z xs (suc a) ds 1
@@ -92,9 +95,9 @@ module _ {S V : Type 0} (w : ℕ) (z : Node S V) (bare : Bare z) (small : w < 25
     | inl o ↦ absurd (
         let vs = renewed-layer w z bare small r first_mark xs in
         let none : (a : ℕ) → lively (get_or vs a z) ≡ false = λ a. false_from_ne_true (lively (get_or vs a z)) (λ l.
-            let s = renewed-live w z bare small r first_mark xs a l in
-            let n = live-number w z bare small r first_mark xs a s.1 s.2 s.0 s.3 s.4 in
-            absurd (omega (arith, o, n.1, ap (λ a. get_or (numbers w z (suc r) first_mark xs) (suc a) 0) (first-on a s.0)))) in
+        let s = renewed-live w z bare small r first_mark xs a l in
+        let n = live-number w z bare small r first_mark xs a s.1 s.2 s.0 s.3 s.4 in
+        absurd (omega (arith, o, n.1, ap (λ a. get_or (numbers w z (suc r) first_mark xs) (suc a) 0) (first-on a s.0)))) in
         let more = suc-mul r w in
         let at = λ (x : Node S V). get_or (targets x) k 0 in
         omega (arith, h.1, ap at (nodes-left w z bare small r first_mark xs (omega arith) 0 ∙ ap (λ fs. get_or fs 0 z) (none-live vs z none)), bare k))

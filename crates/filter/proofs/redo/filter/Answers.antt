@@ -22,4 +22,4 @@ returns g c =
     let steps = is ∙ ap (relabelled by) c.thin-gone.ensures.steps in
     let counted : c.thin-gone.result ≡ arc_count n W xs - arc_count n W c.relabel.new.nodes =
     c.thin-gone.ensures.counted ∙ ap (λ m. arc_count n W xs - m) (same-count n W ys c.relabel.new.nodes (sym (ap (map arcs_of) is ∙ relabelled-arcs by ys))) in
-    record { steps = steps; counted = counted; words = filter-done by xs _ c.requires.room _ _ (c.relabel.auto.nodes ∙ c.thin-gone.auto.nodes) counted steps }
+    record { steps = steps; counted = counted; words = λ s. filter-done by xs c.requires.room s _ _ _ (c.relabel.auto.nodes ∙ c.thin-gone.auto.nodes) counted steps }

@@ -23,7 +23,7 @@ returns-then-lost-ne0 g c =
     let steps = is ∙ ap (relabelled_used by) c.thin-lost.ensures.steps ∙ sym (cond-false q _ _ some) in
     let counted : c.thin-lost.result ≡ arc_count n W xs - arc_count n W c.relabel_used.new.nodes =
     c.thin-lost.ensures.counted ∙ ap (λ m. arc_count n W xs - m) (same-count n W ys c.relabel_used.new.nodes (sym (ap (map arcs_of) is ∙ used-arcs by ys))) in
-    record { steps = steps; counted = counted; words = labelled-done by xs _ c.requires.room _ _ (c.relabel_used.auto.nodes ∙ c.thin-lost.auto.nodes) counted steps }
+    record { steps = steps; counted = counted; words = λ same s. labelled-done by xs c.requires.room s _ _ _ (c.relabel_used.auto.nodes ∙ c.thin-lost.auto.nodes) counted steps same }
 
 pub returns-else-lost-ne0 : goal.returns-else-lost-ne0
 unfolding filter_labelled_steps thinned
@@ -33,4 +33,4 @@ returns-else-lost-ne0 g c =
     let none : q ≡ true = sym c.thin-lost.ensures.none ∙ eq-eqb _ 0 c.if-lost-ne0.false in
     let steps = c.thin-lost.ensures.steps ∙ cond-true q _ _ none ∙ sym (cond-true q _ _ none) in
     let counted = c.thin-lost.ensures.counted in
-    record { steps = steps; counted = counted; words = labelled-done by c.args.nodes.now _ c.requires.room _ _ c.thin-lost.auto.nodes counted steps }
+    record { steps = steps; counted = counted; words = λ same s. labelled-done by c.args.nodes.now c.requires.room s _ _ _ c.thin-lost.auto.nodes counted steps same }
