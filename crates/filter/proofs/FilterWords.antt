@@ -1,5 +1,5 @@
 -- On the records of a diagram the steps of sweep and cut come to their definitions.
-use Rattle.std.proofs.Common.{◌≡◌, ℕ, ◌-◌, ◌*◌, ◌≤◌, true, eqb, List, ◌++◌, map, length, take, drop, sym, refl, ap, ◌∙◌, subst, ap₂, arith}
+use Rattle.std.proofs.Common.{◌≡◌, ℕ, Bool, false, if◌then◌else◌, ◌-◌, ◌*◌, ◌≤◌, true, eqb, List, ◌++◌, map, length, take, drop, sym, refl, ap, ◌∙◌, subst, ap₂, arith}
 use Rattle.std.proofs.lemmas.Bool.{cond_both, cond-false}
 use Rattle.std.proofs.lemmas.List.{drop-drop}
 use Rattle.round.specs.declared.table.Round.{Round}
@@ -149,11 +149,9 @@ module _ {S V : Type 0} (by : Setting S V) (xs : List (Node S V)) (fit : fits by
         let t : IsShaped n W ys = subst (IsShaped n W) (sym all) filter-shaped in
         record { records = all; answer = count ∙ fewer-words by.round W xs ys fit long s t ∙ ap (arcs_lost n W xs) all; shaped = t; timely = subst (IsTimely n W) (sym all) filter-timely }
 
-    pub filter-done : ys ≡ filter_steps by goes xs → Done n W (after_filter by goes xs) ys (arcs_lost n W xs (after_filter by goes xs)) m
-    filter-done is = done (is ∙ filter-words)
-
-    pub labelled-done : ys ≡ filter_labelled_steps by goes xs → IsLabelled by xs → Done n W (after_filter by goes xs) ys (arcs_lost n W xs (after_filter by goes xs)) m
-    labelled-done is same = done (is ∙ labelled-words same)
+    pub filter-done : (labelled : Bool) → (labelled ≡ true → IsLabelled by xs) → ys ≡ (if labelled then filter_labelled_steps by goes xs else filter_steps by goes xs) → Done n W (after_filter by goes xs) ys (arcs_lost n W xs (after_filter by goes xs)) m
+    filter-done true same is = done (is ∙ labelled-words (same refl))
+    filter-done false same is = done (is ∙ filter-words)
 
 -- so of a sweep
 module _ {S V : Type 0} (by : Setting S V) (xs : List (Node S V)) (fit : fits by.round.n by.width (length xs) ≡ true) (s : IsShaped by.round.n by.width xs) where

@@ -47,6 +47,10 @@ module _ {S V : Type 0} (by : Setting S V) where
       if none_goes goes by.round.n by.width xs then xs
       else tidied by.width (blank_node by.rule by.tally) by.round.n first_mark (kept_from goes by.width 0 by.round.n xs)
 
+  -- labels anew: all; or, of a list whose labels stood until so many arcs went, those of the nodes, if any went
+  abbrev pub anew : Bool → ℕ → List (Node S V) → List (Node S V)
+  anew labelled gone xs = if labelled then (if gone == 0 then xs else relabelled_used by xs) else relabelled by xs
+
   -- a filter: which arcs go
   unfoldable pub filter_steps : (ℕ → ℕ → ℕ → Option (Down S V) → Option Up → Bool) → List (Node S V) → List (Node S V)
   unfolding thinned relabelled
