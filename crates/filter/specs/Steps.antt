@@ -24,7 +24,6 @@ timely = list_all (λ x. nat_le x.label.down.finish (latest_finish 15))
 
 -- arcs of a diagram of n doors and width W
 unfoldable pub arc_count : {S V : Type 0} → ℕ → ℕ → List (Node S V) → ℕ
-unfolding arcs_within
 arc_count n W xs = arcs_within (take (n * W) xs)
 
 -- no arc goes: as many are left
