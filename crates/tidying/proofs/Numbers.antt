@@ -43,15 +43,15 @@ module _ {S V : Type 0} where
       ∙ ap (λ k. if get_or (map lively us) a false then k else 0) (omega arith)
 
   -- the loop's step
-  pub numbered-yes : (us : List (Node S V)) (new : List ℕ) (count a : ℕ) (x : Node S V) → a < length us → x ≡ get_or us a x → lively x ≡ true
+  pub numbered_yes : (us : List (Node S V)) (new : List ℕ) (count a : ℕ) (x : Node S V) → a < length us → x ≡ get_or us a x → lively x ≡ true
       → numbered (set new (a + 1) (count + 1)) (count + 1) (a + 1) (drop (a + 1) us) ≡ numbered new count a (drop a us)
   unfolding numbered
-  numbered-yes us new count a x lt is live = rw (drop_more us a x lt, ← is) (sym (cond-true (lively x) _ _ live))
+  numbered_yes us new count a x lt is live = rw (drop_more us a x lt, ← is) (sym (cond-true (lively x) _ _ live))
 
-  pub numbered-no : (us : List (Node S V)) (new : List ℕ) (count a : ℕ) (x : Node S V) → a < length us → x ≡ get_or us a x → lively x ≡ false → numbered new count (a + 1) (drop (a + 1) us) ≡ numbered new count a (drop a us)
+  pub numbered_no : (us : List (Node S V)) (new : List ℕ) (count a : ℕ) (x : Node S V) → a < length us → x ≡ get_or us a x → lively x ≡ false → numbered new count (a + 1) (drop (a + 1) us) ≡ numbered new count a (drop a us)
   unfolding numbered
-  numbered-no us new count a x lt is dead = rw (drop_more us a x lt, ← is) (sym (cond-false (lively x) _ _ dead))
+  numbered_no us new count a x lt is dead = rw (drop_more us a x lt, ← is) (sym (cond-false (lively x) _ _ dead))
 
-  pub numbered-all : (us : List (Node S V)) (new : List ℕ) (count a : ℕ) → length us ≤ a → numbered new count a (drop a us) ≡ new
+  pub numbered_all : (us : List (Node S V)) (new : List ℕ) (count a : ℕ) → length us ≤ a → numbered new count a (drop a us) ≡ new
   unfolding numbered
-  numbered-all us new count a all = rw (drop_all a us all)
+  numbered_all us new count a all = rw (drop_all a us all)
