@@ -1,12 +1,10 @@
 -- Where records are arranged as a net, tidying them is tidying the net
-use Rattle.std.proofs.Common.{◌≡◌, ℕ, zero, suc, ◌+◌, ◌-◌, ◌*◌, ◌<◌, ◌≤◌, Bool, true, false, List, [], ◌∷◌, ◌++◌, map, length, get_or, take, drop, replicate, filter, Some, None, Option, sym, refl, ap, ◌∙◌, ap₂, inl, inr, append_assoc, suc-mul, arith}
+use Rattle.std.proofs.Common.{◌≡◌, ℕ, zero, suc, ◌+◌, ◌-◌, ◌<◌, ◌≤◌, Bool, true, false, List, [], ◌∷◌, ◌++◌, map, length, get_or, take, drop, replicate, filter, Some, None, Option, sym, refl, ap, ◌∙◌, ap₂, inl, inr, append_assoc, arith}
 use Rattle.std.specs.List.{All}
-use Rattle.std.proofs.lemmas.Bool.{cases_Bool, cases_lt, false_from_ne_true, true_from_ne_false, false≢true}
+use Rattle.std.proofs.lemmas.Bool.{cases_Bool, cases_lt, true_from_ne_false}
 use Rattle.std.proofs.lemmas.Bool.Decides.{same_from_decides}
 use Rattle.std.proofs.lemmas.List.{ext_get_or, get_or-drop, get_or_append_left, get_or-append_right, get_or_default, get_or_past, length-append, length-drop, length-map, length-take, map-append}
 use Rattle.std.proofs.lemmas.List.Elements.{All-append, All-filter, All-from_get_or, All-replicate, filter_passes}
-use Rattle.std.proofs.lemmas.List.Sums.{count_by-le-length, length-filter}
-use Rattle.layers.specs.declared.node.Arcs.{Arcs}
 use Rattle.layers.specs.declared.node.Node.{Node}
 use Rattle.layers.specs.Flow.{gather, climbs_of, next, up}
 use Rattle.layers.specs.Net.{table, Outs, Layer, Net, node, target, width, redirect}
@@ -16,14 +14,14 @@ use Rattle.layers.specs.Targets.{targets, at_door}
 use Rattle.layers.specs.Tidy.{Mark, marks_next, marks_up, flags, rank, compress, renumber, tidy, tidied_arcs}
 use Rattle.layers.proofs.Bridge.{table-ext}
 use Rattle.layers.proofs.Flows.{rank-zero, has-arc, redirect-get, mark-next, flags-at, renumber-at, table-long}
-use Rattle.layers.proofs.Shaped.{standing-at, standing-short}
+use Rattle.layers.proofs.Shaped.{standing-at}
 use Rattle.layers.proofs.Tied.{flags-back, redirect-length, marked_from, climbs, climbs-from}
 use Rattle.labels.specs.Passes.{blank_node}
 use Rattle.labels.proofs.Laying.{arcs_of, Arranged, Good}
 use Rattle.labels.proofs.Places.{Stands, Ready}
 use Rattle.labels.proofs.RedirectNet.{table-list, padded-is, padded-at, arranged-long, arcs-arranged, targets-arranged}
 use Rattle.tidying.specs.Tidied.{lively, reached_next, numbers, tidied, together, first_mark}
-use Rattle.tidying.proofs.Lists.{get_or-blank, get_or-mapped, get_or-tail}
+use Rattle.tidying.proofs.Lists.{get_or-mapped, get_or-tail}
 use Rattle.tidying.proofs.Marks.{On, first-on, reached-on, on-reached}
 use Rattle.tidying.proofs.Renewed.{arc-in, renewed-layer, long, renewed-sent, renewed-live, live-at, live-used, numbers-zero, number-is}
 use Rattle.tidying.proofs.Steps.{block, block-long, front, back}
