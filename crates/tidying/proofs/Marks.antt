@@ -1,13 +1,14 @@
 -- Which marks a table has after the targets of a node, and of the marked nodes of a layer
 use Rattle.std.proofs.Common.{◌≡◌, ℕ, zero, suc, ◌+◌, ◌<◌, ◌≤◌, Bool, true, false, if◌then◌else◌, ◌⊎◌, List, [], ◌∷◌, length, get_or, take, drop, set, replicate, sym, refl, ap, ◌∙◌, inl, inr, arith}
 use Rattle.std.specs.List.{Contains}
-use Rattle.std.proofs.lemmas.Bool.{false≢true}
-use Rattle.std.proofs.lemmas.Grind.{elements}
+use Rattle.std.proofs.lemmas.Bool.{cases_Bool, false≢true}
+use Rattle.std.proofs.lemmas.Grind.{elements, fold-append}
 use Rattle.std.proofs.lemmas.List.{drop_all, drop_more, get_or-set_same, get_or_default, length-set, take_all}
+use Rattle.std.proofs.lemmas.List.Elements.{Contains-append_cases, Contains-append_left, Contains-append_right}
 use Rattle.std.proofs.lemmas.List.Sums.{fold_more}
 use Rattle.layers.specs.declared.node.Node.{Node}
 use Rattle.layers.specs.Targets.{targets}
-use Rattle.tidying.specs.Tidied.{marked, spread, reached_next, first_mark}
+use Rattle.tidying.specs.Tidied.{marked, sent, reached_next, first_mark}
 use Rattle.tidying.proofs.Lists.{get_or-blank}
 use Rattle.tidying.proofs.Targets.{length-targets, target-at}
 
@@ -27,11 +28,6 @@ marked-on (x ∷ ts) m t on = elim (marked-on ts (set m x true) t on) [
   | inl o ↦ elim (set-on m x t o) [ inl p ↦ inl p | inr e ↦ inr (0, omega arith, e) ]
   | inr h ↦ inr (suc h.0, omega (arith, h.1), h.2)
 ]
-
-marked-long : (ts : List ℕ) (m : List Bool) → length (marked m ts) ≡ length m
-unfolding marked
-marked-long [] m = refl
-marked-long (x ∷ ts) m = marked-long ts (set m x true) ∙ length-set m x true
 
 marked-keeps : (ts : List ℕ) (m : List Bool) (t : ℕ) → t < length m → On m t → On (marked m ts) t
 unfolding marked
@@ -57,51 +53,46 @@ after-first [] a = refl
 after-first (b ∷ from) a = refl
 
 -- the loop's step over the nodes of a layer, and its end
-pub spread_more : {S V : Type 0} (from : List Bool) (us : List (Node S V)) (m : List Bool) (a : ℕ) (x : Node S V) → a + 1 < length from → a < length us → x ≡ get_or us a x
-    → spread m (drop (a + 1) from) (drop a us) ≡ spread (if get_or from (a + 1) false then marked m (targets x) else m) (drop (a + 1 + 1) from) (drop (a + 1) us)
-unfolding spread
-spread_more from us m a x lt in' is = rw (drop_more from (a + 1) false lt, drop_more us a x in', ← is)
+pub sent_more : {S V : Type 0} (from : List Bool) (us : List (Node S V)) (m : List Bool) (a : ℕ) (x : Node S V) → a + 1 < length from → a < length us → x ≡ get_or us a x
+    → marked m (sent (drop (a + 1) from) (drop a us)) ≡ marked (if get_or from (a + 1) false then marked m (targets x) else m) (sent (drop (a + 1 + 1) from) (drop (a + 1) us))
+unfolding marked
+sent_more from us m a x lt in' is = rw (drop_more from (a + 1) false lt, drop_more us a x in', ← is) (elim (cases_Bool (get_or from (a + 1) false)) [
+  | inl e ↦ rw e (fold-append (λ m t. set m t true) m (targets x) (sent (drop (a + 1 + 1) from) (drop (a + 1) us)))
+  | inr e ↦ rw e
+])
 
-pub spread_all : {S V : Type 0} (m bs : List Bool) (us : List (Node S V)) (a : ℕ) → length us ≤ a → spread m bs (drop a us) ≡ m
-unfolding spread
-spread_all m [] us a all = refl
-spread_all m (b ∷ bs) us a all = rw (drop_all a us all)
+pub sent_all : {S V : Type 0} (m bs : List Bool) (us : List (Node S V)) (a : ℕ) → length us ≤ a → marked m (sent bs (drop a us)) ≡ m
+unfolding marked
+sent_all m [] us a all = refl
+sent_all m (b ∷ bs) us a all = rw (drop_all a us all)
 
 module _ {S V : Type 0} (z : Node S V) where
-  spread-on : (bs : List Bool) (us : List (Node S V)) (m : List Bool) (t : ℕ) → On (spread m bs us) t → On m t ⊎ ((a : ℕ) × On bs a × (k : ℕ) × (get_or (targets (get_or us a z)) k 0 ≡ t))
-  unfolding spread
-  spread-on [] us m t on = inl on
-  spread-on (b ∷ bs) [] m t on = inl on
-  spread-on (false ∷ bs) (u ∷ us) m t on = elim (spread-on bs us m t on) [ inl o ↦ inl o | inr s ↦ inr (suc s.0, s.1, s.2, s.3) ]
-  spread-on (true ∷ bs) (u ∷ us) m t on = elim (spread-on bs us (marked m (targets u)) t on) [
-    | inl o ↦ elim (marked-on (targets u) m t o) [ inl p ↦ inl p | inr h ↦ inr (0, refl, h.0, get_or_default (targets u) h.0 0 t h.1 ∙ h.2) ]
-    | inr s ↦ inr (suc s.0, s.1, s.2, s.3)
+  sent-from : (bs : List Bool) (us : List (Node S V)) (t : ℕ) → Contains (sent bs us) t → (a : ℕ) × On bs a × (k : ℕ) × (get_or (targets (get_or us a z)) k 0 ≡ t)
+  sent-from [] us t c = absurd (omega (arith, c.1))
+  sent-from (b ∷ bs) [] t c = absurd (omega (arith, c.1))
+  sent-from (true ∷ bs) (u ∷ us) t c = elim (Contains-append_cases (targets u) (sent bs us) t c) [
+    | inl h ↦ (0, refl, h.0, get_or_default (targets u) h.0 0 t h.1 ∙ h.2)
+    | inr h ↦ (let r = sent-from bs us t h in (suc r.0, r.1, r.2, r.3))
   ]
+  sent-from (false ∷ bs) (u ∷ us) t c = let r = sent-from bs us t c in (suc r.0, r.1, r.2, r.3)
 
-  spread-keeps : (bs : List Bool) (us : List (Node S V)) (m : List Bool) (t : ℕ) → t < length m → On m t → On (spread m bs us) t
-  unfolding spread
-  spread-keeps [] us m t lt on = on
-  spread-keeps (b ∷ bs) [] m t lt on = on
-  spread-keeps (false ∷ bs) (u ∷ us) m t lt on = spread-keeps bs us m t lt on
-  spread-keeps (true ∷ bs) (u ∷ us) m t lt on = spread-keeps bs us (marked m (targets u)) t (omega (arith, marked-long (targets u) m)) (marked-keeps (targets u) m t lt on)
-
-  spread-has : (bs : List Bool) (us : List (Node S V)) (m : List Bool) (a k t : ℕ) → t < length m → On bs a → a < length us → k < length (targets (get_or us a z)) → get_or (targets (get_or us a z)) k 0 ≡ t → On (spread m bs us) t
-  unfolding spread
-  spread-has [] us m a k t lt on in' low e = absurd (false≢true on)
-  spread-has (b ∷ bs) [] m a k t lt on in' low e = absurd (omega arith)
-  spread-has (false ∷ bs) (u ∷ us) m zero k t lt on in' low e = absurd (false≢true on)
-  spread-has (true ∷ bs) (u ∷ us) m zero k t lt on in' low e =
-      spread-keeps bs us (marked m (targets u)) t (omega (arith, marked-long (targets u) m)) (marked-has (targets u) m k t lt low (get_or_default (targets u) k t 0 low ∙ e))
-  spread-has (false ∷ bs) (u ∷ us) m (suc a) k t lt on in' low e = spread-has bs us m a k t lt on (omega arith) low e
-  spread-has (true ∷ bs) (u ∷ us) m (suc a) k t lt on in' low e = spread-has bs us (marked m (targets u)) a k t (omega (arith, marked-long (targets u) m)) on (omega arith) low e
+  sent-has : (bs : List Bool) (us : List (Node S V)) (a k t : ℕ) → On bs a → a < length us → k < length (targets (get_or us a z)) → get_or (targets (get_or us a z)) k 0 ≡ t → Contains (sent bs us) t
+  sent-has [] us a k t on lt low e = absurd (false≢true on)
+  sent-has (b ∷ bs) [] a k t on lt low e = absurd (omega arith)
+  sent-has (true ∷ bs) (u ∷ us) zero k t on lt low e = Contains-append_left (targets u) (sent bs us) t (k, low, get_or_default (targets u) k t 0 low ∙ e)
+  sent-has (false ∷ bs) (u ∷ us) zero k t on lt low e = absurd (false≢true on)
+  sent-has (true ∷ bs) (u ∷ us) (suc a) k t on lt low e = Contains-append_right (targets u) (sent bs us) t (sent-has bs us a k t on (omega arith) low e)
+  sent-has (false ∷ bs) (u ∷ us) (suc a) k t on lt low e = sent-has bs us a k t on (omega arith) low e
 
   pub reached-on : (from : List Bool) (us : List (Node S V)) (t : ℕ) → On (reached_next from us) t → (a : ℕ) × On from (suc a) × (k : ℕ) × (get_or (targets (get_or us a z)) k 0 ≡ t)
   unfolding reached_next
-  reached-on from us t on = elim (spread-on (drop 1 from) us (replicate 256 false) t on) [
+  reached-on from us t on = elim (marked-on (sent (drop 1 from) us) (replicate 256 false) t on) [
     | inl o ↦ absurd (false≢true (sym (get_or-blank 256 t false) ∙ o))
-    | inr s ↦ (s.0, sym (after-first from s.0) ∙ s.1, s.2, s.3)
+    | inr c ↦ (let s = sent-from (drop 1 from) us t c in (s.0, sym (after-first from s.0) ∙ s.1, s.2, s.3))
   ]
 
   pub on-reached : (from : List Bool) (us : List (Node S V)) (a k t : ℕ) → t < 256 → On from (suc a) → a < length us → k < length (targets (get_or us a z)) → get_or (targets (get_or us a z)) k 0 ≡ t → On (reached_next from us) t
   unfolding reached_next
-  on-reached from us a k t lt on = spread-has (drop 1 from) us (replicate 256 false) a k t lt (after-first from a ∙ on)
+  on-reached from us a k t lt on in' low e =
+      let c = sent-has (drop 1 from) us a k t (after-first from a ∙ on) in' low e in
+      marked-has (sent (drop 1 from) us) (replicate 256 false) c.0 t lt c.1 c.2

@@ -1,8 +1,10 @@
 -- The records of a layer, renewed by the numbers of the next, and the numbers that they get
-use Rattle.std.proofs.Common.{◌≡◌, ℕ, zero, suc, ◌-◌, ◌<◌, ◌≤◌, Bool, true, false, ◌≢◌, List, [], ◌∷◌, map, length, get_or, take, drop, filter, sym, refl, ap, ◌∙◌, inl, inr, append_assoc, add-one, arith}
+use Rattle.std.proofs.Common.{◌≡◌, ℕ, zero, suc, ◌-◌, ◌<◌, ◌≤◌, Bool, true, false, ◌≢◌, List, [], ◌∷◌, ◌++◌, map, length, get_or, take, drop, replicate, filter, sym, refl, ap, ◌∙◌, inl, inr, append_assoc, add-one, arith}
+use Rattle.std.specs.List.{All}
 use Rattle.std.proofs.lemmas.Bool.{cases_Bool, cases_lt, false_from_ne_true, false≢true, true≢false}
 use Rattle.std.proofs.lemmas.List.{get_or_past, length-map}
 use Rattle.std.proofs.lemmas.List.FromFn.{get_or-map-range_with_len, length-map-range_with_len}
+use Rattle.std.proofs.lemmas.List.Elements.{All-filter, All-from_get_or, filter_passes}
 use Rattle.layers.specs.declared.node.Node.{Node}
 use Rattle.layers.specs.Records.{is_used, nodes_in}
 use Rattle.layers.specs.Targets.{targets, with_targets}
@@ -10,8 +12,8 @@ use Rattle.layers.specs.Tidy.{rank, renumber}
 use Rattle.layers.proofs.Flows.{renumber-at}
 use Rattle.layers.proofs.Tied.{renumber-back}
 use Rattle.tidying.specs.Tidied.{lively, reached_next, renewed, renew_at, renewals, together, numbers, tidied}
-use Rattle.tidying.proofs.InUse.{nodes-few, nodes-used, nodes-past, nodes-moved}
-use Rattle.tidying.proofs.Lists.{get_or-mapped, zero-or-suc}
+use Rattle.tidying.proofs.InUse.{nodes-few, nodes-used, nodes-past, nodes-after, nodes-blank}
+use Rattle.tidying.proofs.Lists.{get_or-mapped, get_or-tail, zero-or-suc}
 use Rattle.tidying.proofs.Marks.{On}
 use Rattle.tidying.proofs.Numbers.{number-at, number-none}
 use Rattle.tidying.proofs.Steps.{front}
@@ -126,12 +128,19 @@ module _ {S V : Type 0} (w : ℕ) (z : Node S V) (bare : Bare z) (small : w < 25
     pub number-live : (a c : ℕ) → get_or (numbers w z (suc r) from xs) (suc a) 0 ≡ suc c → (lively (get_or renewed-layer a z) ≡ true) × (rank (map lively renewed-layer) a ≡ c)
     number-live a c e = let n = renumber-back (map lively renewed-layer) a c (sym (number-is a) ∙ e) in (sym (live-at a) ∙ n.0, n.1)
 
+    pub all-used : All (λ x. is_used x ≡ true) (filter lively renewed-layer)
+    all-used k d lt =
+        let P : Node S V → Type 0 = λ x. lively x ≡ true → is_used x ≡ true in
+        All-filter lively P renewed-layer (All-from_get_or P renewed-layer z (λ i lt live. (live-used i live).0)) k d lt (filter_passes lively renewed-layer k d lt)
+
     -- read as nodes, what the layer becomes are those with arcs
     pub nodes-left : w ≤ length xs → (c : ℕ) → get_or (nodes_in (take w (tidied w z (suc r) from xs))) c z ≡ get_or (filter lively renewed-layer) c z
     unfolding together
     nodes-left fits c =
-        let n = length renewed-layer - length (filter lively renewed-layer) in
-        rw (front w z r from xs fits, append_assoc) (nodes-moved z lively renewed-layer n (drop (length us) (take w xs)) (nodes-past (take w xs)) (λ a live. (live-used a live).0) c)
+        let F = filter lively renewed-layer in
+        let R = replicate (length renewed-layer - length F) z in
+        let D = drop (length us) (take w xs) in
+        rw (front w z r from xs fits, append_assoc, nodes-after F (R ++ D) all-used) (get_or-tail F (nodes_in (R ++ D)) z (nodes-blank z (length renewed-layer - length F) D (nodes-past (take w xs))) c)
 
     -- and so each has its arcs, numbered anew
     pub sent-left : w ≤ length xs → (a c k : ℕ) → get_or (numbers w z (suc r) from xs) (suc a) 0 ≡ suc c

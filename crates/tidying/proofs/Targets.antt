@@ -1,5 +1,5 @@
 -- The targets of a record, and counts of arcs
-use Rattle.std.proofs.Common.{◌≡◌, ℕ, zero, suc, ◌+◌, ◌<◌, true, false, not, ◌==◌, ◌≢◌, List, [], ◌∷◌, ◌++◌, map, length, get_or, take, drop, sum_by, sym, refl, arith}
+use Rattle.std.proofs.Common.{◌≡◌, ℕ, zero, suc, ◌+◌, ◌<◌, true, false, not, ◌==◌, ◌≢◌, List, [], ◌∷◌, ◌++◌, map, length, get_or, take, drop, sum_by, sym, refl, inl, inr, arith}
 use Rattle.std.proofs.lemmas.Bool.Decides.{nat_tests}
 use mir.Val.{bool_byte}
 use Rattle.std.specs.List.{range_with_len}
@@ -11,6 +11,7 @@ use Rattle.layers.specs.Net.{count_doors}
 use Rattle.layers.specs.Targets.{targets}
 use Rattle.tidying.specs.Counted.{arcs_of, arcs_within}
 use Rattle.tidying.specs.Tidied.{bare_node, lively}
+use Rattle.tidying.proofs.Lists.{zero-or-suc}
 
 pub length-targets : {S V : Type 0} (x : Node S V) → length (targets x) ≡ 16
 unfolding targets
@@ -54,17 +55,6 @@ bare_counted l = refl
 abbrev pub Bare : {S V : Type 0} → Node S V → Type 0
 Bare z = (k : ℕ) → get_or (targets z) k 0 ≡ 0
 
-doors-bare : (ts : List ℕ) → count_doors ts ≡ 0 → (k : ℕ) → get_or ts k 0 ≡ 0
-unfolding count_doors
-doors-bare [] e k = refl
-doors-bare (zero ∷ ts) e zero = refl
-doors-bare (zero ∷ ts) e (suc k) = doors-bare ts e k
-doors-bare (suc b ∷ ts) e k = absurd (omega arith)
-
-pub bare-from : {S V : Type 0} (z : Node S V) → arcs_of z ≡ 0 → Bare z
-unfolding arcs_of
-bare-from z e = doors-bare (targets z) e
-
 doors-have : (ts : List ℕ) → count_doors ts ≢ 0 → (k : ℕ) × (b : ℕ) × (get_or ts k 0 ≡ suc b)
 unfolding count_doors
 doors-have [] ne = absurd (ne refl)
@@ -77,6 +67,10 @@ doors-from [] k b e = absurd (omega arith)
 doors-from (zero ∷ ts) zero b e = absurd (omega arith)
 doors-from (zero ∷ ts) (suc k) b e = doors-from ts k b e
 doors-from (suc c ∷ ts) k b e = omega arith
+
+pub bare-from : {S V : Type 0} (z : Node S V) → arcs_of z ≡ 0 → Bare z
+unfolding arcs_of
+bare-from z e k = elim (zero-or-suc (get_or (targets z) k 0)) [ inl o ↦ o | inr b ↦ absurd (let some = doors-from (targets z) k b.0 b.1 in omega arith) ]
 
 pub lively-has : {S V : Type 0} (x : Node S V) → lively x ≡ true → (k : ℕ) × (b : ℕ) × (get_or (targets x) k 0 ≡ suc b)
 unfolding lively arcs_of

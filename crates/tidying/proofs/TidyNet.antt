@@ -23,7 +23,7 @@ use Rattle.labels.proofs.RedirectNet.{table-list, padded-is, padded-at, arranged
 use Rattle.tidying.specs.Tidied.{lively, reached_next, numbers, tidied, together, first_mark}
 use Rattle.tidying.proofs.Lists.{get_or-mapped, get_or-tail}
 use Rattle.tidying.proofs.Marks.{On, first-on, reached-on, on-reached}
-use Rattle.tidying.proofs.Renewed.{arc-in, renewed-layer, long, renewed-sent, renewed-live, live-at, live-used, numbers-zero, number-is}
+use Rattle.tidying.proofs.Renewed.{arc-in, renewed-layer, long, renewed-sent, renewed-live, live-at, live-used, all-used, numbers-zero, number-is}
 use Rattle.tidying.proofs.Steps.{block, block-long, front, back}
 use Rattle.tidying.proofs.Targets.{Bare, bare-from, bare_counted, length-targets, lively-from, lively-none, targets_read}
 
@@ -238,9 +238,7 @@ module _ {S V : Type 0} (by : Setting S V) (small : by.width < 256) where
       block-stands blank =
           let F = filter lively vs in
           let n = length vs - length F in
-          let P : Node S V → Type 0 = λ x. lively x ≡ true → is_used x ≡ true in
-          rw append_assoc (stands-first (λ x. x.label ≡ z.label) F (replicate n z ++ drop (length us) (take w xs))
-          (λ k d lt. All-filter lively P vs (All-from_get_or P vs z (λ i lt l. (live-used w z bare small (length Ls) from xs i l).0)) k d lt (filter_passes lively vs k d lt))
+          rw append_assoc (stands-first (λ x. x.label ≡ z.label) F (replicate n z ++ drop (length us) (take w xs)) (all-used w z bare small (length Ls) from xs)
           (All-append (λ x. x.label ≡ z.label) (replicate n z) (drop (length us) (take w xs)) (All-replicate (λ x. x.label ≡ z.label) n z refl) blank))
 
   -- ---- all layers

@@ -23,17 +23,16 @@ lively x = not (arcs_of x == 0)
 unfoldable pub marked : List Bool → List ℕ → List Bool
 marked m ts = fold (λ m t. slice_set m t true) m ts
 
--- the marks m, and those of the targets of the nodes that are marked in bs
-unfoldable pub spread : {S V : Type 0} → List Bool → List Bool → List (Node S V) → List Bool
-unfolding marked targets
-spread m [] us = m
-spread m (b ∷ bs) [] = m
-spread m (b ∷ bs) (u ∷ us) = spread (if b then marked m (targets u) else m) bs us
+-- the targets of the nodes that are marked in bs
+abbrev pub sent : {S V : Type 0} → List Bool → List (Node S V) → List ℕ
+sent [] us = []
+sent (b ∷ bs) [] = []
+sent (b ∷ bs) (u ∷ us) = (if b then targets u else []) ++ sent bs us
 
 -- the marks of the targets of those nodes us of a layer that have a mark
 unfoldable pub reached_next : {S V : Type 0} → List Bool → List (Node S V) → List Bool
-unfolding spread
-reached_next from us = spread (replicate 256 false) (drop 1 from) us
+unfolding marked
+reached_next from us = marked (replicate 256 false) (sent (drop 1 from) us)
 
 -- a node with its targets numbered anew if it is reached, as `on` says, and else z
 unfoldable pub renewed : {S V : Type 0} → Node S V → Bool → List ℕ → Node S V → Node S V

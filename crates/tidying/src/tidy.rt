@@ -32,7 +32,7 @@ fn mark<S: Copy, V: Copy>(marks: &mut [bool; 256], x: &Node<S, V>)
 }
 
 /// Marks the targets of the marked nodes.
-#[tactic(auto, using(crate::proofs::Marks::spread_more, crate::proofs::Marks::spread_all), unfolding(crate::specs::Tidied::reached_next))]
+#[tactic(auto, using(crate::proofs::Marks::sent_more, crate::proofs::Marks::sent_all), unfolding(crate::specs::Tidied::reached_next))]
 fn mark_next<S: Copy, V: Copy>(from: &[bool; 256], us: &[Node<S, V>]) -> [bool; 256]
     requires { length us.now ≤ 128 }
     ensures { result ≡ reached_next from.now us.now }
