@@ -1,5 +1,5 @@
 -- Taking out arcs on the flat list comes to taking them out of the net.
-use Rattle.std.proofs.Common.{◌≡◌, ℕ, zero, suc, ◌+◌, ◌-◌, ◌*◌, ◌<◌, ◌≤◌, Bool, cond, List, [], ◌∷◌, ◌++◌, map, length, get_or, take, drop, Some, None, Option, sym, refl, ap, ◌∙◌, subst, ap₂, suc-mul, arith, take-append-drop}
+use Rattle.std.proofs.Common.{◌≡◌, ℕ, zero, suc, ◌+◌, ◌-◌, ◌*◌, ◌<◌, ◌≤◌, Bool, cond, List, [], ◌++◌, map, length, get_or, take, drop, Some, None, Option, sym, refl, ap, ◌∙◌, subst, ap₂, suc-mul, arith, take-append-drop}
 use Rattle.std.proofs.lemmas.Bool.{lt-ltb}
 use Rattle.std.proofs.lemmas.List.{get_or-drop, get_or-map, get_or_past, length-map, map-append, take_at, drop_at, drop-drop, length-append, length-drop, length-take, get_or-take, length-take-le}
 use Rattle.layers.specs.declared.node.Arcs.{Arcs}
@@ -62,9 +62,9 @@ module _ {S V : Type 0} (n : ℕ) (goes : ℕ → ℕ → ℕ → Option (Down S
       let N = nodes_in us in
       let q = drop (length N) us in
       let same : map f q ≡ q = all-same f q (λ k d lt. bare-kept i h vs (get_or q k d) (
-          ap arcs_of (get_or-drop (length N) us k d)
-          ∙ arcs-arranged W (arcs_in n N) us (length N + k) d e (omega (arith, length-drop (length N) us, arranged-long W (arcs_in n N) us e))
-          ∙ ap (λ (nd : List ℕ). record { to = padded_targets nd }) (get_or_past (arcs_in n N) (length N + k) [] (omega (arith, arcs-many n N))))) in
+      ap arcs_of (get_or-drop (length N) us k d)
+      ∙ arcs-arranged W (arcs_in n N) us (length N + k) d e (omega (arith, length-drop (length N) us, arranged-long W (arcs_in n N) us e))
+      ∙ ap (λ (nd : List ℕ). record { to = padded_targets nd }) (get_or_past (arcs_in n N) (length N + k) [] (omega (arith, arcs-many n N))))) in
       ap (λ ys. map f N ++ ys) (sym same) ∙ sym (map-append f N q) ∙ ap (map f) (ap (λ ys. ys ++ q) (sym (nodes-first us)) ∙ take-append-drop (length N) us)
 
   kept_row : (i h m : ℕ) (us vs : List (Node S V)) → length (arcs_in n (nodes_in us)) ≤ W → map arcs_of us ≡ table W (arcs_at (arcs_in n (nodes_in us)))

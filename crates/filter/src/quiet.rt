@@ -36,7 +36,7 @@ fn nodes_stay<F: Test>(
 }
 
 /// The same from a layer on, with `left` layers of arcs from it to the end.
-#[tactic(auto, using(labels::proofs::Rests::one_more, labels::proofs::Rests::front_long))]
+#[tactic(auto, using(labels::proofs::Rests::one_more, labels::proofs::Rests::front_long), unfolding(crate::specs::Kept::all_stay))]
 fn stay_from<F: Test>(
     by: &Filter<'_, F>,
     layer: usize,

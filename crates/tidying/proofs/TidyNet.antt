@@ -4,7 +4,7 @@ use Rattle.std.specs.List.{All}
 use Rattle.std.proofs.lemmas.Bool.{cases_Bool, cases_lt, true_from_ne_false}
 use Rattle.std.proofs.lemmas.Bool.Decides.{same_from_decides}
 use Rattle.std.proofs.lemmas.List.{ext_get_or, get_or-drop, get_or_append_left, get_or-append_right, get_or_default, get_or_past, length-append, length-drop, length-map, length-take, map-append}
-use Rattle.std.proofs.lemmas.List.Elements.{All-append, All-filter, All-from_get_or, All-replicate, filter_passes}
+use Rattle.std.proofs.lemmas.List.Elements.{All-append, All-replicate}
 use Rattle.layers.specs.declared.node.Node.{Node}
 use Rattle.layers.specs.Flow.{gather, climbs_of, next, up}
 use Rattle.layers.specs.Net.{table, Outs, Layer, Net, node, target, width, redirect}
