@@ -67,6 +67,7 @@ fn stay_from<F: Test>(
 
 /// Whether none of the six tests bars an arc, by the labels that stand. A tally has no say in it.
 /// Of a list that has no room for the diagram the answer is no.
+#[tactic(auto, using(labels::proofs::Folds::all_any))]
 pub fn quiet<R: Rule, V: Copy>(
     round: &Round,
     rule: &R,
