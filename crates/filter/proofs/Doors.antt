@@ -1,5 +1,5 @@
 -- One arc of a filtered layer.
-use Rattle.std.proofs.Common.{◌≡◌, ℕ, zero, suc, ◌+◌, ◌-◌, ◌<◌, ◌≤◌, Bool, true, cond, not, List, [], ◌∷◌, map, length, get_or, replicate, set, Some, None, Option, ◌⊎◌, inl, inr, eqb, ltb, sym, refl, ap, ◌∙◌, zero-add, arith}
+use Rattle.std.proofs.Common.{◌≡◌, ℕ, zero, suc, ◌+◌, ◌-◌, ◌<◌, ◌≤◌, Bool, true, cond, not, List, [], ◌∷◌, map, length, get_or, set, Some, None, Option, ◌⊎◌, inl, inr, eqb, ltb, sym, refl, ap, ◌∙◌, zero-add, arith}
 use Rattle.std.specs.List.{range_with_len, filter}
 use Rattle.std.proofs.lemmas.Bool.{both_ways, cases_eq, cases_lt, cond_both, lt-ltb, ne_eqb, not_from_false}
 use Rattle.std.proofs.lemmas.Bool.Decides.{nat_tests}
@@ -11,7 +11,6 @@ use Rattle.layers.specs.declared.node.Down.{Down}
 use Rattle.layers.specs.declared.node.Up.{Up}
 use Rattle.layers.specs.Records.{ups_in}
 use Rattle.layers.specs.Targets.{at_door}
-use Rattle.tidying.proofs.Lists.{get_or-blank}
 use Rattle.filter.specs.Kept.{kept_to}
 
 module _ {S V : Type 0} (goes : ℕ → ℕ → ℕ → Option (Down S V) → Option Up → Bool) (i h : ℕ) (vs : List (Node S V)) (u : Node S V) (j : ℕ) where
@@ -42,9 +41,6 @@ module _ {S V : Type 0} (goes : ℕ → ℕ → ℕ → Option (Down S V) → Op
 -- the first i are written: these doors are right, and where f gives 0
 abbrev pub Written : (ℕ → ℕ) → List ℕ → List ℕ → ℕ → Type 0
 Written f ds ts i = (m : ℕ) → (f m ≡ 0) ⊎ ((a : ℕ) × (a < i) × (get_or ds a 0 ≡ m)) → get_or ts m 0 ≡ f m
-
-pub written_none : (f : ℕ → ℕ) (ds : List ℕ) → Written f ds (replicate 16 0) 0
-written_none f ds m o = elim o [ inl e ↦ get_or-blank 16 m 0 ∙ sym e | inr s ↦ absurd (omega (arith, s.1)) ]
 
 pub written_more : (f : ℕ → ℕ) (ds ts : List ℕ) (i k : ℕ) → k ≡ get_or ds i 0 → k < length ts → Written f ds ts i → Written f ds (set ts k (f k)) (i + 1)
 written_more f ds ts i k is lt h m o = elim (cases_eq m k) [

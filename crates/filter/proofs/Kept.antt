@@ -1,7 +1,8 @@
 -- A filter takes out arcs and adds none: none goes exactly if as many are left.
-use Rattle.std.proofs.Common.{◌≡◌, ℕ, zero, suc, ◌+◌, ◌-◌, ◌*◌, ◌≤◌, Bool, ◌&&◌, eqb, List, [], ◌∷◌, map, length, take, drop, Option, ◌⊎◌, inl, inr, refl, sym, ap, ◌∙◌, ap₂, arith, take-append-drop}
+use Rattle.std.proofs.Common.{◌≡◌, ℕ, zero, suc, ◌+◌, ◌-◌, ◌*◌, ◌≤◌, Bool, ◌&&◌, eqb, List, [], ◌∷◌, map, length, take, drop, Option, ◌⊎◌, inl, inr, refl, sym, ap, ◌∙◌, ap₂, arith}
 use Rattle.std.specs.List.{list_all}
 use Rattle.std.proofs.lemmas.Bool.Decides.{nat_tests}
+use Rattle.std.proofs.lemmas.List.Sums.{sum_by-cons, sum_by-take-drop}
 use Rattle.layers.specs.declared.node.Node.{Node}
 use Rattle.layers.specs.declared.node.Down.{Down}
 use Rattle.layers.specs.declared.node.Up.{Up}
@@ -11,7 +12,7 @@ use Rattle.layers.specs.Targets.{targets, with_targets, redirected}
 use Rattle.layers.proofs.Tied.{each_door-length}
 use Rattle.tidying.specs.Counted.{arcs_of, arcs_within}
 use Rattle.tidying.proofs.InUse.{nodes-first}
-use Rattle.tidying.proofs.Targets.{arcs-append, arcs-cons, layer-less, length-targets, targets_read}
+use Rattle.tidying.proofs.Targets.{layer-less, length-targets, targets_read}
 use Rattle.filter.specs.Kept.{kept_to, kept_node, kept_from, stays, all_stay}
 use Rattle.filter.specs.Steps.{arc_count, none_goes}
 use Rattle.filter.proofs.Doors.{left-or-none}
@@ -75,7 +76,7 @@ module _ {S V : Type 0} (goes : ℕ → ℕ → ℕ → Option (Down S V) → Op
       let q = nodes-gone i h vs us in
       let f = kept_node goes i h vs in
       let few = node-fewer i h vs u in
-      (arcs_of u - arcs_of (f u) + q.0, omega (arith, few, q.1, arcs-cons u us, arcs-cons (f u) (map f us)), ap (λ b. eqb (arcs_of (f u)) (arcs_of u) && b) q.2 ∙ both-none (arcs_of (f u)) (arcs_of u) q.0 few)
+      (arcs_of u - arcs_of (f u) + q.0, omega (arith, few, q.1, sum_by-cons arcs_of u us, sum_by-cons arcs_of (f u) (map f us)), ap (λ b. eqb (arcs_of (f u)) (arcs_of u) && b) q.2 ∙ both-none (arcs_of (f u)) (arcs_of u) q.0 few)
 
   pub layers-gone : (w i k : ℕ) (xs : List (Node S V)) → (g : ℕ) × (g + arcs_within (kept_from goes w i k xs) ≡ arcs_within xs) × (all_stay goes w i k xs ≡ eqb g 0)
   unfolding kept_from all_stay
@@ -84,12 +85,12 @@ module _ {S V : Type 0} (goes : ℕ → ℕ → ℕ → Option (Down S V) → Op
       let us = take w xs in
       let p = nodes-gone i (suc k) (drop w xs) (nodes_in us) in
       let q = layers-gone w (suc i) k (drop w xs) in
-      (p.0 + q.0, layer-less w (length (nodes_in us)) p.0 q.0 xs us (drop w xs) _ _ refl refl (p.1 ∙ ap arcs_within (sym (nodes-first us))) q.1, ap₂ ◌&&◌ p.2 q.2 ∙ sum-none p.0 q.0)
+      (p.0 + q.0, layer-less w (length (nodes_in us)) p.0 q.0 xs us (drop w xs) (map (kept_node goes i (suc k) (drop w xs)) (nodes_in us)) (kept_from goes w (suc i) k (drop w xs)) refl refl (p.1 ∙ ap arcs_within (sym (nodes-first us))) q.1, ap₂ ◌&&◌ p.2 q.2 ∙ sum-none p.0 q.0)
 
 -- the arcs of a diagram, and of what stands after its layers
 pub count-whole : {S V : Type 0} (n W : ℕ) (xs : List (Node S V)) → arcs_within xs ≡ arc_count n W xs + arcs_within (drop (n * W) xs)
 unfolding arc_count
-count-whole n W xs = ap arcs_within (sym (take-append-drop (n * W) xs)) ∙ arcs-append (take (n * W) xs) (drop (n * W) xs)
+count-whole n W xs = sym (sum_by-take-drop arcs_of xs (n * W))
 
 -- none goes exactly when as many arcs are left in the whole list
 pub none-counted : {S V : Type 0} (goes : ℕ → ℕ → ℕ → Option (Down S V) → Option Up → Bool) (n W : ℕ) (xs : List (Node S V)) → n * W + 1 ≤ length xs → (ys : List (Node S V)) → ys ≡ kept_from goes W 0 n xs

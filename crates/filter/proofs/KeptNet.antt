@@ -1,5 +1,5 @@
 -- Taking out arcs on the flat list comes to taking them out of the net.
-use Rattle.std.proofs.Common.{◌≡◌, ℕ, zero, suc, ◌+◌, ◌-◌, ◌*◌, ◌<◌, ◌≤◌, Bool, cond, List, [], ◌∷◌, ◌++◌, map, length, get_or, take, drop, Some, None, Option, sym, refl, ap, ◌∙◌, subst, ap₂, suc-mul, arith, take-append-drop}
+use Rattle.std.proofs.Common.{◌≡◌, ℕ, zero, suc, ◌+◌, ◌-◌, ◌*◌, ◌<◌, ◌≤◌, Bool, cond, List, [], ◌++◌, map, length, get_or, take, drop, Some, None, Option, sym, refl, ap, ◌∙◌, subst, ap₂, suc-mul, arith, take-append-drop}
 use Rattle.std.proofs.lemmas.Bool.{lt-ltb}
 use Rattle.std.proofs.lemmas.List.{get_or-drop, get_or-map, get_or_past, length-map, map-append, take_at, drop_at, drop-drop, length-append, length-drop, length-take, get_or-take, length-take-le}
 use Rattle.layers.specs.declared.node.Arcs.{Arcs}
@@ -8,13 +8,14 @@ use Rattle.layers.specs.declared.node.Node.{Node}
 use Rattle.layers.specs.declared.node.Up.{Up}
 use Rattle.layers.specs.Net.{table, Layer, Net, node, target, width, redirect, each_door}
 use Rattle.layers.specs.Records.{nodes_in, layers, arcs_in, downs_in, ups_in, arcs_of_layers, arcs_at, padded_targets}
-use Rattle.layers.specs.Targets.{redirected}
+use Rattle.layers.specs.Targets.{redirected, with_targets}
 use Rattle.layers.specs.Calls.{kept_arcs, labels_in}
 use Rattle.layers.proofs.Shaped.{standing-at, standing-short, drawn-deep}
 use Rattle.layers.proofs.Proper.{RangedAll}
 use Rattle.layers.proofs.Tied.{redirect-length}
 use Rattle.labels.proofs.Laying.{Arranged, arcs_of}
-use Rattle.labels.proofs.RedirectNet.{redirect-arranged, arranged-long, arcs-arranged, redirected-arcs, targets-is}
+use Rattle.labels.proofs.RedirectNet.{redirect-arranged, arranged-long, arcs-arranged, targets-is}
+use Rattle.labels.proofs.Places.{all-same}
 use Rattle.tidying.specs.InUse.{on_nodes}
 use Rattle.tidying.proofs.InUse.{nodes-first, mapped-long, mapped-nodes}
 use Rattle.tidying.specs.Tidied.{tidied, first_mark}
@@ -48,37 +49,30 @@ module _ {S V : Type 0} (n : ℕ) (goes : ℕ → ℕ → ℕ → Option (Down S
   Left i h us vs a j b = cond (goes i h j (get_or (downs_in (nodes_in us)) a None) (get_or (ups_in (nodes_in vs)) b None)) 0 (suc b)
 
   -- a record without arcs has none to lose
-  bare-kept : (i h : ℕ) (vs q : List (Node S V)) → ((k : ℕ) (d : Node S V) → k < length q → (get_or q k d).arcs ≡ arcs_at [] 0) → map arcs_of q ≡ map arcs_of (map (kept_node goes i h vs) q)
-  unfolding kept_node kept_to each_door
-  bare-kept i h vs [] none = refl
-  bare-kept i h vs (x ∷ q) none =
-      let f = kept_to goes i h vs x in
-      let e = none 0 x (omega arith) in
-      let kept : (redirected f x).arcs ≡ arcs_at [] 0 = redirected-arcs f x ∙ ap (λ (ts : List ℕ). record { to = each_door f 1 ts }) (targets-is x [] (ap (λ (y : Arcs). y.to) e)) in
-      ap₂ (λ (y : Arcs) (ys : List Arcs). y ∷ ys) (e ∙ sym kept) (bare-kept i h vs q (λ k d lt. none (suc k) d (omega arith)))
+  bare-kept : (i h : ℕ) (vs : List (Node S V)) (x : Node S V) → x.arcs ≡ arcs_at [] 0 → kept_node goes i h vs x ≡ x
+  unfolding kept_node kept_to redirected each_door
+  bare-kept i h vs x e =
+      let to = ap (λ (y : Arcs). y.to) e in
+      ap (λ (ts : List ℕ). with_targets x (each_door (kept_to goes i h vs x) 1 ts)) (targets-is x [] to) ∙ ap (with_targets x) (sym to)
 
   -- so it is as if a pass went over the places that are not in use too
-  unused-kept : (i h : ℕ) (us vs : List (Node S V)) → map arcs_of us ≡ table W (arcs_at (arcs_in n (nodes_in us))) → map arcs_of (on_nodes (map (kept_node goes i h vs)) us) ≡ map arcs_of (map (kept_node goes i h vs) us)
+  unused-kept : (i h : ℕ) (us vs : List (Node S V)) → map arcs_of us ≡ table W (arcs_at (arcs_in n (nodes_in us))) → on_nodes (map (kept_node goes i h vs)) us ≡ map (kept_node goes i h vs) us
   unused-kept i h us vs e =
       let f = kept_node goes i h vs in
       let N = nodes_in us in
       let q = drop (length N) us in
-      let none : (k : ℕ) (d : Node S V) → k < length q → (get_or q k d).arcs ≡ arcs_at [] 0 = λ k d lt.
-      let at = length N + k in
+      let same : map f q ≡ q = all-same f q (λ k d lt. bare-kept i h vs (get_or q k d) (
       ap arcs_of (get_or-drop (length N) us k d)
-      ∙ arcs-arranged W (arcs_in n N) us at d e (omega (arith, length-drop (length N) us, arranged-long W (arcs_in n N) us e))
-      ∙ ap (λ (nd : List ℕ). record { to = padded_targets nd }) (get_or_past (arcs_in n N) at [] (omega (arith, arcs-many n N))) in
-      map-append arcs_of (map f N) q
-      ∙ ap (λ ys. map arcs_of (map f N) ++ ys) (bare-kept i h vs q none)
-      ∙ sym (map-append arcs_of (map f N) (map f q))
-      ∙ ap (map arcs_of) (sym (map-append f N q) ∙ ap (map f) (ap (λ ys. ys ++ q) (sym (nodes-first us)) ∙ take-append-drop (length N) us))
+      ∙ arcs-arranged W (arcs_in n N) us (length N + k) d e (omega (arith, length-drop (length N) us, arranged-long W (arcs_in n N) us e))
+      ∙ ap (λ (nd : List ℕ). record { to = padded_targets nd }) (get_or_past (arcs_in n N) (length N + k) [] (omega (arith, arcs-many n N))))) in
+      ap (λ ys. map f N ++ ys) (sym same) ∙ sym (map-append f N q) ∙ ap (map f) (ap (λ ys. ys ++ q) (sym (nodes-first us)) ∙ take-append-drop (length N) us)
 
   kept_row : (i h m : ℕ) (us vs : List (Node S V)) → length (arcs_in n (nodes_in us)) ≤ W → map arcs_of us ≡ table W (arcs_at (arcs_in n (nodes_in us)))
       → ((a j b : ℕ) → target (node (arcs_in n (nodes_in us)) a) j ≡ suc b → b < length (nodes_in (take m vs)))
       → map arcs_of (on_nodes (map (kept_node goes i h vs)) us) ≡ table W (arcs_at (redirect (Left i h us (take m vs)) (arcs_in n (nodes_in us))))
   unfolding kept_node kept_to
   kept_row i h m us vs fits e g =
-      unused-kept i h us vs e
+      ap (map arcs_of) (unused-kept i h us vs e)
       ∙ redirect-arranged W (arcs_in n (nodes_in us)) us (kept_to goes i h vs) (Left i h us (take m vs)) fits e
       (λ d a j b k t. let there = up-there m vs b d (g a j b t) in
       rw (lt-ltb b (length vs) there.0)

@@ -1,5 +1,5 @@
 -- A filter, one layer more.
-use Rattle.std.proofs.Common.{◌≡◌, ℕ, zero, suc, ◌+◌, ◌-◌, ◌*◌, ◌≢◌, Bool, ◌&&◌, List, [], ◌∷◌, ◌++◌, map, length, take, drop, Option, refl, sym, subst, ap, ◌∙◌, add-one, arith, take-append-drop}
+use Rattle.std.proofs.Common.{◌≡◌, ℕ, suc, ◌+◌, ◌-◌, ◌*◌, ◌≢◌, Bool, ◌&&◌, List, [], ◌∷◌, ◌++◌, map, length, take, drop, Option, sym, subst, ap, ◌∙◌, add-one, arith, take-append-drop}
 use Rattle.std.proofs.Math.Seq.{take-add}
 use Rattle.std.specs.List.{AllByRecursion as All, list_all}
 use Rattle.layers.specs.declared.node.Node.{Node}
@@ -10,25 +10,21 @@ use Rattle.layers.specs.Records.{nodes_in}
 use Rattle.filter.specs.Kept.{kept_node, kept_from, stays, all_stay}
 
 -- row are the records of the first layer, its first k the nodes, and rest all after it
-pub record Split {S V : Type 0} (w left k : ℕ) (xs row rest : List (Node S V)) : Type 0 where
-  pub some : left ≢ 0
-  pub front : row ≡ take w xs
-  pub back : rest ≡ drop w xs
-  pub many : k ≡ length (nodes_in row)
-  pub nodes : take k row ≡ nodes_in row
+module _ {S V : Type 0} (goes : ℕ → ℕ → ℕ → Option (Down S V) → Option Up → Bool) (w i left : ℕ) (xs row rest : List (Node S V)) (some : left ≢ 0) (front : row ≡ take w xs) (back : rest ≡ drop w xs) where
+  one : left ≡ suc (left - 1)
+  one = omega arith
 
-module _ {S V : Type 0} (goes : ℕ → ℕ → ℕ → Option (Down S V) → Option Up → Bool) (w i : ℕ) where
-  pub kept-step : (left k : ℕ) (xs row rest us later : List (Node S V)) → Split w left k xs row rest → us ≡ map (kept_node goes i left rest) (take k row)
+  less : suc (left - 1) - 1 ≡ left - 1
+  less = omega arith
+
+  pub kept-step : (k : ℕ) (us later : List (Node S V)) → k ≡ length (nodes_in row) → take k row ≡ nodes_in row → us ≡ map (kept_node goes i left rest) (take k row)
       → later ≡ kept_from goes w (i + 1) (left - 1) rest → us ++ drop k row ++ later ≡ kept_from goes w i left xs
   unfolding kept_from
-  kept-step zero k xs row rest us later s e f = absurd (s.some refl)
-  kept-step (suc n) k xs row rest us later s e f = let m : suc n - 1 ≡ n = omega arith in rw (e, f, s.nodes, s.many, s.front, s.back, m, add-one i) refl
+  kept-step k us later many nodes e f = rw (e, f, nodes, many, front, back, add-one i, one, less)
 
-  pub stay-step : (left k : ℕ) (xs row rest : List (Node S V)) → Split w left k xs row rest
-      → list_all (stays goes i left rest) (take k row) && all_stay goes w (i + 1) (left - 1) rest ≡ all_stay goes w i left xs
+  pub stay-step : (k : ℕ) → take k row ≡ nodes_in row → list_all (stays goes i left rest) (take k row) && all_stay goes w (i + 1) (left - 1) rest ≡ all_stay goes w i left xs
   unfolding all_stay
-  stay-step zero k xs row rest s = absurd (s.some refl)
-  stay-step (suc n) k xs row rest s = let m : suc n - 1 ≡ n = omega arith in rw (s.nodes, s.front, s.back, m, add-one i) refl
+  stay-step k nodes = rw (nodes, front, back, add-one i, one, less)
 
 -- what holds of all records of the layers holds of those of the first, and of the others
 all-parts : {X : Type 0} (P : X → Type 0) (xs ys : List X) → All P (xs ++ ys) → All P xs × All P ys

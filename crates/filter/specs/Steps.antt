@@ -24,7 +24,6 @@ timely = list_all (λ x. nat_le x.label.down.finish (latest_finish 15))
 
 -- arcs of a diagram of n doors and width W
 unfoldable pub arc_count : {S V : Type 0} → ℕ → ℕ → List (Node S V) → ℕ
-unfolding arcs_within
 arc_count n W xs = arcs_within (take (n * W) xs)
 
 -- no arc goes: as many are left
@@ -46,6 +45,10 @@ module _ {S V : Type 0} (by : Setting S V) where
   thinned goes xs =
       if none_goes goes by.round.n by.width xs then xs
       else tidied by.width (blank_node by.rule by.tally) by.round.n first_mark (kept_from goes by.width 0 by.round.n xs)
+
+  -- labels anew: all; or, of a list whose labels stood until so many arcs went, those of the nodes, if any went
+  abbrev pub anew : Bool → ℕ → List (Node S V) → List (Node S V)
+  anew labelled gone xs = if labelled then (if gone == 0 then xs else relabelled_used by xs) else relabelled by xs
 
   -- a filter: which arcs go
   unfoldable pub filter_steps : (ℕ → ℕ → ℕ → Option (Down S V) → Option Up → Bool) → List (Node S V) → List (Node S V)

@@ -85,5 +85,5 @@ pub fn cut<R: Rule, T: Tally>(
         ceiling,
         states: PhantomData,
     };
-    filter(by, &test, nodes)
+    filter(by, &test, nodes, false)
 }

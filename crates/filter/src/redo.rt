@@ -1,10 +1,10 @@
 //! What every filter does: arcs are taken out, then the list is tidied and labelled anew.
-ghost use Rattle.std.specs.Prelude.{◌≡◌, ◌-◌, ◌*◌, ◌==◌, true, length, take};
+ghost use Rattle.std.specs.Prelude.{◌≡◌, ◌-◌, ◌*◌, ◌==◌, true, if◌then◌else◌, length, take};
 ghost use Rattle.std.specs.List.{AllByRecursion};
 ghost use Rattle.layers.specs.Settings.{lent_setting};
 ghost use Rattle.labels.specs.Passes.{fits};
 ghost use Rattle.filter.specs.Kept.{HasLabel};
-ghost use Rattle.filter.specs.Steps.{arc_count, none_goes, thinned, filter_steps, filter_labelled_steps, IsLabelled, FilterDone};
+ghost use Rattle.filter.specs.Steps.{arc_count, none_goes, thinned, anew, filter_steps, filter_labelled_steps, IsLabelled, FilterDone};
 
 use crate::take::{Filter, take_from};
 use crate::test::Test;
@@ -47,52 +47,50 @@ fn thin<R: Rule, T: Tally, F: Test<State = R::State, Value = T::Value>>(
     gone + tidy(by.round, nodes, by.width, &blank.label)
 }
 
-/// Takes out each arc that goes by the test, tidies and labels anew, and answers how many arcs went.
+/// Works out the labels anew: all of them; or, of a list whose labels stood until so many arcs went, those of the nodes, if any
+/// went.
+fn label_anew<R: Rule, T: Tally>(
+    by: &Setting<'_, R, T>,
+    nodes: &mut [Node<R::State, T::Value>],
+    labelled: bool,
+    gone: usize,
+)
+    requires { fits by.now.round.now.n by.now.width (length nodes.old) ≡ true }
+    ensures { let by = lent_setting by.now (R.sense by.now.rule.now)
+        (T.sense by.now.tally.now) in
+        nodes.new ≡ anew by labelled gone nodes.old }
+{
+    if !labelled {
+        relabel(by, nodes);
+    } else if gone != 0 {
+        relabel_used(by, nodes);
+    }
+}
+
+/// Takes out each arc that goes by the test, tidies and labels anew, and answers how many arcs went. Where `labelled` says that
+/// the labels are those that this setting gives, so that the places that are not in use are blank, the list stays as it is if
+/// no arc goes.
 pub(crate) fn filter<R: Rule, T: Tally, F: Test<State = R::State, Value = T::Value>>(
     by: &Setting<'_, R, T>,
     test: &F,
     nodes: &mut [Node<R::State, T::Value>],
+    labelled: bool,
 ) -> usize
     requires room { fits by.now.round.now.n by.now.width (length nodes.old) ≡ true }
     requires fits { AllByRecursion (HasLabel (F.fits test.now))
         (take (by.now.round.now.n * by.now.width) nodes.old) }
     ensures steps { let by = lent_setting by.now (R.sense by.now.rule.now)
         (T.sense by.now.tally.now) in
-        nodes.new ≡ filter_steps by (F.goes test.now by.round) nodes.old }
+        nodes.new ≡ (if labelled then filter_labelled_steps by (F.goes test.now by.round) nodes.old
+        else filter_steps by (F.goes test.now by.round) nodes.old) }
     ensures counted { result ≡ arc_count by.now.round.now.n by.now.width nodes.old -
         arc_count by.now.round.now.n by.now.width nodes.new }
     ensures words { let by = lent_setting by.now (R.sense by.now.rule.now)
         (T.sense by.now.tally.now) in
-        FilterDone by (F.goes test.now by.round) nodes.old nodes.new result }
-{
-    let gone = thin(by, test, nodes);
-    relabel(by, nodes);
-    gone
-}
-
-/// The same of records whose labels are those that this setting gives, so the places that are not in use are blank: if no arc
-/// goes, the list stays as it is.
-pub(crate) fn filter_labelled<R: Rule, T: Tally, F: Test<State = R::State, Value = T::Value>>(
-    by: &Setting<'_, R, T>,
-    test: &F,
-    nodes: &mut [Node<R::State, T::Value>],
-) -> usize
-    requires room { fits by.now.round.now.n by.now.width (length nodes.old) ≡ true }
-    requires fits { AllByRecursion (HasLabel (F.fits test.now))
-        (take (by.now.round.now.n * by.now.width) nodes.old) }
-    ensures steps { let by = lent_setting by.now (R.sense by.now.rule.now)
-        (T.sense by.now.tally.now) in
-        nodes.new ≡ filter_labelled_steps by (F.goes test.now by.round) nodes.old }
-    ensures counted { result ≡ arc_count by.now.round.now.n by.now.width nodes.old -
-        arc_count by.now.round.now.n by.now.width nodes.new }
-    ensures words { let by = lent_setting by.now (R.sense by.now.rule.now)
-        (T.sense by.now.tally.now) in
-        IsLabelled by nodes.old
+        (labelled ≡ true → IsLabelled by nodes.old)
         → FilterDone by (F.goes test.now by.round) nodes.old nodes.new result }
 {
-    let lost = thin(by, test, nodes);
-    if lost != 0 {
-        relabel_used(by, nodes);
-    }
-    lost
+    let gone = thin(by, test, nodes);
+    label_anew(by, nodes, labelled, gone);
+    gone
 }

@@ -7,7 +7,7 @@ ghost use Rattle.labels.specs.Passes.{fits};
 ghost use Rattle.filter.specs.Kept.{few};
 ghost use Rattle.filter.specs.Steps.{arc_count, sweep_steps, sweep_labelled_steps, SweepDone, SweepLabelledDone};
 
-use crate::redo::{filter, filter_labelled};
+use crate::redo::filter;
 use crate::test::{Arc, Test};
 use doors::{DoorSet, contains};
 use labels::room::has_room;
@@ -87,7 +87,7 @@ pub fn sweep<R: Rule, T: Tally>(
         rule: by.rule,
         values: PhantomData,
     };
-    filter(by, &tests, nodes)
+    filter(by, &tests, nodes, false)
 }
 
 /// The same of records whose labels are those that this setting gives: if no arc goes, there is
@@ -115,5 +115,5 @@ pub fn sweep_labelled<R: Rule, T: Tally>(
         rule: by.rule,
         values: PhantomData,
     };
-    filter_labelled(by, &tests, nodes)
+    filter(by, &tests, nodes, true)
 }

@@ -1,6 +1,6 @@
 -- The nodes of a layer, its places in use, stand first
-use Rattle.std.proofs.Common.{◌≡◌, ℕ, zero, suc, ◌<◌, ◌≤◌, Bool, true, not, eqb, List, [], ◌∷◌, ◌++◌, length, map, get_or, take, drop, replicate, filter, refl, ap, ap₂, inl, inr, arith}
-use Rattle.std.specs.List.{prefix_len}
+use Rattle.std.proofs.Common.{◌≡◌, ℕ, zero, suc, ◌<◌, ◌≤◌, true, not, eqb, List, [], ◌∷◌, ◌++◌, length, map, get_or, take, drop, replicate, refl, ap, ap₂, inl, inr, arith}
+use Rattle.std.specs.List.{All, prefix_len}
 use Rattle.std.proofs.lemmas.Bool.{cases_Bool, cond_both}
 use Rattle.std.proofs.lemmas.List.{length-append, length-drop, length-map, length-take}
 use Rattle.layers.specs.declared.node.Node.{Node}
@@ -42,18 +42,12 @@ module _ {S V : Type 0} where
     mapped-same g keeps [] = refl
     mapped-same g keeps (u ∷ us) = elim (cases_Bool (is_used u)) [ inl e ↦ rw e (ap₂ (λ y ys. y ∷ ys) (keeps u) (mapped-same g keeps us)) | inr e ↦ rw e refl ]
 
-module _ {S V : Type 0} (z : Node S V) where
-  nodes-blank : (m : ℕ) (q : List (Node S V)) → nodes_in q ≡ [] → (c : ℕ) → get_or (nodes_in (replicate m z ++ q)) c z ≡ z
-  nodes-blank zero q none c = rw none refl
-  nodes-blank (suc m) q none zero = cond_both (is_used z) (z ∷ nodes_in (replicate m z ++ q)) [] (λ ns. get_or ns 0 z ≡ z) (λ e. refl) (λ e. refl)
-  nodes-blank (suc m) q none (suc c) = cond_both (is_used z) (z ∷ nodes_in (replicate m z ++ q)) [] (λ ns. get_or ns (suc c) z ≡ z) (λ e. nodes-blank m q none c) (λ e. refl)
+  -- nodes that stand first are read first
+  pub nodes-after : (us vs : List (Node S V)) → All (λ x. is_used x ≡ true) us → nodes_in (us ++ vs) ≡ us ++ nodes_in vs
+  nodes-after [] vs h = refl
+  nodes-after (u ∷ us) vs h = rw (h 0 u (omega arith)) (ap (λ ys. u ∷ ys) (nodes-after us vs (λ k d lt. h (suc k) d (omega arith))))
 
-  -- read with z past its end, a layer whose nodes that have a test's yes are moved together is those nodes
-  pub nodes-moved : (p : Node S V → Bool) (vs : List (Node S V)) (m : ℕ) (q : List (Node S V)) → nodes_in q ≡ [] → ((a : ℕ) → p (get_or vs a z) ≡ true → is_used (get_or vs a z) ≡ true)
-      → (c : ℕ) → get_or (nodes_in (filter p vs ++ (replicate m z ++ q))) c z ≡ get_or (filter p vs) c z
-  nodes-moved p [] m q none used c = nodes-blank m q none c
-  nodes-moved p (v ∷ vs) m q none used zero = elim (cases_Bool (p v)) [ inl e ↦ rw (e, used 0 e) refl | inr e ↦ rw e (nodes-moved p vs m q none (λ a. used (suc a)) zero) ]
-  nodes-moved p (v ∷ vs) m q none used (suc c) = elim (cases_Bool (p v)) [
-    | inl e ↦ rw (e, used 0 e) (nodes-moved p vs m q none (λ a. used (suc a)) c)
-    | inr e ↦ rw e (nodes-moved p vs m q none (λ a. used (suc a)) (suc c))
-  ]
+  pub nodes-blank : (z : Node S V) (m : ℕ) (vs : List (Node S V)) → nodes_in vs ≡ [] → (c : ℕ) → get_or (nodes_in (replicate m z ++ vs)) c z ≡ z
+  nodes-blank z zero vs none c = rw none refl
+  nodes-blank z (suc m) vs none zero = cond_both (is_used z) (z ∷ nodes_in (replicate m z ++ vs)) [] (λ ns. get_or ns 0 z ≡ z) (λ e. refl) (λ e. refl)
+  nodes-blank z (suc m) vs none (suc c) = cond_both (is_used z) (z ∷ nodes_in (replicate m z ++ vs)) [] (λ ns. get_or ns (suc c) z ≡ z) (λ e. nodes-blank z m vs none c) (λ e. refl)

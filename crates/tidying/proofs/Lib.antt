@@ -3,9 +3,6 @@ pub mod InUse
 pub mod Lists
 mod Marks
 mod Numbers
-mod Kept
-mod Nets
-pub mod Places
 mod Renewed
 pub mod Steps
 pub mod Targets

@@ -9,26 +9,19 @@ use Rattle.layers.proofs.Shaped.{standing-short}
 use Rattle.tidying.specs.InUse.{on_nodes}
 use Rattle.tidying.specs.Tidied.{lively, reached_next, renew_at, numbers, tidied, together, renewals, numbering}
 
--- us are the k nodes of the first layer, row, with `new` the numbers of the next, and ys what is left of the others
-pub record Step {S V : Type 0} (w : ℕ) (z : Node S V) (left : ℕ) (from : List Bool) (xs row us : List (Node S V)) (k : ℕ) (new : List ℕ) (ys : List (Node S V)) : Type 0 where
-  pub some : left ≢ 0
-  pub front : row ≡ take w xs
-  pub nodes : us ≡ nodes_in row
-  pub many : k ≡ length (nodes_in row)
-  pub numbers_are : new ≡ numbers w z (left - 1) (reached_next from us) (drop w xs)
-  pub rest : ys ≡ tidied w z (left - 1) (reached_next from us) (drop w xs)
-
 module _ {S V : Type 0} (w : ℕ) (z : Node S V) where
-  pub numbers-step : (left : ℕ) (from : List Bool) (xs row us : List (Node S V)) (k : ℕ) (new : List ℕ) (ys : List (Node S V)) → Step w z left from xs row us k new ys → numbering (renewals z from new us) ≡ numbers w z left from xs
+  -- us are the nodes of the first layer, row, with `new` the numbers of the next, and ys what is left of the others
+  pub numbers-step : (left : ℕ) (from : List Bool) (xs row us rest : List (Node S V)) (next : List Bool) (new : List ℕ) → left ≢ 0 → row ≡ take w xs → rest ≡ drop w xs → us ≡ nodes_in row → next ≡ reached_next from us
+      → new ≡ numbers w z (left - 1) next rest → numbering (renewals z from new us) ≡ numbers w z left from xs
   unfolding numbers
-  numbers-step zero from xs row us k new ys s = absurd (s.some refl)
-  numbers-step (suc n) from xs row us k new ys s = let e : suc n - 1 ≡ n = omega arith in rw (s.numbers_are, s.nodes, s.front, e)
+  numbers-step zero from xs row us rest next new some front back nodes marks new-is = absurd (some refl)
+  numbers-step (suc n) from xs row us rest next new some front back nodes marks new-is = let e : suc n - 1 ≡ n = omega arith in rw (new-is, marks, nodes, front, back, e)
 
-  pub tidied-step : (left : ℕ) (from : List Bool) (xs row us : List (Node S V)) (k : ℕ) (new : List ℕ) (ys : List (Node S V)) → Step w z left from xs row us k new ys
-      → together z (renewals z from new us) ++ drop k row ++ ys ≡ tidied w z left from xs
+  pub tidied-step : (left : ℕ) (from : List Bool) (xs row us rest : List (Node S V)) (next : List Bool) (k : ℕ) (new : List ℕ) (ys : List (Node S V)) → left ≢ 0 → row ≡ take w xs → rest ≡ drop w xs → us ≡ nodes_in row → k ≡ length (nodes_in row) → next ≡ reached_next from us
+      → new ≡ numbers w z (left - 1) next rest → ys ≡ tidied w z (left - 1) next rest → together z (renewals z from new us) ++ drop k row ++ ys ≡ tidied w z left from xs
   unfolding tidied
-  tidied-step zero from xs row us k new ys s = absurd (s.some refl)
-  tidied-step (suc n) from xs row us k new ys s = let e : suc n - 1 ≡ n = omega arith in rw (s.numbers_are, s.rest, s.nodes, s.many, s.front, e)
+  tidied-step zero from xs row us rest next k new ys some front back nodes many marks new-is ys-is = absurd (some refl)
+  tidied-step (suc n) from xs row us rest next k new ys some front back nodes many marks new-is ys-is = let e : suc n - 1 ≡ n = omega arith in rw (new-is, ys-is, marks, nodes, many, front, back, e)
 
   -- the first of r + 1 layers, tidied
   abbrev pub block : ℕ → List Bool → List (Node S V) → List (Node S V)

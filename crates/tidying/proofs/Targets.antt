@@ -1,16 +1,17 @@
 -- The targets of a record, and counts of arcs
-use Rattle.std.proofs.Common.{◌≡◌, ℕ, zero, suc, ◌+◌, ◌<◌, true, false, if◌then◌else◌, not, ◌==◌, ◌≢◌, List, [], ◌∷◌, ◌++◌, map, length, get_or, take, drop, set, sum_by, sym, refl, ap, ◌∙◌, arith, take-append-drop}
+use Rattle.std.proofs.Common.{◌≡◌, ℕ, zero, suc, ◌+◌, ◌<◌, true, false, not, ◌==◌, ◌≢◌, List, [], ◌∷◌, ◌++◌, map, length, get_or, take, drop, sum_by, sym, refl, inl, inr, arith}
 use Rattle.std.proofs.lemmas.Bool.Decides.{nat_tests}
 use mir.Val.{bool_byte}
 use Rattle.std.specs.List.{range_with_len}
-use Rattle.std.proofs.lemmas.List.FromFn.{fill_by_all, get_or-map-range_with_len, map-range_with_len_more}
-use Rattle.std.proofs.lemmas.List.Sums.{sum_by-append, sum_by-cons, sum_by-set}
+use Rattle.std.proofs.lemmas.List.FromFn.{fill_by_all, get_or-map-range_with_len}
+use Rattle.std.proofs.lemmas.List.Sums.{sum_by-append, sum_by-cons, sum_by-take-drop}
 use Rattle.layers.specs.declared.node.Label.{Label}
 use Rattle.layers.specs.declared.node.Node.{Node}
-use Rattle.layers.specs.Net.{count_doors, count_layer}
+use Rattle.layers.specs.Net.{count_doors}
 use Rattle.layers.specs.Targets.{targets}
 use Rattle.tidying.specs.Counted.{arcs_of, arcs_within}
 use Rattle.tidying.specs.Tidied.{bare_node, lively}
+use Rattle.tidying.proofs.Lists.{zero-or-suc}
 
 pub length-targets : {S V : Type 0} (x : Node S V) → length (targets x) ≡ 16
 unfolding targets
@@ -25,8 +26,9 @@ pub targets_read : {S V : Type 0} (x : Node S V) → length x.arcs.to ≡ 16 →
 unfolding targets
 targets_read x long = sym (fill_by_all (λ k. get_or x.arcs.to k 0) x.arcs.to 16 0 long (λ k lt. refl))
 
+-- 1 for an arc
 abbrev pub one_if : ℕ → ℕ
-one_if t = if not (t == 0) then 1 else 0
+one_if t = bool_byte (not (t == 0))
 
 doors-counted : (ts : List ℕ) → count_doors ts ≡ sum_by one_if ts
 unfolding count_doors
@@ -34,58 +36,15 @@ doors-counted [] = refl
 doors-counted (zero ∷ ts) = omega (arith, sum_by-cons one_if 0 ts, doors-counted ts)
 doors-counted (suc b ∷ ts) = grind (arith, nat_tests, sum_by-cons one_if (suc b) ts, doors-counted ts)
 
--- how many of these targets are arcs
-abbrev pub ones : List ℕ → ℕ
-ones ts = sum_by one_if ts
-
-one-said : (t : ℕ) → ones (t ∷ []) ≡ bool_byte (not (t == 0))
-one-said zero = omega (arith, sum_by-cons one_if 0 [])
-one-said (suc b) = grind (arith, nat_tests, sum_by-cons one_if (suc b) [])
-
--- one door more
-pub counted_more : (to : List ℕ) (k m : ℕ) → m ≡ bool_byte (not (get_or to k 0 == 0))
-    → ones (map (λ i. get_or to i 0) (range_with_len 0 (k + 1))) ≡ ones (map (λ i. get_or to i 0) (range_with_len 0 k)) + m
-counted_more to k m e =
-    let f = λ (i : ℕ). get_or to i 0 in
-    ap ones (map-range_with_len_more f 0 k k (omega arith)) ∙ sum_by-append one_if (map f (range_with_len 0 k)) (f k ∷ [])
-    ∙ ap (λ n. ones (map f (range_with_len 0 k)) + n) (one-said (f k) ∙ sym e)
-
-pub arcs_counted : {S V : Type 0} (x : Node S V) → arcs_of x ≡ ones (map (λ i. get_or x.arcs.to i 0) (range_with_len 0 16))
+pub arcs_counted : {S V : Type 0} (x : Node S V) → arcs_of x ≡ sum_by one_if (map (λ i. get_or x.arcs.to i 0) (range_with_len 0 16))
 unfolding arcs_of targets
 arcs_counted x = doors-counted (targets x)
-
-pub arcs-summed : {S V : Type 0} (xs : List (Node S V)) → arcs_within xs ≡ sum_by arcs_of xs
-unfolding arcs_within arcs_of count_layer
-arcs-summed [] = refl
-arcs-summed (x ∷ xs) = ap (λ n. arcs_of x + n) (arcs-summed xs) ∙ sym (sum_by-cons arcs_of x xs)
-
-pub arcs-cons : {S V : Type 0} (x : Node S V) (xs : List (Node S V)) → arcs_within (x ∷ xs) ≡ arcs_of x + arcs_within xs
-unfolding arcs_within arcs_of count_layer
-arcs-cons x xs = omega arith
-
-pub arcs-append : {S V : Type 0} (xs ys : List (Node S V)) → arcs_within (xs ++ ys) ≡ arcs_within xs + arcs_within ys
-arcs-append xs ys = omega (arith, arcs-summed (xs ++ ys), arcs-summed xs, arcs-summed ys, sum_by-append arcs_of xs ys)
 
 -- arcs lost by the first k places of a layer and by what follows it
 pub layer-less : {S V : Type 0} (w k here later : ℕ) (xs row rest us ys : List (Node S V)) → row ≡ take w xs → rest ≡ drop w xs → here + arcs_within us ≡ arcs_within (take k row) → later + arcs_within ys ≡ arcs_within rest
     → here + later + arcs_within (us ++ drop k row ++ ys) ≡ arcs_within xs
-layer-less w k here later xs row rest us ys front back p q = omega (
-  arith,
-  p,
-  q,
-  arcs-append (us ++ drop k row) ys,
-  arcs-append us (drop k row),
-  arcs-append (take k row) (drop k row),
-  arcs-append (take w xs) (drop w xs),
-  ap arcs_within (take-append-drop k row),
-  ap arcs_within (take-append-drop w xs),
-  ap arcs_within front,
-  ap arcs_within back,
-)
-
--- another record in place of one
-pub arcs-set : {S V : Type 0} (xs : List (Node S V)) (i : ℕ) (y d : Node S V) → i < length xs → arcs_within (set xs i y) + arcs_of (get_or xs i d) ≡ arcs_within xs + arcs_of y
-arcs-set xs i y d lt = omega (arith, arcs-summed (set xs i y), arcs-summed xs, sum_by-set arcs_of xs i y d lt)
+layer-less w k here later xs row rest us ys front back p q =
+    rw (sum_by-append arcs_of (us ++ drop k row) ys, sum_by-append arcs_of us (drop k row), ← sum_by-take-drop arcs_of xs w, ← front, ← back, ← sum_by-take-drop arcs_of row k) (omega arith)
 
 pub bare_counted : {S V : Type 0} (l : Label S V) → arcs_of (bare_node l) ≡ 0
 unfolding arcs_of targets count_doors
@@ -95,17 +54,6 @@ bare_counted l = refl
 -- the record has none
 abbrev pub Bare : {S V : Type 0} → Node S V → Type 0
 Bare z = (k : ℕ) → get_or (targets z) k 0 ≡ 0
-
-doors-bare : (ts : List ℕ) → count_doors ts ≡ 0 → (k : ℕ) → get_or ts k 0 ≡ 0
-unfolding count_doors
-doors-bare [] e k = refl
-doors-bare (zero ∷ ts) e zero = refl
-doors-bare (zero ∷ ts) e (suc k) = doors-bare ts e k
-doors-bare (suc b ∷ ts) e k = absurd (omega arith)
-
-pub bare-from : {S V : Type 0} (z : Node S V) → arcs_of z ≡ 0 → Bare z
-unfolding arcs_of
-bare-from z e = doors-bare (targets z) e
 
 doors-have : (ts : List ℕ) → count_doors ts ≢ 0 → (k : ℕ) × (b : ℕ) × (get_or ts k 0 ≡ suc b)
 unfolding count_doors
@@ -119,6 +67,10 @@ doors-from [] k b e = absurd (omega arith)
 doors-from (zero ∷ ts) zero b e = absurd (omega arith)
 doors-from (zero ∷ ts) (suc k) b e = doors-from ts k b e
 doors-from (suc c ∷ ts) k b e = omega arith
+
+pub bare-from : {S V : Type 0} (z : Node S V) → arcs_of z ≡ 0 → Bare z
+unfolding arcs_of
+bare-from z e k = elim (zero-or-suc (get_or (targets z) k 0)) [ inl o ↦ o | inr b ↦ absurd (let some = doors-from (targets z) k b.0 b.1 in omega arith) ]
 
 pub lively-has : {S V : Type 0} (x : Node S V) → lively x ≡ true → (k : ℕ) × (b : ℕ) × (get_or (targets x) k 0 ≡ suc b)
 unfolding lively arcs_of

@@ -1,7 +1,7 @@
 -- How many arcs leave a record, and several.
-use Rattle.std.specs.Prelude.{ℕ, List, map}
+use Rattle.std.specs.Prelude.{ℕ, List, sum_by}
 use Rattle.layers.specs.declared.node.Node.{Node}
-use Rattle.layers.specs.Net.{count_doors, count_layer}
+use Rattle.layers.specs.Net.{count_doors}
 use Rattle.layers.specs.Targets.{targets}
 
 -- of a record: its targets that are not 0
@@ -10,6 +10,5 @@ unfolding targets count_doors
 arcs_of x = count_doors (targets x)
 
 -- of all these records together
-unfoldable pub arcs_within : {S V : Type 0} → List (Node S V) → ℕ
-unfolding targets count_layer
-arcs_within xs = count_layer (map targets xs)
+abbrev pub arcs_within : {S V : Type 0} → List (Node S V) → ℕ
+arcs_within = sum_by arcs_of

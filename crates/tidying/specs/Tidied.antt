@@ -2,7 +2,7 @@
 -- A layer is w records, its nodes the places in use; a node's number is its place and one; the target 0 is no arc.
 -- Marks and numbers stand in tables of 256 places, by a node's number.
 use Rattle.std.specs.Prelude.{ℕ, zero, suc, ◌+◌, ◌-◌, Bool, true, false, if◌then◌else◌, not, List, [], ◌∷◌, ◌++◌, map, length, take, drop, replicate, fold, filter, ◌==◌, slice_index, slice_index_or, slice_set}
-use Rattle.std.specs.List.{flat_map, range_with_len, zip}
+use Rattle.std.specs.List.{range_with_len}
 use Rattle.layers.specs.declared.node.Label.{Label}
 use Rattle.layers.specs.declared.node.Node.{Node}
 use Rattle.layers.specs.Records.{nodes_in}
@@ -23,14 +23,16 @@ lively x = not (arcs_of x == 0)
 unfoldable pub marked : List Bool → List ℕ → List Bool
 marked m ts = fold (λ m t. slice_set m t true) m ts
 
--- the targets of the node p.1 if it is reached, as p.0 says, and else none
-abbrev pub targets_if : {S V : Type 0} → Bool × Node S V → List ℕ
-targets_if p = if p.0 then targets p.1 else []
+-- the targets of the nodes that are marked in bs
+abbrev pub sent : {S V : Type 0} → List Bool → List (Node S V) → List ℕ
+sent [] us = []
+sent (b ∷ bs) [] = []
+sent (b ∷ bs) (u ∷ us) = (if b then targets u else []) ++ sent bs us
 
 -- the marks of the targets of those nodes us of a layer that have a mark
 unfoldable pub reached_next : {S V : Type 0} → List Bool → List (Node S V) → List Bool
-unfolding marked targets
-reached_next from us = marked (replicate 256 false) (flat_map targets_if (zip (drop 1 from) us))
+unfolding marked
+reached_next from us = marked (replicate 256 false) (sent (drop 1 from) us)
 
 -- a node with its targets numbered anew if it is reached, as `on` says, and else z
 unfoldable pub renewed : {S V : Type 0} → Node S V → Bool → List ℕ → Node S V → Node S V

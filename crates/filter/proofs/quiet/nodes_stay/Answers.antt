@@ -1,6 +1,6 @@
 use Rattle.std.proofs.Common.{◌≡◌, true, false, refl, ap, arith}
 use Rattle.std.proofs.lemmas.Bool.{eq-eqb, ne_eqb}
-use Rattle.std.proofs.lemmas.List.{drop_all, drop_more}
+use Rattle.std.proofs.lemmas.List.{drop_more}
 use Rattle.tidying.specs.Counted.{arcs_of}
 use Rattle.filter.specs.Kept.{stays}
 use Rattle.filter.proofs.quiet.nodes_stay.Goals as goal
@@ -22,6 +22,3 @@ loop-a-preserved g c =
     let p = stays (g.F.Test.goes at.test.now at.round.now) at.layer at.left at.next.now in
     let on : p u ≡ true = eq-eqb _ _ (omega (arith, c.if-thin_node-ne0.false, ap arcs_of c.thin_node.ensures.left, c.thin_node.ensures.gone)) in
     rw (← c.loop-a.invariant, drop_more c.args.us.now c.loop-a.a u c.loop-a-test.true, ← c.index-us-a.is, on) refl
-
-pub returns : goal.returns
-returns g c = rw (← c.loop-a.invariant, drop_all c.loop-a.a c.args.us.now (omega arith)) refl

@@ -1,17 +1,13 @@
-use Rattle.std.proofs.Common.{◌≡◌, ◌*◌, true, length, take, refl, sym, ◌∙◌}
+use Rattle.std.proofs.Common.{◌≡◌, true, length, refl, sym, ◌∙◌}
 use Rattle.std.proofs.lemmas.Bool.{cond-true}
 use Rattle.layers.specs.Labels.{is_barred}
 use Rattle.labels.specs.Passes.{fits}
-use Rattle.labels.proofs.Folds.{all_any}
 use Rattle.labels.proofs.Rooms.{room-facts}
 use Rattle.filter.specs.Kept.{kept_from}
 use Rattle.filter.specs.Steps.{quiet_steps}
 use Rattle.filter.proofs.Kept.{layers-gone, none-counted}
 use Rattle.filter.proofs.FilterWords.{none-words}
 use Rattle.filter.proofs.quiet.quiet.Goals as goal
-
-pub stay_from-requires-clause-fits : goal.stay_from-requires-clause-fits
-stay_from-requires-clause-fits g c = all_any (take (c.args.round.now.n * c.args.width) c.args.nodes.now)
 
 pub returns : goal.returns
 unfolding quiet_steps

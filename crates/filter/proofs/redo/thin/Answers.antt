@@ -1,5 +1,5 @@
-use Rattle.std.proofs.Common.{◌≡◌, ◌*◌, true, false, length, drop, sym, ap, ◌∙◌, arith}
-use Rattle.std.proofs.lemmas.Bool.{cond-true, cond-false, eq-eqb, ne_eqb}
+use Rattle.std.proofs.Common.{◌≡◌, ◌*◌, true, length, drop, sym, ap, ◌∙◌, arith}
+use Rattle.std.proofs.lemmas.Bool.{cond-true, eq-eqb, ne_eqb}
 use Rattle.layers.specs.Settings.{lent_setting}
 use Rattle.layers.specs.declared.node.Node.{Node}
 use Rattle.labels.specs.Passes.{fits, blank_node}
@@ -7,7 +7,7 @@ use Rattle.labels.proofs.Rooms.{room-facts}
 use Rattle.tidying.specs.Counted.{arcs_within}
 use Rattle.tidying.specs.Tidied.{bare_node, tidied, first_mark}
 use Rattle.filter.specs.Kept.{kept_from}
-use Rattle.filter.specs.Steps.{none_goes, thinned}
+use Rattle.filter.specs.Steps.{thinned}
 use Rattle.filter.proofs.Kept.{count-whole, none-counted}
 use Rattle.filter.proofs.KeptNet.{kept-later}
 use Rattle.filter.proofs.redo.thin.Goals as goal
@@ -23,11 +23,10 @@ returns-then-gone-eq0 g c =
     let r = c.args.by.now.round.now in
     let W = c.args.by.now.width in
     let xs = c.args.nodes.now in
-    let goes = g.F.Test.goes c.args.test.now r in
+    let take = c.take_from-gone.ensures in
     let gone = c.if-gone-eq0.true in
-    let same = c.take_from-gone.ensures.none gone in
-    let none : none_goes goes r.n W xs ≡ true = none-counted goes r.n W xs (room-facts r.n W (length xs) c.requires.room).enough _ c.take_from-gone.ensures.left _ c.take_from-gone.ensures.gone ∙ eq-eqb _ 0 gone in
-    record { steps = same ∙ sym (cond-true (none_goes goes r.n W xs) _ _ none); none = sym none; counted = rw same (omega arith) }
+    let none = none-counted (g.F.Test.goes c.args.test.now r) r.n W xs (room-facts r.n W (length xs) c.requires.room).enough _ take.left _ take.gone ∙ eq-eqb _ 0 gone in
+    record { steps = rw none (take.none gone); none = sym none; counted = rw (take.none gone) (omega arith) }
 
 pub returns : goal.returns
 unfolding thinned
@@ -39,16 +38,17 @@ returns g c =
     let xs = c.args.nodes.now in
     let ys = c.take_from-gone.new.nodes in
     let goes = g.F.Test.goes c.args.test.now by.round in
+    let take = c.take_from-gone.ensures in
     let gone = c.if-gone-eq0.false in
     let enough = (room-facts n W (length xs) c.requires.room).enough in
-    let none : none_goes goes n W xs ≡ false = none-counted goes n W xs enough _ c.take_from-gone.ensures.left _ c.take_from-gone.ensures.gone ∙ ne_eqb _ 0 gone in
+    let none = none-counted goes n W xs enough _ take.left _ take.gone ∙ ne_eqb _ 0 gone in
     let room : fits n W (length ys) ≡ true = ap (fits n W) c.take_from-gone.auto.nodes ∙ c.requires.room in
     let is : c.tidy.new.nodes ≡ tidied W z n first_mark (kept_from goes W 0 n xs) =
     c.tidy.ensures.records ∙ cond-true (fits n W (length ys)) _ _ room ∙ ap (λ (z : Node g.row.R-State.Denot g.row.T-Value.Denot). tidied W (bare_node z.label) n first_mark ys) c.blank_node-blank.ensures
-    ∙ ap (tidied W z n first_mark) c.take_from-gone.ensures.left in
-    let later = ap (λ ws. arcs_within (drop (n * W) ws)) is ∙ ap arcs_within (kept-later goes n W z xs (omega (arith, enough))) in
+    ∙ ap (tidied W z n first_mark) take.left in
+    let later = ap arcs_within (ap (drop (n * W)) is ∙ kept-later goes n W z xs (omega (arith, enough))) in
     record {
-      steps = is ∙ sym (cond-false (none_goes goes n W xs) _ _ none);
+      steps = rw none is;
       none = ne_eqb _ 0 (λ e. gone (omega (arith, e))) ∙ sym none;
-      counted = omega (arith, count-whole n W xs, count-whole n W c.tidy.new.nodes, c.take_from-gone.ensures.gone, c.tidy.ensures.lost, later);
+      counted = omega (arith, count-whole n W xs, count-whole n W c.tidy.new.nodes, take.gone, c.tidy.ensures.lost, later);
     }

@@ -1,17 +1,11 @@
-use Rattle.std.proofs.Common.{◌≡◌, ℕ, ◌-◌, length, sym, ap, arith, take-append-drop}
+use Rattle.std.proofs.Common.{◌-◌, length, arith, take-append-drop}
 use Rattle.std.proofs.lemmas.List.{length-take}
 use Rattle.labels.proofs.Rests.{rest-fits}
 use Rattle.labels.proofs.Rooms.{few-records}
 use Rattle.tidying.proofs.Targets.{layer-less}
-use Rattle.filter.specs.Kept.{HasLabel, kept_from}
+use Rattle.filter.specs.Kept.{HasLabel}
 use Rattle.filter.proofs.Layering.{kept-step, fits_here, fits_later}
 use Rattle.filter.proofs.take.+take_from.Goals as goal
-
-pub returns-then-left-eq0-clause-left : goal.returns-then-left-eq0-clause-left
-unfolding kept_from
-returns-then-left-eq0-clause-left g t c =
-    let none : c.args.left ≡ 0 = c.if-left-eq0.true in
-    sym (ap (λ (n : ℕ). kept_from (g.F.Test.goes c.args.by.now.test.now c.args.by.now.round.now) c.args.by.now.width c.args.layer n c.args.nodes.now) none)
 
 pub thin_nodes-here-requires-clause-fits : goal.thin_nodes-here-requires-clause-fits
 thin_nodes-here-requires-clause-fits g t c =
@@ -28,9 +22,8 @@ pub returns-clause-left : goal.returns-clause-left
 returns-clause-left g t c =
     let by = c.args.by.now in
     let parts = c.split_at_mut-us.ensures in
-    kept-step (g.F.Test.goes by.test.now by.round.now) by.width c.args.layer c.args.left _ c.args.nodes.now _ _ _ _
-    (record { some = c.if-left-eq0.false; front = parts.front; back = parts.back; many = c.count_nodes-many.ensures.many; nodes = c.count_nodes-many.ensures.first })
-    c.thin_nodes-here.ensures.left c.take_from-later.ensures.left
+    let nodes = c.count_nodes-many.ensures in
+    kept-step (g.F.Test.goes by.test.now by.round.now) by.width c.args.layer c.args.left c.args.nodes.now _ _ c.if-left-eq0.false parts.front parts.back _ _ _ nodes.many nodes.first c.thin_nodes-here.ensures.left c.take_from-later.ensures.left
 
 pub overflow_add-result : goal.overflow_add-result
 overflow_add-result g t c =

@@ -4,11 +4,8 @@ use Rattle.std.proofs.lemmas.List.{length-set}
 use Rattle.layers.specs.Targets.{with_targets, at_door}
 use Rattle.labels.proofs.Redirects.{by_door, redirect-made}
 use Rattle.filter.specs.Kept.{kept_to, kept_node}
-use Rattle.filter.proofs.Doors.{written_none, written_more, written_all}
+use Rattle.filter.proofs.Doors.{written_more, written_all}
 use Rattle.filter.proofs.take.targets_left.Goals as goal
-
-pub loop-k-init : goal.loop-k-init
-loop-k-init g c = let o = c.list_doors-many in record { done = written_none _ (take o.result o.new.doors); long = omega arith }
 
 pub door_left-requires-clause-k_bound : goal.door_left-requires-clause-k_bound
 door_left-requires-clause-k_bound g c = let o = c.list_doors-many in rw c.from-k.ensures (grind (arith, common_steps, o.ensures.in_range c.loop-k.k-index))

@@ -1,8 +1,8 @@
 use Rattle.std.proofs.Common.{◌+◌, ◌<◌, get_or, drop, set, sym, ap, ◌∙◌, arith, drop-set-lt}
 use Rattle.std.proofs.lemmas.List.{get_or_default, drop-drop, set-get_or}
 use Rattle.std.proofs.lemmas.List.Edits.{map_over_more}
+use Rattle.std.proofs.lemmas.List.Sums.{sum_by-set}
 use Rattle.tidying.specs.Counted.{arcs_of}
-use Rattle.tidying.proofs.Targets.{arcs-set}
 use Rattle.filter.specs.Kept.{kept_node}
 use Rattle.filter.proofs.take.thin_nodes.Goals as goal
 
@@ -19,7 +19,7 @@ loop-u-preserved g c =
     record {
       done = ap (set ys p) c.thin_node-gone.ensures.left ∙ map_over_more f E ys p x (omega arith) c.loop-u.invariant.done (get_or_default ys p c.u-item.result x (omega arith));
       rest = drop-set-lt (p + 1) ys p y past ∙ sym (drop-drop 1 p ys) ∙ ap (drop 1) c.loop-u.invariant.rest ∙ drop-drop 1 p E;
-      gone = omega (arith, c.loop-u.invariant.gone, c.thin_node-gone.ensures.gone, arcs-set ys p y c.u-item.result (omega arith), ap arcs_of c.u-item.is);
+      gone = omega (arith, c.loop-u.invariant.gone, c.thin_node-gone.ensures.gone, sum_by-set arcs_of ys p y c.u-item.result (omega arith), ap arcs_of c.u-item.is);
       none = λ z. ap (set ys p) (c.thin_node-gone.ensures.none (omega (arith, z))) ∙ set-get_or ys p c.u-item.result ∙ c.loop-u.invariant.none (omega (arith, z));
       few = omega (arith, c.thin_node-gone.ensures.few);
     }

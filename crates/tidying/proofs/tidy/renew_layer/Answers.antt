@@ -2,9 +2,9 @@ use Rattle.std.proofs.Common.{◌≡◌, ◌≢◌, ◌+◌, false, get_or, sym,
 use Rattle.std.proofs.lemmas.List.{get_or_read, get_or-set_other}
 use Rattle.std.proofs.lemmas.List.Edits.{fill_by_more}
 use Rattle.std.proofs.lemmas.List.FromFn.{fill_by_all}
+use Rattle.std.proofs.lemmas.List.Sums.{sum_by-set}
 use Rattle.tidying.specs.Counted.{arcs_of}
 use Rattle.tidying.specs.Tidied.{renew_at, renewed, renewals}
-use Rattle.tidying.proofs.Targets.{arcs-set}
 use Rattle.tidying.proofs.tidy.renew_layer.Goals as goal
 
 pub loop-a-preserved : goal.loop-a-preserved
@@ -18,7 +18,7 @@ loop-a-preserved g c =
     record {
       done = rw here (fill_by_more (renew_at z c.args.from.now c.args.new.now c.args.us.now) us a z (omega arith) c.loop-a.invariant.done);
       rest = λ k ge. (let ne : k ≢ a = omega arith in get_or-set_other us a k y z ne ∙ c.loop-a.invariant.rest k (omega arith));
-      lost = omega (arith, c.loop-a.invariant.lost, c.renew_if-lost.ensures.lost, arcs-set us a y c.index-us-a.result (omega arith), ap arcs_of c.index-us-a.is);
+      lost = omega (arith, c.loop-a.invariant.lost, c.renew_if-lost.ensures.lost, sum_by-set arcs_of us a y c.index-us-a.result (omega arith), ap arcs_of c.index-us-a.is);
       few = omega (arith, c.renew_if-lost.ensures.few, c.loop-a.invariant.few);
     }
 
