@@ -99,7 +99,7 @@ module _ {S V : Type 0} (by : Setting S V) (stays : Label S V → ℕ → Bool) 
       let back : drop w (A ++ set vs m y) ≡ set vs m y = drop_at A (set vs m y) w many in
       let is : y.arcs ≡ arcs_at M a = ap (λ (x : Node S V). x.arcs) (sym (get_or-take w vs a z (omega arith))) ∙ arcs-arranged w M (take w vs) a z arr.1.0 (omega arith) in (
         ap (map arcs_of) (take_at A (set vs m y) w many)
-            ∙ redirect-arranged w L us (parted_to stays a m) f good.1 arr.0 (λ x u j b lt t.
+            ∙ redirect-arranged w L us (λ (x : Node S V). parted_to stays a m x.label) f good.1 arr.0 (λ x u j b lt t.
             ap₂ (λ (q : Bool) (k : ℕ). cond (eqb b a && q) (suc k) (suc b)) (ap (λ (n : Node S V). not (stays n.label j)) (get_or-take w ys u x (omega (arith, good.1))) ∙ sym (h x u j lt)) em),
         (
           ap (λ zs. map arcs_of (take w zs)) back ∙ ap (map arcs_of) (take-set-lt w vs m y ml) ∙ push-arranged w m M (node M a) (take w vs) y arr.1.0 em ml is,

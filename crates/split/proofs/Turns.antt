@@ -1,6 +1,6 @@
 -- Parting the nodes of a layer, one after another
 use Rattle.std.proofs.Common.{◌≡◌, ℕ, zero, suc, ◌+◌, ◌<◌, ◌≤◌, Bool, true, false, leb, cond, List, ◌++◌, length, take, drop, Ok, Err, ◌≢◌, sym, refl, ap, ◌∙◌, ap₂, arith}
-use Rattle.std.proofs.lemmas.List.{take_at, drop_at, take-append-drop, drop-drop, length-append, length-take-le}
+use Rattle.std.proofs.lemmas.List.{take_at, drop_at, take-append-drop, drop-drop, length-append, length-map, length-take-le}
 use Rattle.std.proofs.lemmas.Bool.{le-leb, lt-leb}
 use Rattle.std.proofs.lemmas.Bool.Decides.{nat_tests}
 use Rattle.layers.specs.declared.node.Node.{Node}
@@ -9,8 +9,7 @@ use Rattle.layers.specs.declared.refusal.Refusal.TheVariants.{OneGroup, LayerFul
 use Rattle.layers.specs.Calls.{Outcome}
 use Rattle.layers.specs.Records.{nodes_in}
 use Rattle.split.specs.declared.listing.InArcs.{InArcs}
-use Rattle.split.specs.Listed.{IsListed, written, told_records}
-use Rattle.split.proofs.InArcs.{long-same}
+use Rattle.split.specs.Listed.{IsListed, written, husk, told_records}
 use Rattle.split.specs.Steps.{node_count, group_check, alike, parted_one, next_records, parts_from}
 use Rattle.layers.specs.Settings.{Setting}
 
@@ -69,7 +68,7 @@ module _ {S V : Type 0} (by : Setting S V) (at a m : ℕ) (xs : List (Node S V))
 -- ---- of a list of in-arcs that are not written back
 module _ {S V : Type 0} (w : ℕ) (xs us : List (Node S V)) (list : InArcs) (front : us ≡ take w xs) (le : w ≤ length xs) (l : IsListed (take w xs) list) where
   long-written : length (written (take w xs) list) ≡ w
-  long-written = long-same l ∙ length-take-le w xs le
+  long-written = sym (length-map (written (take w xs) list) husk) ∙ ap length l.husks ∙ length-map (take w xs) husk ∙ length-take-le w xs le
 
   pub told-head : take w (told_records w list xs) ≡ written us list
   told-head = take_at (written (take w xs) list) (drop w xs) w long-written ∙ ap (λ ys. written ys list) (sym front)

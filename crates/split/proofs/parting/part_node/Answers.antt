@@ -1,4 +1,4 @@
-use Rattle.std.proofs.Common.{◌≡◌, ℕ, suc, ◌+◌, ◌-◌, ◌≤◌, Bool, List, ◌++◌, map, length, get_or, set, take, drop, sym, ap, ◌∙◌, subst, ap₂, add-one, arith}
+use Rattle.std.proofs.Common.{◌≡◌, ℕ, suc, ◌+◌, ◌-◌, ◌≤◌, Bool, List, ◌++◌, map, length, get_or, set, take, drop, Some, true, sym, ap, ◌∙◌, subst, ap₂, add-one, arith}
 use Rattle.std.proofs.lemmas.List.{take_at, drop_at, take-append-drop, length-take-le}
 use Rattle.layers.specs.declared.node.Node.{Node}
 use Rattle.layers.specs.declared.node.Label.{Label}
@@ -7,8 +7,9 @@ use Rattle.layers.specs.Calls.{Outcome}
 use Rattle.layers.specs.Settings.{Setting, lent_setting}
 use Rattle.labels.specs.Passes.{arrivals, blank_node}
 use Rattle.split.specs.declared.listing.InArcs.{InArcs}
-use Rattle.split.specs.Agreed.{kept_by}
-use Rattle.split.specs.Listed.{IsListed, written, told_records}
+use Rattle.split.specs.declared.source.Source.{Source}
+use Rattle.split.specs.Agreed.{brought, kept_by}
+use Rattle.split.specs.Listed.{IsListed, written, told_from, all_stay, told_records}
 use Rattle.split.specs.Parted.{or_unused, parted_node, parted_second}
 use Rattle.split.specs.Steps.{alike, next_records, parted_one, kept_first}
 use Rattle.split.proofs.Asking.{none-agree}
@@ -20,6 +21,10 @@ module _ {S V : Type 0} (by : Setting S V) (xs us vs : List (Node S V)) (list : 
   -- whether the in-arcs agree, of the records with the list written back
   agree-said : (a : ℕ) → IsListed (take by.width xs) list → alike by 0 (suc a) (told_records by.width list xs) ≡ all_agree by.rule (arrivals by (a + 1) (written us list))
   agree-said a l = ap₂ (λ (t : ℕ) ys. all_agree by.rule (arrivals by t ys)) (sym (add-one a)) (told-head by.width xs us list front le l)
+
+  agree-stay : (self : (x : S) → by.rule.same x x ≡ true) (a : ℕ) (s : Source S V) → IsListed (take by.width xs) list → Some (brought by s) ≡ first_arrival (arrivals by (a + 1) (written us list))
+      → alike by 0 (suc a) (told_records by.width list xs) ≡ all_stay (λ u j. kept_by by.round by.rule s u.down j) (a + 1) (told_from 0 (written us list))
+  agree-stay self a s l e = let l' = subst (λ ys. IsListed ys list) (sym front) l in agree-said a l ∙ sym (stay-said by self (written us list) s (a + 1) (omega arith) l'.wide e)
 
   -- what a refusal leaves
   left : (o p : Outcome) (a m : ℕ) → IsListed (take by.width xs) list → (o ≡ p) × (told_records by.width list xs ≡ next_records by 0 a m (told_records by.width list xs))
@@ -42,8 +47,7 @@ returns-in_default-first_leaving g c =
     let xs = c.args.nodes.now in
     let list = c.args.list.now in
     let s = c.split_at_mut-us in
-    let said = stay-said by (g.met.R.Rule.reflexive c.args.by.now.rule.now) _ c.in-Some.first (c.args.a + 1) (omega arith) (c.in-Some.ensures by) in
-    let same = agree-said by xs _ _ list s.ensures.front s.ensures.back (omega arith) c.args.a c.requires.listed ∙ sym said ∙ c.in_default-first_leaving.ensures in
+    let same = agree-stay by xs _ _ list s.ensures.front s.ensures.back (omega arith) (g.met.R.Rule.reflexive c.args.by.now.rule.now) c.args.a c.in-Some.first c.requires.listed (c.in-Some.ensures by) ∙ c.in_default-first_leaving.ensures in
     let d = left by xs _ _ list s.ensures.front s.ensures.back (omega arith) _ _ c.args.a c.args.count c.requires.listed (next-alike by 0 c.args.a c.args.count (told_records by.width list xs) same) in
     record { answer = d.0; records = d.1; listed = d.2 }
 
@@ -53,8 +57,7 @@ returns-then-count-by g c =
     let xs = c.args.nodes.now in
     let list = c.args.list.now in
     let s = c.split_at_mut-us in
-    let said = stay-said by (g.met.R.Rule.reflexive c.args.by.now.rule.now) _ c.in-Some.first (c.args.a + 1) (omega arith) (c.in-Some.ensures by) in
-    let apart = agree-said by xs _ _ list s.ensures.front s.ensures.back (omega arith) c.args.a c.requires.listed ∙ sym said ∙ c.in-Some-first_leaving.ensures.2 in
+    let apart = agree-stay by xs _ _ list s.ensures.front s.ensures.back (omega arith) (g.met.R.Rule.reflexive c.args.by.now.rule.now) c.args.a c.in-Some.first c.requires.listed (c.in-Some.ensures by) ∙ c.in-Some-first_leaving.ensures.2 in
     let d = left by xs _ _ list s.ensures.front s.ensures.back (omega arith) _ _ c.args.a c.args.count c.requires.listed (next-full by 0 c.args.a c.args.count (told_records by.width list xs) apart c.if-count-by.true) in
     record { answer = d.0; records = d.1; listed = d.2 }
 
@@ -77,9 +80,8 @@ returns g c =
     let le : w ≤ length xs = omega arith in
     let R = told_records w list xs in
     let long : length us ≡ w = ap (λ ys. length ys) front ∙ length-take-le w xs le in
-    let said = stay-said by (g.met.R.Rule.reflexive c.args.by.now.rule.now) (written us list) c.in-Some.first (a + 1) (omega arith) (c.in-Some.ensures by) in
     let e = c.in-Some-first_leaving.ensures in
-    let apart = agree-said by xs us vs list front back le a l ∙ sym said ∙ e.2 in
+    let apart = agree-stay by xs us vs list front back le (g.met.R.Rule.reflexive c.args.by.now.rule.now) a c.in-Some.first l (c.in-Some.ensures by) ∙ e.2 in
     let n = next-parted by 0 a m R apart c.if-count-by.false in
     let head : take w R ≡ written us list = told-head w xs us list front le l in
     let tail : drop w R ≡ vs = told-tail w xs us list front le l ∙ sym back in
