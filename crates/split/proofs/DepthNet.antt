@@ -1,6 +1,6 @@
 -- What is done to two layers of a net, d layers down, and to their records
 use Rattle.std.proofs.Common.{◌≡◌, ℕ, zero, suc, ◌+◌, ◌*◌, ◌<◌, ◌≤◌, List, [], ◌∷◌, ◌++◌, map, length, get_or, take, drop, sym, ap, ◌∙◌, subst, append_assoc, mul-le-mul_right, suc-mul, zero-mul, arith, take-add}
-use Rattle.std.proofs.lemmas.List.{take_at, drop_at, drop-drop, length-append, length-take-le, take-append-drop}
+use Rattle.std.proofs.lemmas.List.{take_at, drop_at, drop-drop}
 use Rattle.layers.specs.declared.node.Node.{Node}
 use Rattle.layers.specs.Net.{Layer, Net}
 use Rattle.labels.proofs.Laying.{arcs_of, Arranged, Good}
@@ -57,17 +57,3 @@ module _ {S V : Type 0} where
         ap (map arcs_of) (take_at us rest w many) ∙ arr.0,
         subst (Arranged w (act d Ls)) (sym (drop_at us rest w many)) again,
       ))
-
--- ---- the rest of a list
-module _ {X : Type 0} where
-  -- what comes after stays
-  pub later-stays : (op : List X → List X) (k n m : ℕ) (xs : List X) → k ≤ length xs → k + n ≡ m → drop n (op (drop k xs)) ≡ drop n (drop k xs) → drop m (take k xs ++ op (drop k xs)) ≡ drop m xs
-  later-stays op k n m xs le e h =
-      let ys = take k xs ++ op (drop k xs) in
-      ap (λ (i : ℕ). drop i ys) (sym e) ∙ sym (drop-drop n k ys)
-      ∙ ap (drop n) (drop_at (take k xs) (op (drop k xs)) k (length-take-le k xs le))
-      ∙ h ∙ drop-drop n k xs ∙ ap (λ (i : ℕ). drop i xs) e
-
-  pub long-stays : (op : List X → List X) (k : ℕ) (xs : List X) → length (op (drop k xs)) ≡ length (drop k xs) → length (take k xs ++ op (drop k xs)) ≡ length xs
-  long-stays op k xs h =
-      length-append (take k xs) (op (drop k xs)) ∙ ap (λ (i : ℕ). length (take k xs) + i) h ∙ sym (length-append (take k xs) (drop k xs)) ∙ ap length (take-append-drop k xs)

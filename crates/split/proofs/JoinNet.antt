@@ -1,18 +1,17 @@
 -- Joining two nodes of the records comes to joining the nodes of the net.
-use Rattle.std.proofs.Common.{◌≡◌, ℕ, zero, suc, ◌+◌, ◌-◌, ◌*◌, ◌<◌, ◌≤◌, false, ◌||◌, List, [], ◌∷◌, ◌++◌, map, length, get_or, take, drop, set, sym, refl, ap, ◌∙◌, subst, ap₂, arith}
-use Rattle.std.proofs.lemmas.List.{take_at, drop_at, drop-drop, map-set, map_push, length-set, length-map, length_push, length-take-le, length-drop, get_or-drop, get_or_past}
+use Rattle.std.proofs.Common.{◌≡◌, ℕ, zero, suc, ◌+◌, ◌*◌, ◌<◌, ◌≤◌, false, ◌||◌, List, [], ◌∷◌, ◌++◌, map, length, get_or, take, drop, set, sym, refl, ap, ◌∙◌, subst, ap₂, arith}
+use Rattle.std.proofs.lemmas.List.{places, same_lists, take_at, drop_at, map-set, map_push, length-set, length-map, length-append, length-take, length_push, length-take-le, length-drop, get_or-drop, get_or_past}
 use Rattle.std.proofs.lemmas.Bool.Decides.{nat_tests}
 use Rattle.layers.specs.declared.node.Arcs.{Arcs}
 use Rattle.layers.specs.declared.node.Node.{Node}
 use Rattle.layers.specs.Net.{table, Outs, Layer, Net, node}
 use Rattle.layers.specs.Join.{either_target, both_out, targets_differ, clash, without_place, place_after_join, joined_arcs}
 use Rattle.layers.specs.Records.{padded_targets, arcs_at}
-use Rattle.layers.proofs.Bridge.{table-ext}
 use Rattle.labels.proofs.Laying.{arcs_of, Arranged, Good}
 use Rattle.layers.specs.Targets.{targets}
 use Rattle.split.specs.Joined.{moved_to, moved_node, joined_node, joined_layer, joined_second}
-use Rattle.labels.proofs.RedirectNet.{arranged-long, targets-arranged, redirect-arranged}
-use Rattle.split.proofs.DepthNet.{good-drop, two-fit, at-depth, later-stays}
+use Rattle.labels.proofs.RedirectNet.{padded-is, padded-at, arranged-long, targets-arranged, redirect-arranged}
+use Rattle.split.proofs.DepthNet.{good-drop, two-fit, at-depth}
 
 -- ---- two nodes by sixteen doors
 both_at : (x y : Outs) (k : ℕ) → get_or (both_out x y) k 0 ≡ either_target (get_or x k 0) (get_or y k 0)
@@ -26,15 +25,9 @@ both_at (s ∷ ss) [] k = sym (alone (get_or (s ∷ ss) k 0))
 both_at (s ∷ ss) (t ∷ ts) zero = refl
 both_at (s ∷ ss) (t ∷ ts) (suc k) = both_at ss ts k
 
-both-table : (n : ℕ) (f g : ℕ → ℕ) → both_out (table n f) (table n g) ≡ table n (λ k. either_target (f k) (g k))
-unfolding both_out
-both-table zero f g = refl
-both-table (suc n) f g = ap (λ ts. either_target (f 0) (g 0) ∷ ts) (both-table n (λ k. f (suc k)) (λ k. g (suc k)))
-
 both-padded : (x y : Outs) → both_out (padded_targets x) (padded_targets y) ≡ padded_targets (both_out x y)
-both-padded x y =
-    both-table 16 (λ k. get_or x k 0) (λ k. get_or y k 0)
-    ∙ table-ext 16 (λ k. either_target (get_or x k 0) (get_or y k 0)) (λ k. get_or (both_out x y) k 0) (λ k lt. sym (both_at x y k))
+both-padded x y = padded-is (both_out (padded_targets x) (padded_targets y)) (both_out x y) (unfold both_out in refl)
+    (λ k lt. both_at (padded_targets x) (padded_targets y) k ∙ ap₂ either_target (padded-at x k lt) (padded-at y k lt) ∙ sym (both_at x y k))
 
 no-clash-left : (n : ℕ) (g : ℕ → ℕ) → clash (table n (λ k. 0)) (table n g) ≡ false
 unfolding clash
@@ -107,29 +100,16 @@ module _ {S V : Type 0} where
       let x = joined_node (get_or us lo z) (get_or us hi z) in
       omega (arith, length_push (without_place hi (set us lo x)) z, length-without hi (set us lo x) (omega (arith, length-set us lo x)), length-set us lo x)
 
-  second-tail : (w lo hi n : ℕ) (z : Node S V) (ys : List (Node S V)) → w + w ≤ length ys → hi < w → w + w ≤ n → drop n (joined_second w lo hi ys z) ≡ drop n ys
-  unfolding joined_second
-  second-tail w lo hi n z ys le lt more =
-      let A = map (moved_node lo hi) (take w ys) in
-      let vs = take w (drop w ys) in
-      let B = joined_layer lo hi vs z in
-      let C = drop w (drop w ys) in
-      let k = n - (w + w) in
-      let e : n ≡ w + (w + k) = omega arith in
-      let many : length A ≡ w = length-map (take w ys) (moved_node lo hi) ∙ length-take-le w ys (omega arith) in
-      let wide : length vs ≡ w = length-take-le w (drop w ys) (omega (arith, length-drop w ys)) in
-      let more : length B ≡ w = layer-long lo hi vs z (omega arith) ∙ wide in
-      ap (λ (i : ℕ). drop i (A ++ (B ++ C))) e ∙ sym (drop-drop (w + k) w (A ++ (B ++ C))) ∙ ap (drop (w + k)) (drop_at A (B ++ C) w many)
-      ∙ sym (drop-drop k w (B ++ C)) ∙ ap (drop k) (drop_at B C w more)
-      ∙ drop-drop k w (drop w ys) ∙ drop-drop (w + k) w ys ∙ ap (λ (i : ℕ). drop i ys) (sym e)
-
   pub join-tail : (w d lo hi : ℕ) (z : Node S V) (Ls : Net) (xs : List (Node S V)) → suc d < length Ls → hi < w → length Ls * w + 1 ≤ length xs
       → drop (length Ls * w + 1) (take (d * w) xs ++ joined_second w lo hi (drop (d * w) xs) z) ≡ drop (length Ls * w + 1) xs
+  unfolding joined_second
   join-tail w d lo hi z Ls xs deep lt le =
       let fit = two-fit w d (length Ls) deep in
-      let n = length Ls * w + 1 - d * w in
-      later-stays (λ ys. joined_second w lo hi ys z) (d * w) n (length Ls * w + 1) xs (omega arith) (omega arith)
-      (second-tail w lo hi n z (drop (d * w) xs) (omega (arith, length-drop (d * w) xs)) lt (omega arith))
+      let ys = drop (d * w) xs in
+      let many : length (map (moved_node lo hi) (take w ys)) ≡ w = simp length-map (length-take-le w ys (omega (arith, length-drop (d * w) xs))) in
+      let wide : length (take w (drop w ys)) ≡ w = length-take-le w (drop w ys) (omega (arith, length-drop w ys, length-drop (d * w) xs)) in
+      let long : length (joined_layer lo hi (take w (drop w ys)) z) ≡ w = layer-long lo hi (take w (drop w ys)) z (omega arith) ∙ wide in
+      same_lists _ _ (simp (length-drop, length-append, length-take) (omega (arith, many, simp length-append at long))) (λ k v h. grind (arith, places, many, long))
 
   -- ---- the arcs
   layer-arranged : (w lo hi : ℕ) (z : Node S V) (M : Layer) (us : List (Node S V)) → lo < hi → hi < length M → length M ≤ w → z.arcs ≡ arcs_at [] 0 → map arcs_of us ≡ table w (arcs_at M)

@@ -1,7 +1,7 @@
 -- Parting a node of the records comes to parting the node of the net.
-use Rattle.std.proofs.Common.{◌≡◌, ℕ, zero, suc, ◌+◌, ◌-◌, ◌*◌, ◌<◌, ◌≤◌, Bool, cond, not, ◌&&◌, eqb, List, [], ◌∷◌, ◌++◌, map, length, get_or, take, drop, set, None, Option, sym, refl, ap, ◌∙◌, subst, ap₂, arith}
+use Rattle.std.proofs.Common.{◌≡◌, ℕ, zero, suc, ◌+◌, ◌*◌, ◌<◌, ◌≤◌, Bool, cond, not, ◌&&◌, eqb, List, [], ◌∷◌, ◌++◌, map, length, get_or, take, drop, set, None, Option, sym, refl, ap, ◌∙◌, subst, ap₂, arith}
 use lib.Seq.{take-set-lt}
-use Rattle.std.proofs.lemmas.List.{take_at, drop_at, drop-drop, drop-set-lt, map-set, length-set, length-map, length-append, length-take, length-take-le, length-drop, get_or-take, get_or-drop}
+use Rattle.std.proofs.lemmas.List.{places, same_lists, take_at, drop_at, drop-set-lt, map-set, length-set, length-map, length-append, length-take, length-take-le, length-drop, get_or-take, get_or-drop}
 use Rattle.layers.specs.declared.node.Arcs.{Arcs}
 use Rattle.layers.specs.declared.node.Node.{Node}
 use Rattle.layers.specs.declared.node.Label.{Label}
@@ -15,7 +15,7 @@ use Rattle.labels.proofs.Laying.{arcs_of, Arranged, Good}
 use Rattle.layers.specs.Targets.{redirected}
 use Rattle.split.specs.Parted.{parted_to, parted_node, parted_second}
 use Rattle.labels.proofs.RedirectNet.{arranged-long, arcs-arranged, redirect-arranged}
-use Rattle.split.proofs.DepthNet.{good-drop, two-fit, at-depth, later-stays, long-stays}
+use Rattle.split.proofs.DepthNet.{good-drop, two-fit, at-depth}
 use Rattle.layers.specs.Settings.{Setting}
 
 -- ---- a node more at the end of a layer
@@ -33,32 +33,15 @@ module _ {S V : Type 0} (stays : Label S V → ℕ → Bool) where
   -- ---- the records that stay, and the labels
   pub part_length : (w d a m : ℕ) (z : Node S V) (xs : List (Node S V)) → length (take (d * w) xs ++ parted_second stays w a m (drop (d * w) xs) z) ≡ length xs
   unfolding parted_second
-  part_length w d a m z xs =
-      let one : (ys : List (Node S V)) → length (map (parted_node stays a m) (take w ys) ++ set (drop w ys) m (get_or (drop w ys) a z)) ≡ length ys =
-      λ ys. let A = map (parted_node stays a m) (take w ys) in let B = set (drop w ys) m (get_or (drop w ys) a z) in
-      omega (arith, length-append A B, length-map (take w ys) (parted_node stays a m), length-set (drop w ys) m (get_or (drop w ys) a z), length-take w ys, length-drop w ys) in
-      long-stays (λ ys. parted_second stays w a m ys z) (d * w) xs (one (drop (d * w) xs))
-
-  second-tail : (w a m n : ℕ) (z : Node S V) (ys : List (Node S V)) → w ≤ length ys → m < w → w + w ≤ n → drop n (parted_second stays w a m ys z) ≡ drop n ys
-  unfolding parted_second
-  second-tail w a m n z ys le lt more =
-      let A = map (parted_node stays a m) (take w ys) in
-      let y = get_or (drop w ys) a z in
-      let k = n - w in
-      let e : n ≡ w + k = omega arith in
-      let many : length A ≡ w = length-map (take w ys) (parted_node stays a m) ∙ length-take-le w ys le in
-      ap (λ (i : ℕ). drop i (A ++ set (drop w ys) m y)) e ∙ sym (drop-drop k w (A ++ set (drop w ys) m y))
-      ∙ ap (drop k) (drop_at A (set (drop w ys) m y) w many)
-      ∙ drop-set-lt k (drop w ys) m y (omega arith)
-      ∙ drop-drop k w ys ∙ ap (λ (i : ℕ). drop i ys) (sym e)
+  part_length w d a m z xs = simp (length-append, length-map, length-set, length-take, length-drop) (omega arith)
 
   pub part-tail : (w d a m : ℕ) (z : Node S V) (Ls : Net) (xs : List (Node S V)) → suc d < length Ls → m < w → length Ls * w + 1 ≤ length xs
       → drop (length Ls * w + 1) (take (d * w) xs ++ parted_second stays w a m (drop (d * w) xs) z) ≡ drop (length Ls * w + 1) xs
+  unfolding parted_second
   part-tail w d a m z Ls xs deep lt le =
       let fit = two-fit w d (length Ls) deep in
-      let n = length Ls * w + 1 - d * w in
-      later-stays (λ ys. parted_second stays w a m ys z) (d * w) n (length Ls * w + 1) xs (omega arith) (omega arith)
-      (second-tail w a m n z (drop (d * w) xs) (omega (arith, length-drop (d * w) xs)) lt (omega arith))
+      let many : length (map (parted_node stays a m) (take w (drop (d * w) xs))) ≡ w = simp length-map (length-take-le w (drop (d * w) xs) (omega (arith, length-drop (d * w) xs))) in
+      same_lists _ _ (simp (length-drop, length-append, length-set, length-take) (omega (arith, many))) (λ k v h. grind (arith, places, many))
 
   same-label : (a m : ℕ) (us : List (Node S V)) → map (λ (x : Node S V). x.label) (map (parted_node stays a m) us) ≡ map (λ (x : Node S V). x.label) us
   unfolding parted_node redirected

@@ -1,5 +1,5 @@
 -- Parting the nodes of a layer, one after another
-use Rattle.std.proofs.Common.{◌≡◌, ℕ, zero, suc, ◌+◌, ◌<◌, ◌≤◌, Bool, true, false, leb, cond, List, ◌++◌, length, take, drop, Ok, Err, ◌≢◌, sym, refl, ap, ◌∙◌, ap₂, arith}
+use Rattle.std.proofs.Common.{◌≡◌, ℕ, zero, suc, ◌+◌, ◌<◌, ◌≤◌, Bool, true, false, leb, List, ◌++◌, length, take, drop, Ok, Err, ◌≢◌, sym, refl, ap, ◌∙◌, ap₂, arith}
 use Rattle.std.proofs.lemmas.List.{take_at, drop_at, take-append-drop, drop-drop, length-append, length-map, length-take-le}
 use Rattle.std.proofs.lemmas.Bool.{le-leb, lt-leb}
 use Rattle.std.proofs.lemmas.Bool.Decides.{nat_tests}
@@ -32,20 +32,10 @@ module _ {S V : Type 0} (by : Setting S V) (at a m : ℕ) (xs : List (Node S V))
 
   -- what it leaves, by the answer
   pub next-ok : group_check (alike by at (suc a) xs) (leb by.width m) ≡ Ok tt → next_records by at a m xs ≡ parted_one by at a m xs
-  next-ok e = go (alike by at (suc a) xs) (leb by.width m) e
-    where
-      go : (p q : Bool) → group_check p q ≡ Ok tt → cond p xs (cond q xs (parted_one by at a m xs)) ≡ parted_one by at a m xs
-      go true q e = cc
-      go false true e = cc
-      go false false e = refl
+  next-ok e = grind (arith, e)
 
   pub next-err : (e : Refusal) → group_check (alike by at (suc a) xs) (leb by.width m) ≡ Err e → next_records by at a m xs ≡ xs
-  next-err e h = go (alike by at (suc a) xs) (leb by.width m) h
-    where
-      go : (p q : Bool) → group_check p q ≡ Err e → cond p xs (cond q xs (parted_one by at a m xs)) ≡ xs
-      go true q e = refl
-      go false true e = refl
-      go false false e = cc
+  next-err e h = grind (arith, h)
 
   -- ---- one turn
   pub parts-end : (k : ℕ) → m ≤ a → (false, xs) ≡ parts_from by at k a m xs
@@ -86,12 +76,7 @@ module _ {S V : Type 0} (by : Setting S V) (at : ℕ) where
   parted-from a m xs = refl
 
   pub next-from : (a m : ℕ) (xs : List (Node S V)) → take at xs ++ next_records by 0 a m (drop at xs) ≡ next_records by at a m xs
-  next-from a m xs = go (alike by at (suc a) xs) (leb by.width m)
-    where
-      go : (p q : Bool) → take at xs ++ cond p (drop at xs) (cond q (drop at xs) (parted_one by 0 a m (drop at xs))) ≡ cond p xs (cond q xs (parted_one by at a m xs))
-      go true q = take-append-drop at xs
-      go false true = take-append-drop at xs
-      go false false = sym (parted-from a m xs)
+  next-from a m xs = grind (arith, take-append-drop at xs, parted-from a m xs)
 
   parted-before : (a m : ℕ) (xs : List (Node S V)) → at ≤ length xs
       → (take at (parted_one by at a m xs) ≡ take at xs) × (drop at (parted_one by at a m xs) ≡ parted_one by 0 a m (drop at xs)) × (at ≤ length (parted_one by at a m xs))
@@ -108,16 +93,10 @@ module _ {S V : Type 0} (by : Setting S V) (at : ℕ) where
   unfolding parts_from
   parts-shift zero a m xs h = ap (λ ys. (false, ys)) (sym (take-append-drop at xs))
   parts-shift (suc k) a m xs h =
-      go (leb m a) (alike by at (suc a) xs) (leb by.width m) _ _ _ _ (parts-shift k (suc a) m xs h)
-      (let b = parted-before a m xs h in
-      parts-shift k (suc a) (suc m) (parted_one by at a m xs) b.2 ∙ ap₂ (λ ys zs. (let r = parts_from by 0 k (suc a) (suc m) zs in (r.0, ys ++ r.1))) b.0 b.1)
-    where
-      go : (p q r : Bool) (X Y : Bool × List (Node S V)) (X' Y' : Bool × List (Node S V)) → X ≡ lift xs X' → Y ≡ lift xs Y'
-          → cond p (false, xs) (cond q X (cond r (true, xs) Y)) ≡ lift xs (cond p (false, drop at xs) (cond q X' (cond r (true, drop at xs) Y')))
-      go true q r X Y X' Y' e f = ap (λ ys. (false, ys)) (sym (take-append-drop at xs))
-      go false true r X Y X' Y' e f = e
-      go false false true X Y X' Y' e f = ap (λ ys. (true, ys)) (sym (take-append-drop at xs))
-      go false false false X Y X' Y' e f = f
+      let b = parted-before a m xs h in
+      let stays = parts-shift k (suc a) m xs h in
+      let parted = parts-shift k (suc a) (suc m) (parted_one by at a m xs) b.2 ∙ ap₂ (λ ys zs. (let r = parts_from by 0 k (suc a) (suc m) zs in (r.0, ys ++ r.1))) b.0 b.1 in
+      grind (arith, take-append-drop at xs, stays, parted)
 
   -- the nodes of the layer, counted from there
   pub count-from : (xs : List (Node S V)) → node_count by.width by.width (drop at xs) ≡ node_count (at + by.width) by.width xs
