@@ -20,9 +20,8 @@ use Rattle.labels.specs.Passes.{part}
 use Rattle.labels.proofs.Laying.{Arranged, arranged-of}
 use Rattle.split.specs.Steps.{place_check, node_count, alike, parted_one, parts_from, layer_steps}
 use Rattle.split.specs.Words.{LayerDone}
-use Rattle.split.proofs.LayerNet.{Known, downs-same, stands_same, known_alike, known-parted, known-tail, known-length, known-labels}
-use Rattle.split.proofs.PartWords.{relaid-same}
-use Rattle.split.proofs.ShapedNet.{count-at}
+use Rattle.split.proofs.LayerNet.{Known, downs-same, stands_same, known_alike, known-parted, known-tail, known-length, known-labels, count-at}
+use Rattle.split.proofs.CallWords.{relaid-same}
 use Rattle.layers.specs.Settings.{Setting}
 use Rattle.layers.specs.declared.node.Down.{Down}
 

@@ -3,7 +3,7 @@ use Rattle.std.specs.Option.{MatchOption, is_some}
 use Rattle.layers.specs.Settings.{lent_setting}
 use Rattle.labels.specs.Passes.{arrivals}
 use Rattle.split.specs.Listed.{written}
-use Rattle.split.proofs.Asking.{none-agree}
+use Rattle.split.proofs.Checks.{none-agree}
 use Rattle.split.proofs.InArcs.{not-not}
 use Rattle.split.proofs.Meets.{stay-said}
 use Rattle.split.proofs.agreement.alike.Goals as goal

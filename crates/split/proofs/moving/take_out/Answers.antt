@@ -1,5 +1,5 @@
 use Rattle.std.proofs.Common.{◌≡◌, ℕ, ◌+◌, ◌-◌, ◌≤◌, ◌++◌, length, take, drop, set, ap, ◌∙◌, ap₂, append_assoc, arith}
-use Rattle.split.proofs.Shifts.{shifted-all}
+use Rattle.split.proofs.Joins.{shifted-all}
 use Rattle.split.proofs.moving.take_out.Goals as goal
 
 pub returns : goal.returns

@@ -6,9 +6,8 @@ use Rattle.layers.specs.Calls.{Outcome}
 use Rattle.layers.specs.Settings.{Setting, lent_setting}
 use Rattle.split.specs.Steps.{node_count, group_check, alike, parted_one, part_check, part_steps}
 use Rattle.split.specs.Words.{PartDone}
-use Rattle.split.proofs.Doing.{part-check-is, part-refused, part-done}
-use Rattle.split.proofs.Stands.{count_most}
-use Rattle.split.proofs.PartWords.{part-said}
+use Rattle.split.proofs.Checks.{part-check-is, part-refused, part-done, count_most}
+use Rattle.split.proofs.CallWords.{part-said}
 use Rattle.split.proofs.Turns.{next-ok, next-err}
 use Rattle.split.proofs.parting.part.Goals as goal
 

@@ -3,7 +3,7 @@ use Rattle.layers.specs.declared.refusal.Refusal.TheVariants.{LayerFull}
 use Rattle.layers.specs.Settings.{lent_setting}
 use Rattle.split.specs.Listed.{told_records}
 use Rattle.split.specs.Steps.{parts_from}
-use Rattle.split.proofs.Stands.{count_most}
+use Rattle.split.proofs.Checks.{count_most}
 use Rattle.split.proofs.Turns.{parts-end, parts-full, parts_more, parts_same, next-most}
 use Rattle.split.proofs.parting.part_listed.Goals as goal
 use Rattle.split.proofs.parting.part_listed.Goals.{in-Ok, in-Err+in_default}

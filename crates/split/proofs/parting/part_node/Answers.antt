@@ -12,7 +12,7 @@ use Rattle.split.specs.Agreed.{brought, kept_by}
 use Rattle.split.specs.Listed.{IsListed, written, told_from, all_stay, told_records}
 use Rattle.split.specs.Parted.{or_unused, parted_node, parted_second}
 use Rattle.split.specs.Steps.{alike, next_records, parted_one, kept_first}
-use Rattle.split.proofs.Asking.{none-agree}
+use Rattle.split.proofs.Checks.{none-agree}
 use Rattle.split.proofs.Meets.{stay-said, kept-same}
 use Rattle.split.proofs.Turns.{next-alike, next-full, next-parted, told-head, told-tail}
 use Rattle.split.proofs.parting.part_node.Goals as goal
