@@ -164,7 +164,7 @@ module _ {S V : Type 0} (by : Setting S V) (i a b : ℕ) (xs : List (Node S V)) 
         let p : IsLawful by.round.n by.width joined = proper-join by some d lo hi Ls order inside clear k.proper in
         let made : relabelled by ys ≡ records_with by xs joined =
         relaid-same by xs ys joined p
-        (join-arranged by.width d lo hi z Ls xs (proper-good by.round by.width Ls k.proper) deep order inside refl k.arranged long)
+        (join-arranged by.width d lo hi z Ls xs (proper-good by.round by.width Ls k.proper) deep order inside refl k.arranged)
         (ap (λ (j : ℕ). drop j ys) same ∙ join-tail by.width d lo hi z Ls xs deep (omega (arith, q.high_a, q.high_b, q.low_a, q.low_b)) long ∙ ap (λ (j : ℕ). drop j xs) (sym same)) in
         (p, made)
 

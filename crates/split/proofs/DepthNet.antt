@@ -1,6 +1,6 @@
 -- What a part and a join do to two layers of a net, d layers down, and to their records
 use Rattle.std.proofs.Common.{◌≡◌, ℕ, zero, suc, ◌+◌, ◌*◌, ◌<◌, ◌≤◌, List, [], ◌∷◌, ◌++◌, map, length, get_or, take, drop, sym, ap, ◌∙◌, subst, append_assoc, mul-le-mul_right, suc-mul, zero-mul, arith, take-add, Bool, cond, not, ◌&&◌, eqb, set, None, Option, refl, ap₂, false, ◌||◌}
-use Rattle.std.proofs.lemmas.List.{take_at, drop_at, drop-drop, places, same_lists, drop-set-lt, map-set, length-set, length-map, length-append, length-take, length-take-le, length-drop, get_or-take, get_or-drop, map_push, length_push, get_or_past}
+use Rattle.std.proofs.lemmas.List.{take_at, drop_at, drop-drop, places, same_lists, drop-set-lt, map-set, length-set, length-map, length-append, length-take, length-take-le, length-drop, get_or-take, map_push, length_push, get_or_past}
 use Rattle.layers.specs.declared.node.Node.{Node}
 use Rattle.layers.specs.Net.{Layer, Net, table, Outs, node}
 use Rattle.labels.proofs.Laying.{arcs_of, Arranged, Good}
@@ -21,11 +21,6 @@ use Rattle.layers.specs.Join.{either_target, both_out, targets_differ, clash, wi
 use Rattle.split.specs.Joined.{moved_to, moved_node, joined_node, joined_layer, joined_second}
 
 -- ---- nets
-pub good-drop : (w d : ℕ) (Ls : Net) → Good w Ls → Good w (drop d Ls)
-good-drop w zero Ls g = g
-good-drop w (suc d) [] g = tt
-good-drop w (suc d) (L ∷ Ls) g = good-drop w d Ls g.3
-
 -- a layer of a net has room
 pub good-room : (w d : ℕ) (Ls : Net) → Good w Ls → length (get_or Ls d []) ≤ w
 good-room w zero [] g = omega arith
@@ -49,28 +44,14 @@ module _ {S V : Type 0} where
       let e : suc d * w ≡ w + d * w = omega (arith, suc-mul d w) in
       ap (λ (k : ℕ). drop k xs) e ∙ sym (drop-drop (d * w) w xs)
 
-  -- an act on a net from depth d on, and one on the records from there on
-  pub at-depth : (w : ℕ) (act : ℕ → Net → Net) (op : List (Node S V) → List (Node S V)) → ((d : ℕ) (L : Layer) (Ls : Net) → act (suc d) (L ∷ Ls) ≡ L ∷ act d Ls)
-      → (d : ℕ) (Ls : Net) (xs : List (Node S V)) → d ≤ length Ls → Arranged w Ls xs
-      → (Arranged w (drop d Ls) (drop (d * w) xs) → Arranged w (act 0 (drop d Ls)) (op (drop (d * w) xs)))
-      → Arranged w (act d Ls) (take (d * w) xs ++ op (drop (d * w) xs))
-  at-depth w act op step zero Ls xs le arr base =
-      let e : 0 * w ≡ 0 = zero-mul w in
-      subst (λ (k : ℕ). Arranged w (act 0 Ls) (take k xs ++ op (drop k xs))) (sym e) (subst (λ (k : ℕ). Arranged w Ls (drop k xs) → Arranged w (act 0 Ls) (op (drop k xs))) e base arr)
-  at-depth w act op step (suc d) [] xs le arr base = absurd (omega arith)
-  at-depth w act op step (suc d) (L ∷ Ls) xs le arr base =
+  step-deeper : (w d : ℕ) (L : Layer) (Ls : Net) (op : List (Node S V) → List (Node S V)) (xs : List (Node S V)) → map arcs_of (take w xs) ≡ table w (arcs_at L)
+      → Arranged w Ls (take (d * w) (drop w xs) ++ op (drop (d * w) (drop w xs))) → Arranged w (L ∷ Ls) (take (suc d * w) xs ++ op (drop (suc d * w) xs))
+  step-deeper w d L Ls op xs first again =
       let us = take w xs in
-      let ys = drop w xs in
-      let rest = take (d * w) ys ++ op (drop (d * w) ys) in
-      let many : length us ≡ w = arranged-long w L us arr.0 in
-      let is : take (suc d * w) xs ++ op (drop (suc d * w) xs) ≡ us ++ rest = deeper w d xs (op (drop (suc d * w) xs)) ∙ ap (λ zs. us ++ (take (d * w) ys ++ op zs)) (drop-deeper w d xs) in
-      let again : Arranged w (act d Ls) rest = at-depth w act op step d Ls ys (omega arith) arr.1
-      (subst (λ zs. Arranged w (drop d Ls) zs → Arranged w (act 0 (drop d Ls)) (op zs)) (drop-deeper w d xs) base) in
-      subst (λ N. Arranged w N (take (suc d * w) xs ++ op (drop (suc d * w) xs))) (sym (step d L Ls))
-      (subst (Arranged w (L ∷ act d Ls)) (sym is) (
-        ap (map arcs_of) (take_at us rest w many) ∙ arr.0,
-        subst (Arranged w (act d Ls)) (sym (drop_at us rest w many)) again,
-      ))
+      let rest = take (d * w) (drop w xs) ++ op (drop (d * w) (drop w xs)) in
+      let many = arranged-long w L us first in
+      subst (Arranged w (L ∷ Ls)) (sym (deeper w d xs (op (drop (suc d * w) xs)) ∙ ap (λ zs. us ++ (take (d * w) (drop w xs) ++ op zs)) (drop-deeper w d xs)))
+      (ap (map arcs_of) (take_at us rest w many) ∙ first, subst (Arranged w Ls) (sym (drop_at us rest w many)) again)
 
 -- ---- a node more at the end of a layer
 push-table : (w : ℕ) (M : Layer) (nd : Outs) → length M < w → set (table w (arcs_at M)) (length M) (record { to = padded_targets nd }) ≡ table w (arcs_at (M ++ (nd ∷ [])))
@@ -144,24 +125,20 @@ module _ {S V : Type 0} (by : Setting S V) (stays : Label S V → ℕ → Bool) 
         ),
       )
 
-  parts-deeper : (a : ℕ) (labs : List (Option (Down S V))) (d : ℕ) (L : Layer) (Ls : Net) → parted_arcs by (suc d) a labs (L ∷ Ls) ≡ L ∷ parted_arcs by d a labs Ls
-  unfolding parted_arcs
-  parts-deeper a labs d L Ls = refl
-
   -- the records of the net, parted, are those of the parted net
   pub part-arranged : (w d a m : ℕ) (z : Node S V) (labs : List (Option (Down S V))) (Ls : Net) (xs : List (Node S V))
-      → Good w Ls → suc d < length Ls → m ≡ length (get_or Ls (suc d) []) → a < m → m < w → Arranged w Ls xs → length Ls * w + 1 ≤ length xs
-      → ((x : Node S V) (u j : ℕ) → u < length (get_or Ls d []) → differs_from_first by (first_arrival (arrivals_at (arrival_over by) a labs (get_or Ls d []))) (get_or labs u None) j ≡ not (stays (get_or (drop (d * w) xs) u x).label j))
+      → Good w Ls → suc d < length Ls → m ≡ length (get_or Ls (suc d) []) → a < m → m < w → Arranged w Ls xs → (ys : List (Node S V)) → drop (d * w) xs ≡ ys
+      → ((x : Node S V) (u j : ℕ) → u < length (get_or Ls d []) → differs_from_first by (first_arrival (arrivals_at (arrival_over by) a labs (get_or Ls d []))) (get_or labs u None) j ≡ not (stays (get_or ys u x).label j))
       → Arranged w (parted_arcs by d a labs Ls) (take (d * w) xs ++ parted_second stays w a m (drop (d * w) xs) z)
-  part-arranged w d a m z labs Ls xs good deep em al ml arr le h =
-      let Ks = drop d Ls in
-      let ys = drop (d * w) xs in
-      let first : get_or Ls d [] ≡ get_or Ks 0 [] = (let e : d ≡ d + 0 = omega arith in ap (λ (i : ℕ). get_or Ls i []) e ∙ sym (get_or-drop d Ls 0 [])) in
-      let second : get_or Ls (suc d) [] ≡ get_or Ks 1 [] = (let e : suc d ≡ d + 1 = omega arith in ap (λ (i : ℕ). get_or Ls i []) e ∙ sym (get_or-drop d Ls 1 [])) in
-      let h' : (x : Node S V) (u j : ℕ) → u < length (get_or Ks 0 []) → differs_from_first by (first_arrival (arrivals_at (arrival_over by) a labs (get_or Ks 0 []))) (get_or labs u None) j ≡ not (stays (get_or ys u x).label j) =
-      subst (λ L. (x : Node S V) (u j : ℕ) → u < length L → differs_from_first by (first_arrival (arrivals_at (arrival_over by) a labs L)) (get_or labs u None) j ≡ not (stays (get_or ys u x).label j)) first h in
-      at-depth w (λ d. parted_arcs by d a labs) (λ ys. parted_second stays w a m ys z) (parts-deeper a labs) d Ls xs (omega arith) arr
-      (part-first w a m z labs Ks ys (good-drop w d Ls good) (omega (arith, length-drop d Ls)) (em ∙ ap length second) al ml h')
+  unfolding parted_arcs
+  part-arranged w zero a m z labs Ls xs good deep em al ml arr ys is h =
+      let none = zero-mul w in
+      let same : xs ≡ ys = ap (λ (k : ℕ). drop k xs) (sym none) ∙ is in
+      rw (none, same) (part-first w a m z labs Ls ys good deep em al ml h (subst (Arranged w Ls) same arr))
+  part-arranged w (suc d) a m z labs [] xs good deep em al ml arr ys is h = absurd (omega arith)
+  part-arranged w (suc d) a m z labs (L ∷ Ls) xs good deep em al ml arr ys is h =
+      step-deeper w d L (parted_arcs by d a labs Ls) (λ ys. parted_second stays w a m ys z) xs arr.0
+      (part-arranged w d a m z labs Ls (drop w xs) good.3 (omega arith) em al ml arr.1 ys (sym (drop-deeper w d xs) ∙ is) h)
 
 -- ---- two nodes by sixteen doors
 both_at : (x y : Outs) (k : ℕ) → get_or (both_out x y) k 0 ≡ either_target (get_or x k 0) (get_or y k 0)
@@ -237,11 +214,6 @@ set-table zero lo (x ∷ M) nd lt le = absurd (omega arith)
 set-table (suc w) zero (x ∷ M) nd lt le = refl
 set-table (suc w) (suc lo) (x ∷ M) nd lt le = ap (λ xs. arcs_at (x ∷ M) 0 ∷ xs) (set-table w lo M nd (omega arith) (omega arith))
 
--- one layer more before them
-joins-deeper : (lo hi d : ℕ) (L : Layer) (Ls : Net) → joined_arcs (suc d) lo hi (L ∷ Ls) ≡ L ∷ joined_arcs d lo hi Ls
-unfolding joined_arcs
-joins-deeper lo hi d L Ls = refl
-
 module _ {S V : Type 0} where
   -- ---- lengths
   layer-long : (lo hi : ℕ) (us : List (Node S V)) (z : Node S V) → hi < length us → length (joined_layer lo hi us z) ≡ length us
@@ -302,10 +274,10 @@ module _ {S V : Type 0} where
 
   -- the records of the net, joined, are those of the joined net
   pub join-arranged : (w d lo hi : ℕ) (z : Node S V) (Ls : Net) (xs : List (Node S V))
-      → Good w Ls → suc d < length Ls → lo < hi → hi < length (get_or Ls (suc d) []) → z.arcs ≡ arcs_at [] 0 → Arranged w Ls xs → length Ls * w + 1 ≤ length xs
+      → Good w Ls → suc d < length Ls → lo < hi → hi < length (get_or Ls (suc d) []) → z.arcs ≡ arcs_at [] 0 → Arranged w Ls xs
       → Arranged w (joined_arcs d lo hi Ls) (take (d * w) xs ++ joined_second w lo hi (drop (d * w) xs) z)
-  join-arranged w d lo hi z Ls xs good deep lt in' bare arr le =
-      let Ks = drop d Ls in
-      let second : get_or Ls (suc d) [] ≡ get_or Ks 1 [] = (let e : suc d ≡ d + 1 = omega arith in ap (λ (i : ℕ). get_or Ls i []) e ∙ sym (get_or-drop d Ls 1 [])) in
-      at-depth w (λ d. joined_arcs d lo hi) (λ ys. joined_second w lo hi ys z) (joins-deeper lo hi) d Ls xs (omega arith) arr
-      (join_first w lo hi z Ks (drop (d * w) xs) (good-drop w d Ls good) (omega (arith, length-drop d Ls)) lt (subst (λ (L : Layer). hi < length L) second in') bare)
+  unfolding joined_arcs
+  join-arranged w zero lo hi z Ls xs good deep lt in' bare arr = let none = zero-mul w in rw none (join_first w lo hi z Ls xs good deep lt in' bare arr)
+  join-arranged w (suc d) lo hi z [] xs good deep lt in' bare arr = absurd (omega arith)
+  join-arranged w (suc d) lo hi z (L ∷ Ls) xs good deep lt in' bare arr =
+      step-deeper w d L (joined_arcs d lo hi Ls) (λ ys. joined_second w lo hi ys z) xs arr.0 (join-arranged w d lo hi z Ls (drop w xs) good.3 (omega arith) lt in' bare arr.1)

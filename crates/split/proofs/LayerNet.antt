@@ -13,7 +13,7 @@ use Rattle.labels.specs.Passes.{by_door, from_node, arrivals, part, blank_node}
 use Rattle.labels.proofs.Inward.{over-door, doors-in}
 use Rattle.labels.proofs.Laying.{arcs_of, Arranged, Good}
 use Rattle.layers.specs.Settings.{Setting}
-use Rattle.std.specs.Prelude.{if◌then◌else◌, ◌==◌}
+use Rattle.std.specs.Prelude.{◌==◌}
 use Rattle.std.proofs.lemmas.List.{drop-drop, length-map, length-take-le, get_or-map, get_or-take, get_or_default, same_lists}
 use Rattle.round.specs.declared.table.Round.{Round}
 use Rattle.layers.specs.declared.node.Down.{Down}
@@ -95,37 +95,19 @@ module _ {S V : Type 0} where
   abbrev pub labelsOf : List (Node S V) → List (Label S V)
   labelsOf = map (λ (x : Node S V). x.label)
 
-  abbrev kept-labels : List (Label S V) → List (Label S V)
-  kept-labels [] = []
-  kept-labels (l ∷ ls) = if not (l.down.lasts == 0) then l ∷ kept-labels ls else []
-
-  labels-kept : (us : List (Node S V)) → labelsOf (nodes_in us) ≡ kept-labels (labelsOf us)
-  labels-kept [] = refl
-  labels-kept (u ∷ us) = grind (arith, labels-kept us)
-
-  pub standing-labels : (us vs : List (Node S V)) → labelsOf us ≡ labelsOf vs → labelsOf (nodes_in us) ≡ labelsOf (nodes_in vs)
-  standing-labels us vs e = labels-kept us ∙ ap kept-labels e ∙ sym (labels-kept vs)
-
-  -- and the labels of those
-  downs-labels : (us : List (Node S V)) → downs_in us ≡ map (λ (l : Label S V). Some l.down) (labelsOf us)
-  downs-labels [] = refl
-  downs-labels (u ∷ us) = ap (λ ls. Some u.label.down ∷ ls) (downs-labels us)
-
-  pub downs-same : (us vs : List (Node S V)) → labelsOf us ≡ labelsOf vs → downs_in (nodes_in us) ≡ downs_in (nodes_in vs)
-  downs-same us vs e = downs-labels (nodes_in us) ∙ ap (map (λ (l : Label S V). Some l.down)) (standing-labels us vs e) ∙ sym (downs-labels (nodes_in vs))
-
-  pub stands_same : (us vs : List (Node S V)) → labelsOf us ≡ labelsOf vs → length (nodes_in us) ≡ length (nodes_in vs)
-  stands_same us vs e = sym (length-map (nodes_in us) (λ (x : Node S V). x.label)) ∙ ap length (standing-labels us vs e) ∙ length-map (nodes_in vs) (λ (x : Node S V). x.label)
+  pub stand-same : (us vs : List (Node S V)) → labelsOf us ≡ labelsOf vs → (downs_in (nodes_in us) ≡ downs_in (nodes_in vs)) × (length (nodes_in us) ≡ length (nodes_in vs))
+  stand-same [] [] e = (refl, refl)
+  stand-same [] (v ∷ vs) e = absurd (omega (arith, ap length e))
+  stand-same (u ∷ us) [] e = absurd (omega (arith, ap length e))
+  stand-same (u ∷ us) (v ∷ vs) e =
+      let h : u.label ≡ v.label = ap (λ ls. get_or ls 0 u.label) e in
+      let r = stand-same us vs (ap (drop 1) e) in
+      (grind (arith, h, r.0), grind (arith, h, r.1))
 
   pub standing-used : (us : List (Node S V)) (u : ℕ) (x : Node S V) → u < length (nodes_in us) → ((get_or (nodes_in us) u x).label.down.lasts == 0) ≡ false
   standing-used [] u x lt = absurd (omega arith)
-  standing-used (v ∷ vs) u x lt = go (v.label.down.lasts == 0) refl u lt (standing-used vs)
-    where
-      go : (q : Bool) → (v.label.down.lasts == 0) ≡ q → (u : ℕ) → u < length (if not q then v ∷ nodes_in vs else []) → ((b : ℕ) (x : Node S V) → b < length (nodes_in vs) → ((get_or (nodes_in vs) b x).label.down.lasts == 0) ≡ false)
-          → ((get_or (if not q then v ∷ nodes_in vs else []) u x).label.down.lasts == 0) ≡ false
-      go true e u lt h = absurd (omega arith)
-      go false e zero lt h = e
-      go false e (suc u) lt h = h u x (omega arith)
+  standing-used (v ∷ vs) zero x lt = grind (arith, lt)
+  standing-used (v ∷ vs) (suc u) x lt = grind (arith, lt, standing-used vs u x)
 
   -- ---- one layer
   -- their arcs are the net's
@@ -202,7 +184,7 @@ module _ {S V : Type 0} (by : Setting S V) (d : ℕ) (Ls : Net) (xs : List (Node
     pub known-parted : (a m : ℕ) → m ≡ length (get_or Ls (suc d) []) → a < m → m < by.width → Arranged by.width (parted_arcs by d a labs Ls) (parted_one by (d * by.width) a m xs)
     unfolding parted_one
     known-parted a m em al ml =
-        part-arranged by (kept_first by (first_arrival (arrivals by (suc a) us))) by.width d a m (blank_node by.rule by.tally) labs Ls xs (proper-good by.round by.width Ls k.proper) within em al ml k.arranged long
+        part-arranged by (kept_first by (first_arrival (arrivals by (suc a) us))) by.width d a m (blank_node by.rule by.tally) labs Ls xs (proper-good by.round by.width Ls k.proper) within em al ml k.arranged _ refl
         (λ x u j lt. ap (λ zs. differs_from_first by (first_arrival zs) (get_or labs u None) j) (sym (known-arrivals a)) ∙ kept (first_arrival (arrivals by (suc a) us)) x u j lt)
 
     -- the places after the end, the length, and the labels of the layer before stay

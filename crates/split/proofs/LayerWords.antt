@@ -20,7 +20,7 @@ use Rattle.labels.specs.Passes.{part}
 use Rattle.labels.proofs.Laying.{Arranged, arranged-of}
 use Rattle.split.specs.Steps.{place_check, node_count, alike, parted_one, parts_from, layer_steps}
 use Rattle.split.specs.Words.{LayerDone}
-use Rattle.split.proofs.LayerNet.{Known, downs-same, stands_same, known_alike, known-parted, known-tail, known-length, known-labels, count-at}
+use Rattle.split.proofs.LayerNet.{Known, stand-same, known_alike, known-parted, known-tail, known-length, known-labels, count-at}
 use Rattle.split.proofs.CallWords.{relaid-same}
 use Rattle.layers.specs.Settings.{Setting}
 use Rattle.layers.specs.declared.node.Down.{Down}
@@ -105,9 +105,9 @@ module _ {S V : Type 0} (by : Setting S V) (w : 1 ≤ by.width) (later : List (N
               arranged = rw (← r.holds.labelled) (known-parted by d r.net xs k a m in-net al ml);
               fit = omega (arith, k.fit, known-length by d r.net xs a m);
               deep = k.deep;
-              stand = stands_same vs us same ∙ k.stand ∙ sym ((net-parted by w d a (first_labels by.rule by.tally) r.net).2);
+              stand = (stand-same vs us same).1 ∙ k.stand ∙ sym ((net-parted by w d a (first_labels by.rule by.tally) r.net).2);
             };
-            labelled = downs-same vs us same ∙ r.holds.labelled ∙ sym ((net-parted by w d a (first_labels by.rule by.tally) r.net).1);
+            labelled = (stand-same vs us same).0 ∙ r.holds.labelled ∙ sym ((net-parted by w d a (first_labels by.rule by.tally) r.net).1);
             kept = keeps.step a m (labels_at by d (first_labels by.rule by.tally) r.net) r.net xs k p in-net al ml r.holds.kept;
           }
 

@@ -36,8 +36,8 @@ returns-in-LayerFull g c =
     let is : c.part_node.result ≡ Err LayerFull = c.in-Err.is ∙ ap Err c.in-LayerFull.is in
     let n = c.part_node.ensures in
     record {
-      records = parts-full by 0 a m xs (by.width - (a + 1)) ys c.if-count-a.false (sym is ∙ n.answer, n.records) ∙ ap (λ (k : ℕ). parts_from by 0 k a m xs) left ∙ c.loop-a.invariant.1;
-      listed = n.listed;
+      records = parts-full by 0 a m xs (by.width - (a + 1)) ys c.if-count-a.false (sym is ∙ n.0, n.1) ∙ ap (λ (k : ℕ). parts_from by 0 k a m xs) left ∙ c.loop-a.invariant.1;
+      listed = n.2;
     }
 
 pub part_node-requires : goal.part_node-requires
@@ -61,17 +61,17 @@ loop-a-preserved g c =
     let n = c.part_node.ensures in
     let most : c.match-part_node.count ≤ by.width =
     elim c.match-part_node.branch [
-      | in-Ok w ↦ let h = next-most by 0 a m xs ys c.loop-a.invariant.0 (sym w.in-Ok.is ∙ n.answer, n.records) in omega (arith, w.count-is)
+      | in-Ok w ↦ let h = next-most by 0 a m xs ys c.loop-a.invariant.0 (sym w.in-Ok.is ∙ n.0, n.1) in omega (arith, w.count-is)
       | in-Err+in_default w ↦ let e = w.count-is in omega arith
     ] in
     let next : parts_from by 0 k (suc a) c.match-part_node.count ys ≡ parts_from by 0 (suc k) a m xs =
     elim c.match-part_node.branch [
-      | in-Ok w ↦ ap (λ (l : ℕ). parts_from by 0 k (suc a) l ys) (w.count-is ∙ add-one m) ∙ parts_more by 0 a m xs k ys c.if-count-a.false (sym w.in-Ok.is ∙ n.answer, n.records)
-      | in-Err+in_default w ↦ ap (λ (l : ℕ). parts_from by 0 k (suc a) l ys) w.count-is ∙ parts_same by 0 a m xs k ys w.in-Err.e c.if-count-a.false w.in_default.not-LayerFull (sym w.in-Err.is ∙ n.answer, n.records)
+      | in-Ok w ↦ ap (λ (l : ℕ). parts_from by 0 k (suc a) l ys) (w.count-is ∙ add-one m) ∙ parts_more by 0 a m xs k ys c.if-count-a.false (sym w.in-Ok.is ∙ n.0, n.1)
+      | in-Err+in_default w ↦ ap (λ (l : ℕ). parts_from by 0 k (suc a) l ys) w.count-is ∙ parts_same by 0 a m xs k ys w.in-Err.e c.if-count-a.false w.in_default.not-LayerFull (sym w.in-Err.is ∙ n.0, n.1)
     ] in (
       most,
       ap (λ (b : ℕ). parts_from by 0 k b c.match-part_node.count ys) (add-one a) ∙ next ∙ ap (λ (l : ℕ). parts_from by 0 l a m xs) left ∙ c.loop-a.invariant.1,
-      n.listed,
+      n.2,
     )
 
 pub returns : goal.returns

@@ -12,6 +12,6 @@ returns g c =
     let m = c.args.count in
     let same = ap (λ us. us ++ drop by.width xs) c.list_layer.ensures.same ∙ take-append-drop by.width xs in
     record {
-      answer = c.part_node-answer.ensures.answer ∙ ap (λ ys. group_check (alike by 0 (suc a) ys) (leb by.width m)) same;
-      records = ap (λ us. us ++ drop by.width c.part_node-answer.new.nodes) c.put_back.ensures ∙ c.part_node-answer.ensures.records ∙ ap (next_records by 0 a m) same;
+      answer = c.part_node-answer.ensures.0 ∙ ap (λ ys. group_check (alike by 0 (suc a) ys) (leb by.width m)) same;
+      records = ap (λ us. us ++ drop by.width c.part_node-answer.new.nodes) c.put_back.ensures ∙ c.part_node-answer.ensures.1 ∙ ap (next_records by 0 a m) same;
     }
