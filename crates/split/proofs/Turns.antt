@@ -1,5 +1,5 @@
 -- Parting the nodes of a layer, one after another
-use Rattle.std.proofs.Common.{◌≡◌, ℕ, zero, suc, ◌+◌, ◌<◌, ◌≤◌, Bool, true, false, leb, List, ◌++◌, length, take, drop, Ok, Err, ◌≢◌, sym, refl, ap, ◌∙◌, ap₂, arith}
+use Rattle.std.proofs.Common.{◌≡◌, ℕ, zero, suc, ◌+◌, ◌-◌, add-one, ◌<◌, ◌≤◌, Bool, true, false, leb, List, ◌++◌, length, take, drop, Ok, Err, ◌≢◌, sym, refl, ap, ◌∙◌, ap₂, arith}
 use Rattle.std.proofs.lemmas.List.{take_at, drop_at, take-append-drop, drop-drop, length-append, length-map, length-take-le}
 use Rattle.std.proofs.lemmas.Bool.{le-leb, lt-leb}
 use Rattle.std.proofs.lemmas.Bool.Decides.{nat_tests}
@@ -37,23 +37,35 @@ module _ {S V : Type 0} (by : Setting S V) (at a m : ℕ) (xs : List (Node S V))
   pub next-err : (e : Refusal) → group_check (alike by at (suc a) xs) (leb by.width m) ≡ Err e → next_records by at a m xs ≡ xs
   next-err e h = grind (arith, h)
 
-  -- ---- one turn
-  pub parts-end : (k : ℕ) → m ≤ a → (false, xs) ≡ parts_from by at k a m xs
+  -- ---- one turn, of as many as the layer has room for
+  pub parts-end : m ≤ a → (false, xs) ≡ parts_from by at (by.width - a) a m xs
   unfolding parts_from
-  parts-end zero h = refl
-  parts-end (suc k) h = rw (le-leb m a h) refl
+  parts-end h = go (by.width - a)
+    where
+      go : (k : ℕ) → (false, xs) ≡ parts_from by at k a m xs
+      go zero = refl
+      go (suc k) = rw (le-leb m a h) refl
 
-  pub parts-full : (k : ℕ) (ys : List (Node S V)) → a < m → Next (Err LayerFull) ys → (true, ys) ≡ parts_from by at (suc k) a m xs
-  unfolding parts_from
-  parts-full k ys h n = grind (arith, nat_tests, n.0, n.1)
+  left : a < by.width → by.width - a ≡ suc (by.width - (a + 1))
+  left lt = omega arith
 
-  pub parts_more : (k : ℕ) (ys : List (Node S V)) → a < m → Next (Ok tt) ys → parts_from by at k (suc a) (suc m) ys ≡ parts_from by at (suc k) a m xs
+  pub parts-full : (ys : List (Node S V)) → a < by.width → a < m → Next (Err LayerFull) ys → (true, ys) ≡ parts_from by at (by.width - a) a m xs
   unfolding parts_from
-  parts_more k ys h n = grind (arith, nat_tests, n.0, n.1)
+  parts-full ys lt h n = rw (left lt) (grind (arith, nat_tests, n.0, n.1))
 
-  pub parts_same : (k : ℕ) (ys : List (Node S V)) (e : Refusal) → a < m → e ≢ LayerFull → Next (Err e) ys → parts_from by at k (suc a) m ys ≡ parts_from by at (suc k) a m xs
+  pub parts_more : (ys : List (Node S V)) → a < by.width → a < m → Next (Ok tt) ys → parts_from by at (by.width - (a + 1)) (a + 1) (m + 1) ys ≡ parts_from by at (by.width - a) a m xs
   unfolding parts_from
-  parts_same k ys e h ne n = grind (arith, nat_tests, n.0, n.1)
+  parts_more ys lt h n = rw (left lt, add-one a, add-one m) (go (by.width - suc a))
+    where
+      go : (k : ℕ) → parts_from by at k (suc a) (suc m) ys ≡ parts_from by at (suc k) a m xs
+      go k = grind (arith, nat_tests, n.0, n.1)
+
+  pub parts_same : (ys : List (Node S V)) (e : Refusal) → a < by.width → a < m → e ≢ LayerFull → Next (Err e) ys → parts_from by at (by.width - (a + 1)) (a + 1) m ys ≡ parts_from by at (by.width - a) a m xs
+  unfolding parts_from
+  parts_same ys e lt h ne n = rw (left lt, add-one a) (go (by.width - suc a))
+    where
+      go : (k : ℕ) → parts_from by at k (suc a) m ys ≡ parts_from by at (suc k) a m xs
+      go k = grind (arith, nat_tests, n.0, n.1)
 
 -- ---- of a list of in-arcs that are not written back
 module _ {S V : Type 0} (w : ℕ) (xs us : List (Node S V)) (list : InArcs) (front : us ≡ take w xs) (le : w ≤ length xs) (l : IsListed (take w xs) list) where

@@ -88,8 +88,7 @@ returns g c =
     let made : written us next ≡ map (parted_node (kept_first by o) a m) (take w R) =
     c.divide.ensures.records ∙ ap₂ (λ i j. P keeps i j (written us list)) old new ∙ ap₂ (λ f ys. P f a m ys) stays (sym head) in
     let last : rest ≡ set (drop w R) m (get_or (drop w R) a z) =
-    c.copy_record.ensures z ∙ ap (λ ys. set ys m (get_or ys a z)) (sym tail) in
-    (
+    c.copy_record.ensures z ∙ ap (λ ys. set ys m (get_or ys a z)) (sym tail) in (
       n.0,
       ap₂ (λ ys zs. ys ++ zs) (ap (λ ys. written ys next) (take_at us rest w long) ∙ made) (drop_at us rest w long ∙ last) ∙ n.1,
       subst (λ ys. IsListed ys next) (sym (take_at us rest w long)) c.divide.ensures.listed,
