@@ -24,7 +24,7 @@ use Rattle.layers.specs.Targets.{targets}
 use Rattle.labels.proofs.Overs.{get_d_part}
 use Rattle.labels.proofs.RedirectNet.{targets-arranged}
 use Rattle.labels.proofs.Shaped_arranged.{proper-good}
-use Rattle.split.proofs.DepthNet.{join-arranged, join-tail, clash-padded}
+use Rattle.split.proofs.DepthNet.{join-arranged, join-tail, clash-table}
 use Rattle.std.proofs.lemmas.List.{length-map}
 
 -- ---- part
@@ -83,19 +83,17 @@ module _ {S V : Type 0} (by : Setting S V) (i a : ℕ) (xs : List (Node S V)) wh
     unfolding part_steps after_part parted_records
     part-words self = same_check (part_check by i a xs) (part_answer by i a xs) _ _ xs part-answer (λ e. (part-made self e).1)
 
+    part-keeps : ((x : S) → by.rule.same x x ≡ true) → (P : List (Node S V) → Type 0) → P xs → (let N = new (layer by.round.n by.width (i - 1) xs) in IsLawful by.round.n by.width N → P (records_with by xs N)) → P (part_steps by i a xs)
+    unfolding part_steps
+    part-keeps self P old made = cond_both (is_ok (part_check by i a xs)) _ xs P (λ e. let q = part-made self (passed _ e) in subst P (sym q.1) (made q.0)) (λ e. old)
+
     -- the shape stays
     pub part-shaped : ((x : S) → by.rule.same x x ≡ true) → IsShaped by.round.n by.width (part_steps by i a xs)
-    unfolding part_steps
-    part-shaped self = cond_both (is_ok (part_check by i a xs)) _ xs (IsShaped by.round.n by.width)
-        (λ e. let q = part-made self (passed _ e) in subst (IsShaped by.round.n by.width) (sym q.1) (relaid-shaped by some xs (new (layer by.round.n by.width (i - 1) xs)) q.0))
-        (λ e. s)
+    part-shaped self = part-keeps self (IsShaped by.round.n by.width) s (relaid-shaped by some xs _)
 
     -- and no finish gets late
     pub part-timely : ((x : S) → by.rule.same x x ≡ true) → IsTimely by.round.n by.width xs → IsTimely by.round.n by.width (part_steps by i a xs)
-    unfolding part_steps
-    part-timely self t = cond_both (is_ok (part_check by i a xs)) _ xs (IsTimely by.round.n by.width)
-        (λ e. let q = part-made self (passed _ e) in subst (IsTimely by.round.n by.width) (sym q.1) (relaid-timely by xs (new (layer by.round.n by.width (i - 1) xs)) q.0.deep))
-        (λ e. t)
+    part-timely self t = part-keeps self (IsTimely by.round.n by.width) t (λ p. relaid-timely by xs _ p.deep)
 
 -- the clause
 pub part-said : {S V : Type 0} (by : Setting S V) (self : (x : S) → by.rule.same x x ≡ true) (i a : ℕ) (xs ys : List (Node S V)) (o : Outcome)
@@ -127,7 +125,7 @@ module _ {S V : Type 0} (by : Setting S V) (i a b : ℕ) (xs : List (Node S V)) 
         let L = get_or (arcs by.round.n by.width xs) i [] in
         let k = known-shaped by xs some fit s (i - 1) (omega arith) in
         ap₂ clash (record-targets (min a b) low high (omega arith) (omega arith)) (record-targets (max a b) low high (omega arith) (omega arith))
-        ∙ clash-padded (node L (min a b - 1)) (node L (max a b - 1)) (node-few by.round by.width i (arcs by.round.n by.width xs) k.proper (min a b - 1))
+        ∙ clash-table 16 (node L (min a b - 1)) (node L (max a b - 1)) (node-few by.round by.width i (arcs by.round.n by.width xs) k.proper (min a b - 1))
 
     -- the answer
     pub join-answer : join_check by i a b xs ≡ join_answer by i a b xs
@@ -172,19 +170,17 @@ module _ {S V : Type 0} (by : Setting S V) (i a b : ℕ) (xs : List (Node S V)) 
     unfolding join_steps after_join
     join-words = same_check (join_check by i a b xs) (join_answer by i a b xs) _ _ xs join-answer (λ e. (join-made e).1)
 
+    join-keeps : (P : List (Node S V) → Type 0) → P xs → (IsLawful by.round.n by.width joined → P (records_with by xs joined)) → P (join_steps by i a b xs)
+    unfolding join_steps
+    join-keeps P old made = cond_both (is_ok (join_check by i a b xs)) _ xs P (λ e. let q = join-made (passed _ e) in subst P (sym q.1) (made q.0)) (λ e. old)
+
     -- the shape stays
     pub join-shaped : IsShaped by.round.n by.width (join_steps by i a b xs)
-    unfolding join_steps
-    join-shaped = cond_both (is_ok (join_check by i a b xs)) _ xs (IsShaped by.round.n by.width)
-        (λ e. let q = join-made (passed _ e) in subst (IsShaped by.round.n by.width) (sym q.1) (relaid-shaped by some xs joined q.0))
-        (λ e. s)
+    join-shaped = join-keeps (IsShaped by.round.n by.width) s (relaid-shaped by some xs joined)
 
     -- and no finish gets late
     pub join-timely : IsTimely by.round.n by.width xs → IsTimely by.round.n by.width (join_steps by i a b xs)
-    unfolding join_steps
-    join-timely t = cond_both (is_ok (join_check by i a b xs)) _ xs (IsTimely by.round.n by.width)
-        (λ e. let q = join-made (passed _ e) in subst (IsTimely by.round.n by.width) (sym q.1) (relaid-timely by xs joined q.0.deep))
-        (λ e. t)
+    join-timely t = join-keeps (IsTimely by.round.n by.width) t (λ p. relaid-timely by xs joined p.deep)
 
 -- the clause
 pub join-said : {S V : Type 0} (by : Setting S V) (i a b : ℕ) (xs ys : List (Node S V)) (o : Outcome)

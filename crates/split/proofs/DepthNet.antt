@@ -2,6 +2,9 @@
 use Rattle.std.proofs.Common.{◌≡◌, ℕ, zero, suc, ◌+◌, ◌*◌, ◌<◌, ◌≤◌, List, [], ◌∷◌, ◌++◌, map, length, get_or, take, drop, sym, ap, ◌∙◌, subst, append_assoc, mul-le-mul_right, suc-mul, zero-mul, arith, take-add, Bool, cond, not, ◌&&◌, eqb, set, None, Option, refl, ap₂, false, ◌||◌}
 use Rattle.std.proofs.lemmas.List.{take_at, drop_at, drop-drop, places, same_lists, drop-set-lt, map-set, length-set, length-map, length-append, length-take, length-take-le, length-drop, get_or-take, map_push, length_push, get_or_past}
 use Rattle.layers.specs.declared.node.Node.{Node}
+use Rattle.std.proofs.lemmas.List.{map-append, take-map, drop-map}
+use Rattle.std.proofs.lemmas.List.Edits.{length-remove}
+use Rattle.split.proofs.Joins.{dropped}
 use Rattle.layers.specs.Net.{Layer, Net, table, Outs, node}
 use Rattle.labels.proofs.Laying.{arcs_of, Arranged, Good}
 use Rattle.labels.proofs.RedirectNet.{arranged-long, arcs-arranged, redirect-arranged, padded-is, padded-at, targets-arranged}
@@ -16,7 +19,6 @@ use Rattle.layers.specs.Calls.{parted_arcs}
 use Rattle.layers.specs.Targets.{redirected, targets}
 use Rattle.split.specs.Parted.{parted_to, parted_node, parted_second}
 use Rattle.layers.specs.Settings.{Setting}
-use Rattle.std.proofs.lemmas.Bool.Decides.{nat_tests}
 use Rattle.layers.specs.Join.{either_target, both_out, targets_differ, clash, without_place, place_after_join, joined_arcs}
 use Rattle.split.specs.Joined.{moved_to, moved_node, joined_node, joined_layer, joined_second}
 
@@ -156,30 +158,22 @@ both-padded : (x y : Outs) → both_out (padded_targets x) (padded_targets y) �
 both-padded x y = padded-is (both_out (padded_targets x) (padded_targets y)) (both_out x y) (unfold both_out in refl)
     (λ k lt. both_at (padded_targets x) (padded_targets y) k ∙ ap₂ either_target (padded-at x k lt) (padded-at y k lt) ∙ sym (both_at x y k))
 
-no-clash-left : (n : ℕ) (g : ℕ → ℕ) → clash (table n (λ k. 0)) (table n g) ≡ false
+no-clash : (n : ℕ) (f g : ℕ → ℕ) → ((k : ℕ) → targets_differ (f k) (g k) ≡ false) → clash (table n f) (table n g) ≡ false
 unfolding clash
-no-clash-left zero g = refl
-no-clash-left (suc n) g = no-clash-left n (λ k. g (suc k))
+no-clash zero f g h = refl
+no-clash (suc n) f g h = grind (arith, h 0, no-clash n (λ k. f (suc k)) (λ k. g (suc k)) (λ k. h (suc k)))
 
 differs-none : (s : ℕ) → targets_differ s 0 ≡ false
 differs-none zero = refl
 differs-none (suc s) = refl
 
-no-clash-right : (n : ℕ) (f : ℕ → ℕ) → clash (table n f) (table n (λ k. 0)) ≡ false
+-- two nodes clash as their first n doors do
+pub clash-table : (n : ℕ) (x y : Outs) → length x ≤ n → clash (table n (λ k. get_or x k 0)) (table n (λ k. get_or y k 0)) ≡ clash x y
 unfolding clash
-no-clash-right zero f = refl
-no-clash-right (suc n) f = grind (arith, nat_tests, no-clash-right n (λ k. f (suc k)), differs-none (f 0))
-
-clash-table : (n : ℕ) (x y : Outs) → length x ≤ n → clash (table n (λ k. get_or x k 0)) (table n (λ k. get_or y k 0)) ≡ clash x y
-unfolding clash
-clash-table n [] y h = no-clash-left n (λ k. get_or y k 0)
+clash-table n [] y h = no-clash n (λ k. 0) (λ k. get_or y k 0) (λ k. refl)
 clash-table zero (s ∷ ss) y h = absurd (omega arith)
-clash-table (suc n) (s ∷ ss) [] h = no-clash-right (suc n) (λ k. get_or (s ∷ ss) k 0)
+clash-table (suc n) (s ∷ ss) [] h = no-clash (suc n) (λ k. get_or (s ∷ ss) k 0) (λ k. 0) (λ k. differs-none (get_or (s ∷ ss) k 0))
 clash-table (suc n) (s ∷ ss) (t ∷ ts) h = ap (λ q. targets_differ s t || q) (clash-table n ss ts (omega arith))
-
--- two nodes clash as their sixteen doors do
-pub clash-padded : (x y : Outs) → length x ≤ 16 → clash (padded_targets x) (padded_targets y) ≡ clash x y
-clash-padded x y h = clash-table 16 x y h
 
 -- ---- tables
 table-push : {X : Type 0} (w : ℕ) (f : ℕ → X) → table w f ++ f w ∷ [] ≡ table (suc w) f
@@ -187,16 +181,10 @@ table-push zero f = refl
 table-push (suc w) f = ap (λ xs. f 0 ∷ xs) (table-push w (λ k. f (suc k)))
 
 map-drop : {X Y : Type 0} (f : X → Y) (i : ℕ) (xs : List X) → map f (without_place i xs) ≡ without_place i (map f xs)
-unfolding without_place
-map-drop f i [] = refl
-map-drop f zero (x ∷ xs) = refl
-map-drop f (suc i) (x ∷ xs) = ap (λ ys. f x ∷ ys) (map-drop f i xs)
+map-drop f i xs = ap (map f) (sym (dropped i xs)) ∙ map-append f (take i xs) (drop (suc i) xs) ∙ simp (take-map, drop-map) at (dropped i (map f xs))
 
 length-without : {X : Type 0} (i : ℕ) (xs : List X) → i < length xs → suc (length (without_place i xs)) ≡ length xs
-unfolding without_place
-length-without i [] h = absurd (omega arith)
-length-without zero (x ∷ xs) h = refl
-length-without (suc i) (x ∷ xs) h = ap suc (length-without i xs (omega arith))
+length-without i xs h = omega (arith, length-remove xs i h, ap length (dropped i xs))
 
 -- a node taken out of a layer, and the place that is left at the end
 drop-table : (w hi : ℕ) (M : Layer) → hi < length M → length M ≤ w → without_place hi (table w (arcs_at M)) ++ arcs_at [] 0 ∷ [] ≡ table w (arcs_at (without_place hi M))

@@ -1,5 +1,5 @@
 -- Two nodes' arcs, door by door, and records that move down by one
-use Rattle.std.proofs.Common.{◌≡◌, ℕ, zero, suc, Bool, not, ◌&&◌, ◌||◌, eqb, ◌≢◌, List, [], ◌∷◌, ◌++◌, map, length, get_or, take, drop, refl, ap, ap₂, arith, ◌+◌, ◌-◌, ◌<◌, ◌≤◌, set, sym, ◌∙◌, append_assoc, add-one}
+use Rattle.std.proofs.Common.{◌≡◌, ℕ, zero, suc, Bool, not, ◌&&◌, ◌||◌, eqb, ◌≢◌, List, [], ◌∷◌, ◌++◌, map, length, get_or, take, drop, refl, ap, ap₂, arith, ◌+◌, ◌-◌, ◌<◌, set, ◌∙◌, add-one}
 use Rattle.std.proofs.lemmas.Bool.Decides.{nat_tests}
 use Rattle.std.specs.List.{range_with_len, list_any, zip}
 use Rattle.std.proofs.lemmas.List.FromFn.{fill_by_all}
@@ -8,7 +8,7 @@ use Rattle.layers.specs.Join.{targets_differ, clash, either_target, both_out, wi
 use Rattle.layers.specs.Targets.{targets, with_targets}
 use Rattle.split.specs.Joined.{joined_node}
 use Rattle.labels.proofs.Redirects.{written}
-use Rattle.std.proofs.lemmas.List.{drop_more, set_at, length-append, length-take-le, length-drop, take_all, drop_all}
+use Rattle.std.proofs.lemmas.List.{take_rest, length-take, drop_more, set_at, length-append, length-drop, drop_all}
 
 -- ---- one door
 -- two arcs, to different nodes, as it is tested
@@ -55,24 +55,11 @@ dropped (suc at) [] = refl
 dropped zero (x ∷ xs) = refl
 dropped (suc at) (x ∷ xs) = ap (λ ys. x ∷ ys) (dropped at xs)
 
-module _ {X : Type 0} (xs : List X) (at : ℕ) where
-  abbrev pub shifted : ℕ → List X
-  shifted a = take at xs ++ (take (a - at) (drop (at + 1) xs) ++ drop a xs)
-
-  shifted-set : (a : ℕ) (x : X) → at ≤ a → a < length xs → set (shifted a) a x ≡ take at xs ++ (take (a - at) (drop (at + 1) xs) ++ x ∷ drop (a + 1) xs)
-  shifted-set a x le lt =
-      let p = take at xs in
-      let q = take (a - at) (drop (at + 1) xs) in
-      let long : length (p ++ q) ≡ a = omega (arith, length-append p q, length-take-le at xs (omega arith), length-take-le (a - at) (drop (at + 1) xs) (omega (arith, length-drop (at + 1) xs))) in
-      ap (λ ys. set (p ++ (q ++ ys)) a x) (drop_more xs a x lt)
-      ∙ ap (λ ys. set ys a x) (sym (append_assoc p q (get_or xs a x ∷ drop (a + 1) xs)))
-      ∙ set_at (p ++ q) (get_or xs a x) (drop (a + 1) xs) x a long
-      ∙ append_assoc p q (x ∷ drop (a + 1) xs)
-
-  pub shifted-all : (a : ℕ) (z : X) → at ≤ a → a + 1 ≡ length xs → set (shifted a) a z ≡ without_place at xs ++ z ∷ []
-  shifted-all a z le e =
-      shifted-set a z le (omega arith)
-      ∙ ap (λ ys. take at xs ++ (ys ++ z ∷ drop (a + 1) xs)) (take_all (a - at) (drop (at + 1) xs) (omega (arith, length-drop (at + 1) xs)))
-      ∙ ap (λ ys. take at xs ++ (drop (at + 1) xs ++ z ∷ ys)) (drop_all (a + 1) xs (omega arith))
-      ∙ sym (append_assoc (take at xs) (drop (at + 1) xs) (z ∷ []))
-      ∙ ap (λ ys. ys ++ z ∷ []) (ap (λ n. take at xs ++ drop n xs) (add-one at) ∙ dropped at xs)
+pub taken-out : {X : Type 0} (xs : List X) (at : ℕ) (z : X) → at < length xs
+    → set ((take at xs ++ take (length xs - (at + 1)) (drop (at + 1) xs)) ++ drop (at + (length xs - (at + 1))) xs) (length xs - 1) z ≡ without_place at xs ++ z ∷ []
+taken-out xs at z lt =
+    let n = length xs - 1 in
+    let same : at + (length xs - (at + 1)) ≡ n = omega arith in
+    let last : drop n xs ≡ get_or xs n z ∷ [] = drop_more xs n z (omega arith) ∙ ap (λ ys. get_or xs n z ∷ ys) (drop_all (n + 1) xs (omega arith)) in
+    let long : length (take at xs ++ drop (at + 1) xs) ≡ n = simp (length-append, length-take, length-drop) (omega arith) in
+    rw (take_rest xs (at + 1), same, last) (set_at (take at xs ++ drop (at + 1) xs) (get_or xs n z) [] z n long ∙ ap (λ ys. ys ++ z ∷ []) (ap (λ k. take at xs ++ drop k xs) (add-one at) ∙ dropped at xs))
