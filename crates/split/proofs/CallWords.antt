@@ -154,16 +154,14 @@ module _ {S V : Type 0} (by : Setting S V) (i a b : ℕ) (xs : List (Node S V)) 
         let top = count_most (d * by.width + by.width) by.width xs in
         let order : lo < hi = omega (arith, q.low_a, q.low_b, q.apart) in
         let inside : hi < length (get_or Ls (suc d) []) = omega (arith, em, q.high_a, q.high_b, q.low_a, q.low_b, q.apart) in
-        let long : length Ls * by.width + 1 ≤ length xs = (let same : length Ls * by.width + 1 ≡ by.round.n * by.width + 1 = ap (λ (j : ℕ). j * by.width + 1) k.proper.deep in omega arith) in
         let clear : clash (node (get_or Ls (suc d) []) lo) (node (get_or Ls (suc d) []) hi) ≡ false =
         sym (clash-same low high q.low_a (omega (arith, q.high_a)) q.low_b (omega (arith, q.high_b)) ∙ ap (λ (j : ℕ). clash (node (get_or Ls j []) lo) (node (get_or Ls j []) hi)) back) ∙ q.calm in
-        let same : by.round.n * by.width + 1 ≡ length Ls * by.width + 1 = ap (λ (j : ℕ). j * by.width + 1) (sym k.proper.deep) in
         let ys = joined_one by (d * by.width) lo hi xs in
         let p : IsLawful by.round.n by.width joined = proper-join by some d lo hi Ls order inside clear k.proper in
         let made : relabelled by ys ≡ records_with by xs joined =
         relaid-same by xs ys joined p
         (join-arranged by.width d lo hi z Ls xs (proper-good by.round by.width Ls k.proper) deep order inside refl k.arranged)
-        (ap (λ (j : ℕ). drop j ys) same ∙ join-tail by.width d lo hi z Ls xs deep (omega (arith, q.high_a, q.high_b, q.low_a, q.low_b)) long ∙ ap (λ (j : ℕ). drop j xs) (sym same)) in
+        (join-tail by.round.n by.width d lo hi z xs k.deep (omega (arith, q.high_a, q.high_b, q.low_a, q.low_b)) fit) in
         (p, made)
 
     pub join-words : join_steps by i a b xs ≡ after_join by i a b xs

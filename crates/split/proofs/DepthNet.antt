@@ -72,11 +72,11 @@ module _ {S V : Type 0} (stays : Label S V → ℕ → Bool) where
   unfolding parted_second
   part_length w d a m z xs = simp (length-append, length-map, length-set, length-take, length-drop) (omega arith)
 
-  pub part-tail : (w d a m : ℕ) (z : Node S V) (Ls : Net) (xs : List (Node S V)) → suc d < length Ls → m < w → length Ls * w + 1 ≤ length xs
-      → drop (length Ls * w + 1) (take (d * w) xs ++ parted_second stays w a m (drop (d * w) xs) z) ≡ drop (length Ls * w + 1) xs
+  pub part-tail : (n w d a m : ℕ) (z : Node S V) (xs : List (Node S V)) → suc d < n → m < w → n * w + 1 ≤ length xs
+      → drop (n * w + 1) (take (d * w) xs ++ parted_second stays w a m (drop (d * w) xs) z) ≡ drop (n * w + 1) xs
   unfolding parted_second
-  part-tail w d a m z Ls xs deep lt le =
-      let fit = two-fit w d (length Ls) deep in
+  part-tail n w d a m z xs deep lt le =
+      let fit = two-fit w d n deep in
       let many : length (map (parted_node stays a m) (take w (drop (d * w) xs))) ≡ w = simp length-map (length-take-le w (drop (d * w) xs) (omega (arith, length-drop (d * w) xs))) in
       same_lists _ _ (simp (length-drop, length-append, length-set, length-take) (omega (arith, many))) (λ k v h. grind (arith, places, many))
 
@@ -210,11 +210,11 @@ module _ {S V : Type 0} where
       let x = joined_node (get_or us lo z) (get_or us hi z) in
       omega (arith, length_push (without_place hi (set us lo x)) z, length-without hi (set us lo x) (omega (arith, length-set us lo x)), length-set us lo x)
 
-  pub join-tail : (w d lo hi : ℕ) (z : Node S V) (Ls : Net) (xs : List (Node S V)) → suc d < length Ls → hi < w → length Ls * w + 1 ≤ length xs
-      → drop (length Ls * w + 1) (take (d * w) xs ++ joined_second w lo hi (drop (d * w) xs) z) ≡ drop (length Ls * w + 1) xs
+  pub join-tail : (n w d lo hi : ℕ) (z : Node S V) (xs : List (Node S V)) → suc d < n → hi < w → n * w + 1 ≤ length xs
+      → drop (n * w + 1) (take (d * w) xs ++ joined_second w lo hi (drop (d * w) xs) z) ≡ drop (n * w + 1) xs
   unfolding joined_second
-  join-tail w d lo hi z Ls xs deep lt le =
-      let fit = two-fit w d (length Ls) deep in
+  join-tail n w d lo hi z xs deep lt le =
+      let fit = two-fit w d n deep in
       let ys = drop (d * w) xs in
       let many : length (map (moved_node lo hi) (take w ys)) ≡ w = simp length-map (length-take-le w ys (omega (arith, length-drop (d * w) xs))) in
       let wide : length (take w (drop w ys)) ≡ w = length-take-le w (drop w ys) (omega (arith, length-drop w ys, length-drop (d * w) xs)) in

@@ -2,7 +2,7 @@
 use Rattle.std.proofs.Common.{◌≡◌, ℕ, zero, suc, ◌+◌, ◌<◌, ◌≤◌, ◌≢◌, Bool, true, false, cond, not, ◌&&◌, ◌||◌, ltb, eqb, List, [], ◌∷◌, ◌++◌, map, length, get_or, take, drop, min, set, fold, append_assoc, sym, refl, ap, ◌∙◌, subst, ap₂, add-one, arith}
 use Rattle.std.specs.List.{All, range_with_len}
 use Rattle.std.proofs.Math.Dec.{eqb-suc-suc}
-use Rattle.std.proofs.lemmas.Bool.{cond_both, eqb-true, eqb-false, ltb-true, lt-ltb}
+use Rattle.std.proofs.lemmas.Bool.{cases_eq, cond_both, ltb-true, lt-ltb}
 use Rattle.std.proofs.lemmas.Bool.Decides.{nat_tests}
 use Rattle.std.proofs.lemmas.Grind.{get_or-set_at}
 use Rattle.std.proofs.lemmas.List.{get_or-set_other, length-set, map-append, map-id, set_at, get_or-map, length-map, length_push, get_or-take, length-take, take_all}
@@ -68,11 +68,7 @@ module _ {S V : Type 0} (stays : Label S V → ℕ → Bool) (a m : ℕ) where
   doors-kept l j (suc b ∷ ts) = ap₂ (λ t us. t ∷ us) (go (eqb l.down.lasts 0) (eqb b a) (stays l j)) (doors-kept l (suc j) ts)
     where
       go : (q r s : Bool) → kept_arc q (cond (r && not (q || s)) (suc m) (suc b)) ≡ kept_arc q (suc b)
-      go true true s = refl
-      go true false s = refl
-      go false true true = refl
-      go false true false = refl
-      go false false s = refl
+      go q r s = grind arith
 
   pub husks-parted : (us : List (Node S V)) → All (λ v. length v.arcs.to ≡ 16) us → map husk (map P us) ≡ map husk us
   husks-parted [] wide = refl
@@ -193,16 +189,10 @@ module _ {S V : Type 0} where
       )
 
       pub sent-next : (m : ℕ) (T T' : List ℕ) (v : ℕ) (lt : m < list.many) → T' ≡ set T m v → v ≡ (renumbered stays a n (l.told.at m lt).x).to → IsSent m T → IsSent (m + 1) T'
-      sent-next m T T' v lt is val g = (ap (λ (xs : List ℕ). length xs) is ∙ length-set T m v ∙ g.0, λ i d il. ap (λ xs. get_or xs i 0) is ∙ at i d il (eqb i m) refl)
-        where
-          at : (i : ℕ) (d : Told S V) → i < list.many → (q : Bool) → eqb i m ≡ q → (let x = get_or (told_from 0 (written us list)) i d in get_or (set T m v) i 0 ≡ cond (ltb i (m + 1)) (renumbered stays a n x).to x.to)
-          at i d il true e =
-              let im = eqb-true i m e in
-              rw (lt-ltb i (m + 1) (omega (arith, im)), get_or-set_at T m i v 0 im (omega (arith, g.0, l.few)), val) (ap (λ (y : Told S V). (renumbered stays a n y).to) (sym ((l.told.at m lt).is d)) ∙ ap (λ (k : ℕ). (renumbered stays a n (get_or (told_from 0 (written us list)) k d)).to) (sym im))
-          at i d il false e =
-              let ne = eqb-false i m e in
-              let same : ltb i (m + 1) ≡ ltb i m = grind (arith, nat_tests) in
-              rw (same, get_or-set_other T m i v 0 ne) (g.1 i d il)
+      sent-next m T T' v lt is val g = (
+        ap (λ (xs : List ℕ). length xs) is ∙ length-set T m v ∙ g.0,
+        λ i d il. ap (λ xs. get_or xs i 0) is ∙ grind (arith, nat_tests, cases_eq i m, get_or-set_at T m i v 0, get_or-set_other T m i v 0, g.0, l.few, g.1 i d il, val, (l.told.at m lt).is d),
+      )
 
       -- all of them
       pub divided : (from m : ℕ) (T : List ℕ) → IsSent m T → list.many ≤ m → suc n < length list.starts → all_stay stays (suc a) (take from (told_from 0 (written us list))) ≡ true

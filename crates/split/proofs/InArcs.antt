@@ -1,7 +1,7 @@
 -- In-arcs listed: where they come from, what they bring, and how they are found in the list
-use Rattle.std.proofs.Common.{◌≡◌, ℕ, zero, suc, ◌+◌, ◌<◌, ◌≤◌, Bool, true, false, cond, not, ◌&&◌, eqb, ◌≢◌, List, [], ◌∷◌, ◌++◌, length, min, get_or, set, take, drop, Some, sym, refl, ap, ◌∙◌, ap₂, zero-add, arith}
+use Rattle.std.proofs.Common.{◌≡◌, ℕ, zero, suc, ◌+◌, ◌<◌, ◌≤◌, Bool, true, false, cond, not, eqb, ◌≢◌, List, [], ◌∷◌, ◌++◌, length, min, get_or, set, take, drop, Some, sym, refl, ap, ◌∙◌, ap₂, zero-add, arith}
 use Rattle.std.specs.List.{All, range_with_len, flat_map}
-use Rattle.std.proofs.lemmas.Bool.{eqb-true, eqb-false, eq-eqb, ne_eqb}
+use Rattle.std.proofs.lemmas.Bool.{cases_eq, eqb-true, eqb-false, eq-eqb, ne_eqb}
 use Rattle.std.proofs.lemmas.Grind.{flat_map-append, get_or-set_at}
 use Rattle.std.proofs.lemmas.List.{drop_more, get_or-set_other, get_or_push, get_or_append_left, length_push}
 use Rattle.std.proofs.lemmas.List.Elements.{All-head, All-tail}
@@ -21,19 +21,10 @@ pub not-not : (p : Bool) → not (not p) ≡ p
 not-not p = grind arith
 
 -- ---- starts: once that of node t is v if it was later
-least : (s v i : ℕ) → (i < v → s ≤ i) → min s v ≤ i
-least s v i h = grind (arith, h)
-
 pub early-set : (starts to : List ℕ) (n t v : ℕ) → t < length starts → ((i : ℕ) → i < n → (get_or to i 0 ≡ t → i < v) → get_or starts (get_or to i 0) 0 ≤ i) → (i : ℕ) → i < n → get_or (set starts t (min (get_or starts t 0) v)) (get_or to i 0) 0 ≤ i
-early-set starts to n t v lt early i h = go (eqb (get_or to i 0) t) refl
-  where
-    go : (q : Bool) → eqb (get_or to i 0) t ≡ q → get_or (set starts t (min (get_or starts t 0) v)) (get_or to i 0) 0 ≤ i
-    go true e =
-        let is = eqb-true (get_or to i 0) t e in
-        rw (get_or-set_at starts t (get_or to i 0) (min (get_or starts t 0) v) 0 is lt) (least (get_or starts t 0) v i (λ l. rw (← is) (early i h (λ _. l))))
-    go false e =
-        let ne = eqb-false (get_or to i 0) t e in
-        rw (get_or-set_other starts t (get_or to i 0) (min (get_or starts t 0) v) 0 ne) (early i h (λ e. absurd (ne e)))
+early-set starts to n t v lt early i h =
+    let s = get_or to i 0 in
+    grind (arith, cases_eq s t, get_or-set_at starts t s (min (get_or starts t 0) v) 0, get_or-set_other starts t s (min (get_or starts t 0) v) 0, early i h)
 
 module _ {S V : Type 0} where
   pub doors-some : (a : ℕ) (l : Label S V) (k t : ℕ) (ts : List ℕ) → t ≢ 0 → told_doors a l k (t ∷ ts) ≡ record { arc = record { place = a; door = k }; to = t; label = l } ∷ told_doors a l (k + 1) ts
@@ -150,11 +141,7 @@ module _ {S V : Type 0} where
     stay-each : (t : ℕ) (xs : List (Told S V)) → all_stay stays t xs ≡ agrees_with_all by.rule y (flat_map (brings by t) xs)
     unfolding agrees_with_all
     stay-each t [] = refl
-    stay-each t (x ∷ xs) = go (eqb x.to t) (stay-each t xs)
-      where
-        go : (q : Bool) → all_stay stays t xs ≡ agrees_with_all by.rule y (flat_map (brings by t) xs) → (not (q && not (stays x.label (x.arc.door + 1))) && all_stay stays t xs) ≡ agrees_with_all by.rule y (cond q (arrival_over by x.label.down (x.arc.door + 1) ∷ []) [] ++ flat_map (brings by t) xs)
-        go true rest = ap₂ (λ (p r : Bool). p && r) (not-not (stays x.label (x.arc.door + 1)) ∙ kept x.label (x.arc.door + 1)) rest
-        go false rest = rest
+    stay-each t (x ∷ xs) = grind (arith, kept x.label (x.arc.door + 1), stay-each t xs)
 
     stay-self : agree by.rule y y ≡ true
     unfolding agree

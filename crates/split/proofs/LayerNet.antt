@@ -152,9 +152,6 @@ module _ {S V : Type 0} (by : Setting S V) (d : ℕ) (Ls : Net) (xs : List (Node
     room : length (get_or Ls d []) ≤ by.width
     room = good-room by.width d Ls (proper-good by.round by.width Ls k.proper)
 
-    long : length Ls * by.width + 1 ≤ length xs
-    long = let e : length Ls * by.width + 1 ≡ by.round.n * by.width + 1 = ap (λ (i : ℕ). i * by.width + 1) k.proper.deep in omega (arith, k.fit)
-
     known-arcs : arcs_in by.round.n (nodes_in us) ≡ get_or Ls d []
     known-arcs = arcs-standing by.round.n by.width (blank_node by.rule by.tally) (get_or Ls d []) us by.round.most (even-at by.round.n d Ls (omega (arith, within)) k.proper.even) room (arranged-at by.width d Ls xs (omega (arith, within)) k.arranged) k.stand
 
@@ -190,11 +187,7 @@ module _ {S V : Type 0} (by : Setting S V) (d : ℕ) (Ls : Net) (xs : List (Node
     -- the places after the end, the length, and the labels of the layer before stay
     pub known-tail : (a m : ℕ) → m < by.width → drop (by.round.n * by.width + 1) (parted_one by (d * by.width) a m xs) ≡ drop (by.round.n * by.width + 1) xs
     unfolding parted_one
-    known-tail a m ml =
-        let e : by.round.n * by.width + 1 ≡ length Ls * by.width + 1 = ap (λ (i : ℕ). i * by.width + 1) (sym k.proper.deep) in
-        let stays = kept_first by (first_arrival (arrivals by (suc a) us)) in
-        let ys = parted_one by (d * by.width) a m xs in
-        ap (λ (i : ℕ). drop i ys) e ∙ part-tail stays by.width d a m (blank_node by.rule by.tally) Ls xs within ml long ∙ ap (λ (i : ℕ). drop i xs) (sym e)
+    known-tail a m ml = part-tail (kept_first by (first_arrival (arrivals by (suc a) us))) by.round.n by.width d a m (blank_node by.rule by.tally) xs k.deep ml k.fit
 
     pub known-labels : (a m : ℕ) → labelsOf (part (d * by.width) by.width (parted_one by (d * by.width) a m xs)) ≡ labelsOf us
     unfolding parted_one

@@ -129,18 +129,20 @@ module _ {S V : Type 0} (by : Setting S V) (w : 1 ≤ by.width) (later : List (N
       }
 
     -- all turns
+    done-here : (xs zs : List (Node S V)) → At xs zs → (b : Bool) → Done xs (b, zs) (b, xs)
+    done-here xs zs r b = record { answer = refl; left = record { net = r.net; well = r.well; is = r.is; holds = (r.holds.known.arranged, r.holds.kept) }; tail = refl; long = refl }
+
     parts-done : (k a m : ℕ) (xs zs : List (Node S V)) → At xs zs → m ≡ count_of by i zs → Done xs (parts_of_layer by k i (suc a) zs) (parts_from by ((i - 1) * by.width) k a m xs)
     unfolding parts_of_layer parts_from
-    parts-done zero a m xs zs r em = record { answer = refl; left = record { net = r.net; well = r.well; is = r.is; holds = (r.holds.known.arranged, r.holds.kept) }; tail = refl; long = refl }
+    parts-done zero a m xs zs r em = done-here xs zs r false
     parts-done (suc k) a m xs zs r em =
-        let here : (b : Bool) → Done xs (b, zs) (b, xs) = λ b. record { answer = refl; left = record { net = r.net; well = r.well; is = r.is; holds = (r.holds.known.arranged, r.holds.kept) }; tail = refl; long = refl } in
         let next : a < m → m < by.width → oneGroupIn by i (suc a) zs ≡ false
         → Done xs (parts_of_layer by k i (suc (suc a)) (parted_records by i (suc a) zs)) (parts_from by ((i - 1) * by.width) k (suc a) (suc m) (parted_one by ((i - 1) * by.width) a m xs)) =
         λ al ml e. next-done xs zs r a m em al ml e _ _ (parts-done k (suc a) (suc m) _ _ (next-at xs zs r a m em al ml e) (next-count xs zs r a m em al ml e)) in
         let out : ltb (count_of by i zs) (suc a) ≡ leb m a = grind (arith, nat_tests, em) in
-        same_way (Done xs) (ltb (count_of by i zs) (suc a)) (leb m a) _ _ _ _ out (λ e. here false) (λ e.
+        same_way (Done xs) (ltb (count_of by i zs) (suc a)) (leb m a) _ _ _ _ out (λ e. done-here xs zs r false) (λ e.
         same_way (Done xs) (oneGroupIn by i (suc a) zs) (alike by ((i - 1) * by.width) (suc a) xs) _ _ _ _ (sym (group-same xs zs r a)) (λ f. parts-done k (suc a) m xs zs r em) (λ f.
-        same_way (Done xs) (leb by.width (count_of by i zs)) (leb by.width m) _ _ _ _ (ap (leb by.width) (sym em)) (λ g. here true) (λ g.
+        same_way (Done xs) (leb by.width (count_of by i zs)) (leb by.width m) _ _ _ _ (ap (leb by.width) (sym em)) (λ g. done-here xs zs r true) (λ g.
         next (leb-false m a e) (leb-false by.width m g) (sym (group-same xs zs r a) ∙ f))))
 
     -- ---- records that are laid out

@@ -1,7 +1,6 @@
 mod Checks
 pub mod DepthNet
 pub mod Divided
-mod Examples
 mod Joins
 pub mod LayerNet
 pub mod LayerWords

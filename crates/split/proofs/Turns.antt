@@ -93,13 +93,8 @@ module _ {S V : Type 0} (by : Setting S V) (at : ℕ) where
   parted-before : (a m : ℕ) (xs : List (Node S V)) → at ≤ length xs
       → (take at (parted_one by at a m xs) ≡ take at xs) × (drop at (parted_one by at a m xs) ≡ parted_one by 0 a m (drop at xs)) × (at ≤ length (parted_one by at a m xs))
   parted-before a m xs h =
-      let A = take at xs in
-      let B = parted_one by 0 a m (drop at xs) in
-      let many = length-take-le at xs h in (
-        ap (take at) (parted-from a m xs) ∙ take_at A B at many,
-        ap (drop at) (parted-from a m xs) ∙ drop_at A B at many,
-        rw (parted-from a m xs) (omega (arith, length-append A B)),
-      )
+      let many = length-take-le at xs h in
+      rw (parted-from a m xs) (take_at (take at xs) _ at many, drop_at (take at xs) _ at many, omega (arith, many, length-append (take at xs) (parted_one by 0 a m (drop at xs))))
 
   pub parts-shift : (k a m : ℕ) (xs : List (Node S V)) → at ≤ length xs → parts_from by at k a m xs ≡ lift xs (parts_from by 0 k a m (drop at xs))
   unfolding parts_from
