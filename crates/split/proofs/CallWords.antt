@@ -16,7 +16,7 @@ use Rattle.labels.proofs.Laying.{Arranged, relabelled-lawful}
 use Rattle.split.specs.Steps.{node_count, alike, parted_one, part_check, part_steps, clash_at, joined_one, join_check, join_steps, agreed_to, agreed_layers, agreed_steps}
 use Rattle.split.specs.Asked.{Placed}
 use Rattle.split.specs.Words.{PartDone, JoinDone, AgreedDone}
-use Rattle.split.proofs.Checks.{place-clear, same_check, passed, join-clear, count_most}
+use Rattle.split.proofs.Checks.{place_clear, same_check, passed, join-clear, count_most}
 use Rattle.split.proofs.LayerNet.{known-standing, known_alike, known-parted, known-tail, known-shaped, count_long, count-at, arranged-at, node-few, count-layer}
 use Rattle.layers.specs.Settings.{Setting}
 use Rattle.layers.specs.Join.{clash, joined_arcs}
@@ -38,7 +38,7 @@ module _ {S V : Type 0} (by : Setting S V) (i a : ℕ) (xs : List (Node S V)) wh
   -- what no refusal tells
   part-clear : part_check by i a xs ≡ Ok tt → Placed by.round.n by.width (length xs) i × (1 ≤ a) × (a ≤ node_count ((i - 1) * by.width + by.width) by.width xs) × (alike by ((i - 1) * by.width) a xs ≡ false) × (node_count ((i - 1) * by.width + by.width) by.width xs < by.width)
   unfolding part_check
-  part-clear e = (place-clear by.round.n by.width (length xs) i by.round.most (grind (arith, nat_tests)), grind (arith, nat_tests), grind (arith, nat_tests), grind (arith, nat_tests), grind (arith, nat_tests))
+  part-clear e = (place_clear by.round.n by.width (length xs) i by.round.most (grind (arith, nat_tests)), grind (arith, nat_tests), grind (arith, nat_tests), grind (arith, nat_tests), grind (arith, nat_tests))
 
   module _ (some : 1 ≤ by.width) (few : by.width ≤ 128) (fit : by.round.n * by.width + 1 ≤ length xs) (s : IsShaped by.round.n by.width xs) where
     -- the in-arcs of a node agree

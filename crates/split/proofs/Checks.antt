@@ -27,8 +27,8 @@ pub count_most : {S V : Type 0} (at w : ℕ) (xs : List (Node S V)) → node_cou
 count_most at w xs = omega (arith, standing-short (take w (drop at xs)), length-take w (drop at xs))
 
 -- a layer that passes, and the one before it, lie within the list
-pub place-clear : (n w long i : ℕ) → n ≤ 16 → place_check n w long i ≡ Ok tt → Placed n w long i
-place-clear n w long i most e =
+pub place_clear : (n w long i : ℕ) → n ≤ 16 → place_check n w long i ≡ Ok tt → Placed n w long i
+place_clear n w long i most e =
     let few : w ≤ 128 = grind (arith, nat_tests) in
     let fit : n * w + 1 ≤ long = grind (arith, nat_tests) in
     let low : 1 ≤ i = grind (arith, nat_tests) in
@@ -74,7 +74,7 @@ module _ {S V : Type 0} (by : Setting S V) where
       let p = pair-clear _ _ a b _ _ is in
       record {
         clear = is;
-        placed = place-clear by.round.n by.width (length xs) i by.round.most p.0;
+        placed = place_clear by.round.n by.width (length xs) i by.round.most p.0;
         low_a = p.1;
         high_a = p.2;
         low_b = p.3;

@@ -16,7 +16,7 @@ use Rattle.layers.proofs.Tied.{each_door-length}
 use Rattle.labels.proofs.Folds.{folded_counting}
 use Rattle.split.specs.declared.listing.InArc.{InArc}
 use Rattle.split.specs.declared.listing.InArcs.{InArcs}
-use Rattle.split.proofs.InArcs.{doors-some, early-set}
+use Rattle.split.proofs.InArcs.{doors-some, early_set}
 use Rattle.split.proofs.Joins.{all-targets}
 use Rattle.split.specs.Listed.{Told, told_doors, told_node, told_from, put_arc, put_at, written, kept_arc, husk, Lists, IsListed, leaves, all_stay}
 use Rattle.split.specs.Parted.{or_unused, parted_to, parted_node}
@@ -165,10 +165,10 @@ module _ {S V : Type 0} where
   pub listed-back : (us vs : List (Node S V)) (list : InArcs) → Lists us vs list → IsListed us list
   listed-back us vs list l = subst (λ ws. Lists us ws list) (sym (written-back us vs list l)) l
 
-  pub put-set : (us : List (Node S V)) (p k t : ℕ) (z : Node S V) → set us p (with_targets (get_or us p z) (set (get_or us p z).arcs.to k t)) ≡ put_arc p k t us
-  put-set [] p k t z = refl
-  put-set (u ∷ us) zero k t z = refl
-  put-set (u ∷ us) (suc p) k t z = ap (λ ys. u ∷ ys) (put-set us p k t z)
+  pub put_set : (us : List (Node S V)) (p k t : ℕ) (z : Node S V) → set us p (with_targets (get_or us p z) (set (get_or us p z).arcs.to k t)) ≡ put_arc p k t us
+  put_set [] p k t z = refl
+  put_set (u ∷ us) zero k t z = refl
+  put_set (u ∷ us) (suc p) k t z = ap (λ ys. u ∷ ys) (put_set us p k t z)
 
   -- the targets T, once the in-arcs before the m-th are looked at
   module _ (stays : Label S V → ℕ → Bool) (a n : ℕ) (us : List (Node S V)) (list : InArcs) where
@@ -220,7 +220,7 @@ module _ {S V : Type 0} where
             few = l.few;
             husks = husks-parted stays a n (written us list) l.wide ∙ l.husks;
             wide = wide-parted stays a n (written us list);
-            early = early-set list.starts T list.many (suc n) from big (λ i lt imp. still i lt imp (leaves stays (suc a) (l.told.at i lt).x) refl);
+            early = early_set list.starts T list.many (suc n) from big (λ i lt imp. still i lt imp (leaves stays (suc a) (l.told.at i lt).x) refl);
           }
         where
           sent : (i : ℕ) (lt : i < list.many) → get_or T i 0 ≡ (renumbered stays a n (l.told.at i lt).x).to

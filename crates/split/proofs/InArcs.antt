@@ -21,8 +21,8 @@ pub not-not : (p : Bool) → not (not p) ≡ p
 not-not p = grind arith
 
 -- ---- starts: once that of node t is v if it was later
-pub early-set : (starts to : List ℕ) (n t v : ℕ) → t < length starts → ((i : ℕ) → i < n → (get_or to i 0 ≡ t → i < v) → get_or starts (get_or to i 0) 0 ≤ i) → (i : ℕ) → i < n → get_or (set starts t (min (get_or starts t 0) v)) (get_or to i 0) 0 ≤ i
-early-set starts to n t v lt early i h =
+pub early_set : (starts to : List ℕ) (n t v : ℕ) → t < length starts → ((i : ℕ) → i < n → (get_or to i 0 ≡ t → i < v) → get_or starts (get_or to i 0) 0 ≤ i) → (i : ℕ) → i < n → get_or (set starts t (min (get_or starts t 0) v)) (get_or to i 0) 0 ≤ i
+early_set starts to n t v lt early i h =
     let s = get_or to i 0 in
     grind (arith, cases_eq s t, get_or-set_at starts t s (min (get_or starts t 0) v) 0, get_or-set_other starts t s (min (get_or starts t 0) v) 0, early i h)
 

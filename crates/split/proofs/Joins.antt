@@ -55,9 +55,9 @@ dropped (suc at) [] = refl
 dropped zero (x ∷ xs) = refl
 dropped (suc at) (x ∷ xs) = ap (λ ys. x ∷ ys) (dropped at xs)
 
-pub taken-out : {X : Type 0} (xs : List X) (at : ℕ) (z : X) → at < length xs
+pub taken_out : {X : Type 0} (xs : List X) (at : ℕ) (z : X) → at < length xs
     → set ((take at xs ++ take (length xs - (at + 1)) (drop (at + 1) xs)) ++ drop (at + (length xs - (at + 1))) xs) (length xs - 1) z ≡ without_place at xs ++ z ∷ []
-taken-out xs at z lt =
+taken_out xs at z lt =
     let n = length xs - 1 in
     let same : at + (length xs - (at + 1)) ≡ n = omega arith in
     let last : drop n xs ≡ get_or xs n z ∷ [] = drop_more xs n z (omega arith) ∙ ap (λ ys. get_or xs n z ∷ ys) (drop_all (n + 1) xs (omega arith)) in

@@ -87,8 +87,8 @@ module _ {S V : Type 0} (by : Setting S V) (at : ℕ) where
   unfolding parted_one
   parted-from a m xs = refl
 
-  pub next-from : (a m : ℕ) (xs : List (Node S V)) → take at xs ++ next_records by 0 a m (drop at xs) ≡ next_records by at a m xs
-  next-from a m xs = grind (arith, take-append-drop at xs, parted-from a m xs)
+  pub next_from : (a m : ℕ) (xs : List (Node S V)) → take at xs ++ next_records by 0 a m (drop at xs) ≡ next_records by at a m xs
+  next_from a m xs = grind (arith, take-append-drop at xs, parted-from a m xs)
 
   parted-before : (a m : ℕ) (xs : List (Node S V)) → at ≤ length xs
       → (take at (parted_one by at a m xs) ≡ take at xs) × (drop at (parted_one by at a m xs) ≡ parted_one by 0 a m (drop at xs)) × (at ≤ length (parted_one by at a m xs))

@@ -87,6 +87,7 @@ pub(crate) fn divide<K: Test>(
 }
 
 /// Writes back that the in-arc x leads to node t.
+#[tactic(auto, using(crate::proofs::Divided::put_set))]
 fn put_arc<S: Copy, V: Copy>(us: &mut [Node<S, V>], x: &InArc, t: u8)
     requires place_in_bounds { x.now.place < length us.old }
     requires door_bound { x.now.door < 16 }

@@ -48,6 +48,7 @@ fn list_node<S: Copy, V: Copy>(u: &Node<S, V>, place: u8, list: &mut InArcs)
 }
 
 /// Finds where the in-arcs of each node start.
+#[tactic(auto, using(crate::proofs::InArcs::early_set))]
 fn find_starts(list: &mut InArcs)
     requires { list.old.many ≤ 2048 }
     ensures early { IsEarly list.new }
