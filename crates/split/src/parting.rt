@@ -110,7 +110,7 @@ fn part_at<R: Rule, T: Tally>(
 
 /// Parts node `node` of the layer: the in-arcs that differ from the first go to a new last node, with the same out-arcs, and
 /// all labels are worked out anew. A refusal alters nothing.
-#[tactic(auto, unfolding(crate::specs::Steps::part_steps))]
+#[tactic(auto, using(crate::proofs::Checks::count_most), unfolding(crate::specs::Steps::part_steps))]
 pub fn part<R: Rule, T: Tally>(
     by: &Setting<'_, R, T>,
     nodes: &mut [Node<R::State, T::Value>],

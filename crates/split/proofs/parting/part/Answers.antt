@@ -1,4 +1,4 @@
-use Rattle.std.proofs.Common.{◌≡◌, ℕ, suc, ◌+◌, ◌-◌, ◌*◌, true, leb, List, Ok, Err, sym, refl, ap, ◌∙◌, arith}
+use Rattle.std.proofs.Common.{◌≡◌, ℕ, suc, ◌+◌, ◌-◌, ◌*◌, true, leb, List, Ok, Err, sym, refl, ap, ◌∙◌}
 use Rattle.std.specs.Result.{IsErrAnd}
 use Rattle.std.proofs.lemmas.Result.{err_from_is_err_and}
 use Rattle.layers.specs.declared.node.Node.{Node}
@@ -7,7 +7,7 @@ use Rattle.layers.specs.Calls.{Outcome}
 use Rattle.layers.specs.Settings.{Setting, lent_setting}
 use Rattle.split.specs.Steps.{node_count, group_check, alike, parted_one, part_check, part_steps}
 use Rattle.split.specs.Words.{PartDone}
-use Rattle.split.proofs.Checks.{part-check-is, part-refused, part-done, count_most}
+use Rattle.split.proofs.Checks.{part-check-is, part-refused, part-done}
 use Rattle.split.proofs.CallWords.{part-said}
 use Rattle.split.proofs.Turns.{next-ok, next-err}
 use Rattle.split.proofs.parting.part.Goals as goal
@@ -37,18 +37,6 @@ returns-in_err-check_node g c =
     let f = c.in_err-check_node.ensures in
     let d = refused by (g.met.R.Rule.reflexive c.args.by.now.rule.now) c.args.layer c.args.node c.args.nodes.now _ _ c.in_err-check_node.field-0.0 c.from_residual-in_err-check_node.ensures.1 (rw (c.in_ok-check_place.ensures.clear, ← e, f) refl) refl in
     record { answer = d.0; steps = d.1; words = d.2 }
-
-pub part_at-requires : goal.part_at-requires
-part_at-requires g c =
-    let w = c.args.by.now.width in
-    let placed = c.in_ok-check_place.ensures in
-    let n = c.in_ok-check_node.ensures in
-    record {
-      two_in_bounds = placed.two_in_bounds;
-      width_bound = placed.few;
-      a_lt_count = omega (arith, n.low, n.high);
-      count_le_width = omega (arith, c.count_in-count.ensures, count_most ((c.args.layer - 1) * w + w) w c.args.nodes.now);
-    }
 
 pub returns-in_err-part_at : goal.returns-in_err-part_at
 returns-in_err-part_at g c =

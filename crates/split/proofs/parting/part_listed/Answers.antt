@@ -29,15 +29,6 @@ returns-in-LayerFull g c =
     let n = c.part_node.ensures in
     record { records = parts-full by 0 c.loop-a.a c.loop-a.count _ _ c.loop-a-test.true c.if-count-a.false (sym is ∙ n.0, n.1) ∙ c.loop-a.invariant.1; listed = n.2 }
 
-pub part_node-requires : goal.part_node-requires
-part_node-requires g c = record {
-  two_in_bounds = omega arith;
-  width_bound = c.requires.width_bound;
-  a_lt_count = c.if-count-a.false;
-  count_le_width = c.loop-a.invariant.0;
-  listed = c.loop-a.invariant.2;
-}
-
 pub loop-a-preserved : goal.loop-a-preserved
 loop-a-preserved g c =
     let by = lent_setting c.args.by.now (g.R.Rule.sense c.args.by.now.rule.now) (g.T.Tally.sense c.args.by.now.tally.now) in
