@@ -1,5 +1,5 @@
--- Two nodes' arcs, door by door, and the numbers after a join
-use Rattle.std.proofs.Common.{◌≡◌, ℕ, zero, suc, Bool, not, ◌&&◌, ◌||◌, eqb, ◌≢◌, List, [], ◌∷◌, ◌++◌, map, length, get_or, take, drop, refl, ap, ap₂, arith}
+-- Two nodes' arcs, door by door, and records that move down by one
+use Rattle.std.proofs.Common.{◌≡◌, ℕ, zero, suc, Bool, not, ◌&&◌, ◌||◌, eqb, ◌≢◌, List, [], ◌∷◌, ◌++◌, map, length, get_or, take, drop, refl, ap, ap₂, arith, ◌+◌, ◌-◌, ◌<◌, set, ◌∙◌, add-one}
 use Rattle.std.proofs.lemmas.Bool.Decides.{nat_tests}
 use Rattle.std.specs.List.{range_with_len, list_any, zip}
 use Rattle.std.proofs.lemmas.List.FromFn.{fill_by_all}
@@ -8,6 +8,7 @@ use Rattle.layers.specs.Join.{targets_differ, clash, either_target, both_out, wi
 use Rattle.layers.specs.Targets.{targets, with_targets}
 use Rattle.split.specs.Joined.{joined_node}
 use Rattle.labels.proofs.Redirects.{written}
+use Rattle.std.proofs.lemmas.List.{take_rest, length-take, drop_more, set_at, length-append, length-drop, drop_all}
 
 -- ---- one door
 -- two arcs, to different nodes, as it is tested
@@ -53,3 +54,12 @@ dropped zero [] = refl
 dropped (suc at) [] = refl
 dropped zero (x ∷ xs) = refl
 dropped (suc at) (x ∷ xs) = ap (λ ys. x ∷ ys) (dropped at xs)
+
+pub taken_out : {X : Type 0} (xs : List X) (at : ℕ) (z : X) → at < length xs
+    → set ((take at xs ++ take (length xs - (at + 1)) (drop (at + 1) xs)) ++ drop (at + (length xs - (at + 1))) xs) (length xs - 1) z ≡ without_place at xs ++ z ∷ []
+taken_out xs at z lt =
+    let n = length xs - 1 in
+    let same : at + (length xs - (at + 1)) ≡ n = omega arith in
+    let last : drop n xs ≡ get_or xs n z ∷ [] = drop_more xs n z (omega arith) ∙ ap (λ ys. get_or xs n z ∷ ys) (drop_all (n + 1) xs (omega arith)) in
+    let long : length (take at xs ++ drop (at + 1) xs) ≡ n = simp (length-append, length-take, length-drop) (omega arith) in
+    rw (take_rest xs (at + 1), same, last) (set_at (take at xs ++ drop (at + 1) xs) (get_or xs n z) [] z n long ∙ ap (λ ys. ys ++ z ∷ []) (ap (λ k. take at xs ++ drop k xs) (add-one at) ∙ dropped at xs))

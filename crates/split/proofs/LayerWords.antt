@@ -20,48 +20,25 @@ use Rattle.labels.specs.Passes.{part}
 use Rattle.labels.proofs.Laying.{Arranged, arranged-of}
 use Rattle.split.specs.Steps.{place_check, node_count, alike, parted_one, parts_from, layer_steps}
 use Rattle.split.specs.Words.{LayerDone}
-use Rattle.split.proofs.LayerNet.{Known, downs-same, stands_same, known_alike, known-parted, known-tail, known-length, known-labels}
-use Rattle.split.proofs.PartWords.{relaid-same}
-use Rattle.split.proofs.ShapedNet.{count-at}
+use Rattle.split.proofs.LayerNet.{Known, stand-same, known_alike, known-parted, known-tail, known-length, known-labels, count-at}
+use Rattle.split.proofs.CallWords.{relaid-same}
 use Rattle.layers.specs.Settings.{Setting}
 use Rattle.layers.specs.declared.node.Down.{Down}
 
 -- ---- the net: parting a layer leaves the layers before it, but for their arcs to it
 module _ {S V : Type 0} (by : Setting S V) (w : 1 ≤ by.width) where
-  part-width : (d a : ℕ) (ls : List (Option (Down S V))) (Ls : Net) → width (part_at by d a ls Ls) ≡ width Ls
+  -- the labels of the layer before, how many nodes it has, and one more in its own layer
+  net-parted : (d a : ℕ) (ls : List (Option (Down S V))) (Ls : Net) → (width (part_at by d a ls Ls) ≡ width Ls) × (labels_at by d ls (part_at by d a ls Ls) ≡ labels_at by d ls Ls)
+      × (length (get_or (part_at by d a ls Ls) d []) ≡ length (get_or Ls d [])) × (suc d < length Ls → length (get_or (part_at by d a ls Ls) (suc d) []) ≡ suc (length (get_or Ls (suc d) [])))
   unfolding parted_arcs
-  part-width zero a ls [] = refl
-  part-width (suc d) a ls [] = refl
-  part-width zero a ls (L ∷ []) = refl
-  part-width zero a ls (L ∷ M ∷ Ls) = redirect-length _ L
-  part-width (suc d) a ls (L ∷ Ls) = refl
-
-  -- the labels of the layer before
-  labs-stay : (d a : ℕ) (ls : List (Option (Down S V))) (Ls : Net) → labels_at by d ls (part_at by d a ls Ls) ≡ labels_at by d ls Ls
-  unfolding parted_arcs
-  labs-stay zero a ls Ls = refl
-  labs-stay (suc d) a ls [] = refl
-  labs-stay (suc d) a ls (L ∷ Ls) =
+  net-parted zero a ls [] = (refl, refl, refl, λ lt. absurd (omega arith))
+  net-parted (suc d) a ls [] = (refl, refl, refl, λ lt. absurd (omega arith))
+  net-parted zero a ls (L ∷ []) = (refl, refl, refl, λ lt. absurd (omega arith))
+  net-parted zero a ls (L ∷ M ∷ Ls) = (redirect-length _ L, refl, redirect-length _ L, λ lt. length-snoc M (node M a))
+  net-parted (suc d) a ls (L ∷ Ls) =
       let ls' = labels_next by ls L (width Ls) in
-      ap (λ (m : ℕ). labels_at by d (labels_next by ls L m) (part_at by d a ls' Ls)) (part-width d a ls' Ls) ∙ labs-stay d a ls' Ls
-
-  -- how many nodes it has
-  before-stays : (d a : ℕ) (ls : List (Option (Down S V))) (Ls : Net) → length (get_or (part_at by d a ls Ls) d []) ≡ length (get_or Ls d [])
-  unfolding parted_arcs
-  before-stays zero a ls [] = refl
-  before-stays (suc d) a ls [] = refl
-  before-stays zero a ls (L ∷ []) = refl
-  before-stays zero a ls (L ∷ M ∷ Ls) = redirect-length _ L
-  before-stays (suc d) a ls (L ∷ Ls) = before-stays d a (labels_next by ls L (width Ls)) Ls
-
-  -- and its own layer has one more
-  after-grows : (d a : ℕ) (ls : List (Option (Down S V))) (Ls : Net) → suc d < length Ls → length (get_or (part_at by d a ls Ls) (suc d) []) ≡ suc (length (get_or Ls (suc d) []))
-  unfolding parted_arcs
-  after-grows zero a ls [] lt = absurd (omega arith)
-  after-grows (suc d) a ls [] lt = absurd (omega arith)
-  after-grows zero a ls (L ∷ []) lt = absurd (omega arith)
-  after-grows zero a ls (L ∷ M ∷ Ls) lt = length-snoc M (node M a)
-  after-grows (suc d) a ls (L ∷ Ls) lt = after-grows d a (labels_next by ls L (width Ls)) Ls (omega arith)
+      let q = net-parted d a ls' Ls in
+      (refl, ap (λ (m : ℕ). labels_at by d (labels_next by ls L m) (part_at by d a ls' Ls)) q.0 ∙ q.1, q.2, λ lt. q.3 (omega arith))
 
 -- two choices by one test
 same_way : {A B : Type 0} (Q : A → B → Type 0) (s t : Bool) (x y : A) (u v : B) → s ≡ t → (t ≡ true → Q x u) → (t ≡ false → Q y v) → Q (cond s x y) (cond t u v)
@@ -128,9 +105,9 @@ module _ {S V : Type 0} (by : Setting S V) (w : 1 ≤ by.width) (later : List (N
               arranged = rw (← r.holds.labelled) (known-parted by d r.net xs k a m in-net al ml);
               fit = omega (arith, k.fit, known-length by d r.net xs a m);
               deep = k.deep;
-              stand = stands_same vs us same ∙ k.stand ∙ sym (before-stays by w d a (first_labels by.rule by.tally) r.net);
+              stand = (stand-same vs us same).1 ∙ k.stand ∙ sym ((net-parted by w d a (first_labels by.rule by.tally) r.net).2);
             };
-            labelled = downs-same vs us same ∙ r.holds.labelled ∙ sym (labs-stay by w d a (first_labels by.rule by.tally) r.net);
+            labelled = (stand-same vs us same).0 ∙ r.holds.labelled ∙ sym ((net-parted by w d a (first_labels by.rule by.tally) r.net).1);
             kept = keeps.step a m (labels_at by d (first_labels by.rule by.tally) r.net) r.net xs k p in-net al ml r.holds.kept;
           }
 
@@ -141,7 +118,7 @@ module _ {S V : Type 0} (by : Setting S V) (w : 1 ≤ by.width) (later : List (N
 
       next-count : suc m ≡ count_of by i parted
       unfolding next-at
-      next-count = ap suc in-net ∙ sym (after-grows by w (i - 1) a (first_labels by.rule by.tally) r.net (omega (arith, r.holds.known.deep, r.well.deep))) ∙ sym (count-of by w later (State ys) parted next-at i (i - 1) back high)
+      next-count = ap suc in-net ∙ sym ((net-parted by w (i - 1) a (first_labels by.rule by.tally) r.net).3 (omega (arith, r.holds.known.deep, r.well.deep))) ∙ sym (count-of by w later (State ys) parted next-at i (i - 1) back high)
 
       next-done : (p q : Bool × List (Node S V)) → Done ys p q → Done xs p q
       next-done p q t = record {
@@ -152,18 +129,20 @@ module _ {S V : Type 0} (by : Setting S V) (w : 1 ≤ by.width) (later : List (N
       }
 
     -- all turns
+    done-here : (xs zs : List (Node S V)) → At xs zs → (b : Bool) → Done xs (b, zs) (b, xs)
+    done-here xs zs r b = record { answer = refl; left = record { net = r.net; well = r.well; is = r.is; holds = (r.holds.known.arranged, r.holds.kept) }; tail = refl; long = refl }
+
     parts-done : (k a m : ℕ) (xs zs : List (Node S V)) → At xs zs → m ≡ count_of by i zs → Done xs (parts_of_layer by k i (suc a) zs) (parts_from by ((i - 1) * by.width) k a m xs)
     unfolding parts_of_layer parts_from
-    parts-done zero a m xs zs r em = record { answer = refl; left = record { net = r.net; well = r.well; is = r.is; holds = (r.holds.known.arranged, r.holds.kept) }; tail = refl; long = refl }
+    parts-done zero a m xs zs r em = done-here xs zs r false
     parts-done (suc k) a m xs zs r em =
-        let here : (b : Bool) → Done xs (b, zs) (b, xs) = λ b. record { answer = refl; left = record { net = r.net; well = r.well; is = r.is; holds = (r.holds.known.arranged, r.holds.kept) }; tail = refl; long = refl } in
         let next : a < m → m < by.width → oneGroupIn by i (suc a) zs ≡ false
         → Done xs (parts_of_layer by k i (suc (suc a)) (parted_records by i (suc a) zs)) (parts_from by ((i - 1) * by.width) k (suc a) (suc m) (parted_one by ((i - 1) * by.width) a m xs)) =
         λ al ml e. next-done xs zs r a m em al ml e _ _ (parts-done k (suc a) (suc m) _ _ (next-at xs zs r a m em al ml e) (next-count xs zs r a m em al ml e)) in
         let out : ltb (count_of by i zs) (suc a) ≡ leb m a = grind (arith, nat_tests, em) in
-        same_way (Done xs) (ltb (count_of by i zs) (suc a)) (leb m a) _ _ _ _ out (λ e. here false) (λ e.
+        same_way (Done xs) (ltb (count_of by i zs) (suc a)) (leb m a) _ _ _ _ out (λ e. done-here xs zs r false) (λ e.
         same_way (Done xs) (oneGroupIn by i (suc a) zs) (alike by ((i - 1) * by.width) (suc a) xs) _ _ _ _ (sym (group-same xs zs r a)) (λ f. parts-done k (suc a) m xs zs r em) (λ f.
-        same_way (Done xs) (leb by.width (count_of by i zs)) (leb by.width m) _ _ _ _ (ap (leb by.width) (sym em)) (λ g. here true) (λ g.
+        same_way (Done xs) (leb by.width (count_of by i zs)) (leb by.width m) _ _ _ _ (ap (leb by.width) (sym em)) (λ g. done-here xs zs r true) (λ g.
         next (leb-false m a e) (leb-false by.width m g) (sym (group-same xs zs r a) ∙ f))))
 
     -- ---- records that are laid out

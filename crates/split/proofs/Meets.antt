@@ -1,7 +1,7 @@
 -- What is compared of two arrivals, in the order of their cost
-use Rattle.std.proofs.Common.{◌^◌, false, bit_or, sym, refl, ◌≡◌, ℕ, ◌≤◌, Bool, true, List, ◌&&◌, eqb, Some, Option, ap, ◌∙◌, arith}
+use Rattle.std.proofs.Common.{◌^◌, bit_or, sym, ◌≡◌, ℕ, ◌≤◌, Bool, true, List, length, ◌&&◌, eqb, Some, Option, ap, ◌∙◌, arith}
+use Rattle.std.specs.List.{All}
 use Rattle.std.proofs.Math.Path.{fun_ext}
-use Rattle.std.proofs.lemmas.Bool.{eqb-true}
 use Rattle.std.proofs.lemmas.Bool.Decides.{nat_tests}
 use Rattle.std.proofs.lemmas.Nat.{pow_below}
 use Rattle.layers.specs.declared.node.Down.{Down}
@@ -25,11 +25,7 @@ bits-apart i j = grind (arith, nat_tests, pow_below)
 
 -- what is compared by the one door, once the doors are the same
 same-door : (i j : ℕ) (f : ℕ → Bool) → (eqb i j && f j) ≡ (eqb i j && f i)
-same-door i j f = go (eqb i j) refl
-  where
-    go : (q : Bool) → eqb i j ≡ q → (q && f j) ≡ (q && f i)
-    go true e = ap f (sym (eqb-true i j e))
-    go false e = refl
+same-door i j f = grind (arith, nat_tests)
 
 pub kept-agrees : {S V : Type 0} (by : Setting S V) (s : Source S V) (l : Down S V) (j : ℕ) → kept_by by.round by.rule s l j ≡ agree by.rule (brought by s) (arrival_over by l j)
 unfolding kept_by agree arrival_over brought
@@ -50,6 +46,5 @@ kept-same {S} {V} by s o is =
 
 -- whether all stay by that test is whether the arrivals agree
 pub stay-said : {S V : Type 0} (by : Setting S V) (self : (x : S) → by.rule.same x x ≡ true) (us : List (Node S V)) (s : Source S V) (t : ℕ)
-    → 1 ≤ t → Some (brought by s) ≡ first_arrival (arrivals by t us) → all_stay (λ u j. kept_by by.round by.rule s u.down j) t (told_from 0 us) ≡ all_agree by.rule (arrivals by t us)
-stay-said {S} {V} by self us s t one first =
-    stay-alike by t (λ u j. kept_by by.round by.rule s u.down j) (brought by s) (λ u j. kept-agrees by s u.down j) self one us first
+    → 1 ≤ t → All (λ u. length u.arcs.to ≡ 16) us → Some (brought by s) ≡ first_arrival (arrivals by t us) → all_stay (λ u j. kept_by by.round by.rule s u.down j) t (told_from 0 us) ≡ all_agree by.rule (arrivals by t us)
+stay-said by self us s t one wide first = stay-alike by self (λ u j. kept_by by.round by.rule s u.down j) (brought by s) (λ u j. kept-agrees by s u.down j) t one us wide first

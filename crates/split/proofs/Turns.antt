@@ -1,6 +1,6 @@
 -- Parting the nodes of a layer, one after another
-use Rattle.std.proofs.Common.{◌≡◌, ℕ, zero, suc, ◌+◌, ◌<◌, ◌≤◌, Bool, true, false, leb, cond, List, ◌++◌, length, take, drop, Ok, Err, ◌≢◌, sym, refl, ap, ◌∙◌, ap₂, arith}
-use Rattle.std.proofs.lemmas.List.{take_at, drop_at, take-append-drop, drop-drop, length-append, length-take-le}
+use Rattle.std.proofs.Common.{◌≡◌, ℕ, zero, suc, ◌+◌, ◌-◌, add-one, ◌<◌, ◌≤◌, Bool, true, false, leb, List, ◌++◌, length, take, drop, Ok, Err, ◌≢◌, sym, refl, ap, ◌∙◌, ap₂, arith}
+use Rattle.std.proofs.lemmas.List.{take_at, drop_at, take-append-drop, drop-drop, length-append, length-map, length-take-le}
 use Rattle.std.proofs.lemmas.Bool.{le-leb, lt-leb}
 use Rattle.std.proofs.lemmas.Bool.Decides.{nat_tests}
 use Rattle.layers.specs.declared.node.Node.{Node}
@@ -9,8 +9,7 @@ use Rattle.layers.specs.declared.refusal.Refusal.TheVariants.{OneGroup, LayerFul
 use Rattle.layers.specs.Calls.{Outcome}
 use Rattle.layers.specs.Records.{nodes_in}
 use Rattle.split.specs.declared.listing.InArcs.{InArcs}
-use Rattle.split.specs.Listed.{IsListed, written, told_records}
-use Rattle.split.proofs.InArcs.{long-same}
+use Rattle.split.specs.Listed.{IsListed, written, husk, told_records}
 use Rattle.split.specs.Steps.{node_count, group_check, alike, parted_one, next_records, parts_from}
 use Rattle.layers.specs.Settings.{Setting}
 
@@ -33,43 +32,45 @@ module _ {S V : Type 0} (by : Setting S V) (at a m : ℕ) (xs : List (Node S V))
 
   -- what it leaves, by the answer
   pub next-ok : group_check (alike by at (suc a) xs) (leb by.width m) ≡ Ok tt → next_records by at a m xs ≡ parted_one by at a m xs
-  next-ok e = go (alike by at (suc a) xs) (leb by.width m) e
-    where
-      go : (p q : Bool) → group_check p q ≡ Ok tt → cond p xs (cond q xs (parted_one by at a m xs)) ≡ parted_one by at a m xs
-      go true q e = cc
-      go false true e = cc
-      go false false e = refl
+  next-ok e = grind (arith, e)
 
   pub next-err : (e : Refusal) → group_check (alike by at (suc a) xs) (leb by.width m) ≡ Err e → next_records by at a m xs ≡ xs
-  next-err e h = go (alike by at (suc a) xs) (leb by.width m) h
+  next-err e h = grind (arith, h)
+
+  -- ---- one turn, of as many as the layer has room for
+  pub parts-end : m ≤ a → (false, xs) ≡ parts_from by at (by.width - a) a m xs
+  unfolding parts_from
+  parts-end h = go (by.width - a)
     where
-      go : (p q : Bool) → group_check p q ≡ Err e → cond p xs (cond q xs (parted_one by at a m xs)) ≡ xs
-      go true q e = refl
-      go false true e = refl
-      go false false e = cc
+      go : (k : ℕ) → (false, xs) ≡ parts_from by at k a m xs
+      go zero = refl
+      go (suc k) = rw (le-leb m a h) refl
 
-  -- ---- one turn
-  pub parts-end : (k : ℕ) → m ≤ a → (false, xs) ≡ parts_from by at k a m xs
-  unfolding parts_from
-  parts-end zero h = refl
-  parts-end (suc k) h = rw (le-leb m a h) refl
+  left : a < by.width → by.width - a ≡ suc (by.width - (a + 1))
+  left lt = omega arith
 
-  pub parts-full : (k : ℕ) (ys : List (Node S V)) → a < m → Next (Err LayerFull) ys → (true, ys) ≡ parts_from by at (suc k) a m xs
+  pub parts-full : (ys : List (Node S V)) → a < by.width → a < m → Next (Err LayerFull) ys → (true, ys) ≡ parts_from by at (by.width - a) a m xs
   unfolding parts_from
-  parts-full k ys h n = grind (arith, nat_tests, n.0, n.1)
+  parts-full ys lt h n = rw (left lt) (grind (arith, nat_tests, n.0, n.1))
 
-  pub parts_more : (k : ℕ) (ys : List (Node S V)) → a < m → Next (Ok tt) ys → parts_from by at k (suc a) (suc m) ys ≡ parts_from by at (suc k) a m xs
+  pub parts_more : (ys : List (Node S V)) → a < by.width → a < m → Next (Ok tt) ys → parts_from by at (by.width - (a + 1)) (a + 1) (m + 1) ys ≡ parts_from by at (by.width - a) a m xs
   unfolding parts_from
-  parts_more k ys h n = grind (arith, nat_tests, n.0, n.1)
+  parts_more ys lt h n = rw (left lt, add-one a, add-one m) (go (by.width - suc a))
+    where
+      go : (k : ℕ) → parts_from by at k (suc a) (suc m) ys ≡ parts_from by at (suc k) a m xs
+      go k = grind (arith, nat_tests, n.0, n.1)
 
-  pub parts_same : (k : ℕ) (ys : List (Node S V)) (e : Refusal) → a < m → e ≢ LayerFull → Next (Err e) ys → parts_from by at k (suc a) m ys ≡ parts_from by at (suc k) a m xs
+  pub parts_same : (ys : List (Node S V)) (e : Refusal) → a < by.width → a < m → e ≢ LayerFull → Next (Err e) ys → parts_from by at (by.width - (a + 1)) (a + 1) m ys ≡ parts_from by at (by.width - a) a m xs
   unfolding parts_from
-  parts_same k ys e h ne n = grind (arith, nat_tests, n.0, n.1)
+  parts_same ys e lt h ne n = rw (left lt, add-one a) (go (by.width - suc a))
+    where
+      go : (k : ℕ) → parts_from by at k (suc a) m ys ≡ parts_from by at (suc k) a m xs
+      go k = grind (arith, nat_tests, n.0, n.1)
 
 -- ---- of a list of in-arcs that are not written back
 module _ {S V : Type 0} (w : ℕ) (xs us : List (Node S V)) (list : InArcs) (front : us ≡ take w xs) (le : w ≤ length xs) (l : IsListed (take w xs) list) where
   long-written : length (written (take w xs) list) ≡ w
-  long-written = long-same l ∙ length-take-le w xs le
+  long-written = sym (length-map (written (take w xs) list) husk) ∙ ap length l.husks ∙ length-map (take w xs) husk ∙ length-take-le w xs le
 
   pub told-head : take w (told_records w list xs) ≡ written us list
   told-head = take_at (written (take w xs) list) (drop w xs) w long-written ∙ ap (λ ys. written ys list) (sym front)
@@ -86,39 +87,23 @@ module _ {S V : Type 0} (by : Setting S V) (at : ℕ) where
   unfolding parted_one
   parted-from a m xs = refl
 
-  pub next-from : (a m : ℕ) (xs : List (Node S V)) → take at xs ++ next_records by 0 a m (drop at xs) ≡ next_records by at a m xs
-  next-from a m xs = go (alike by at (suc a) xs) (leb by.width m)
-    where
-      go : (p q : Bool) → take at xs ++ cond p (drop at xs) (cond q (drop at xs) (parted_one by 0 a m (drop at xs))) ≡ cond p xs (cond q xs (parted_one by at a m xs))
-      go true q = take-append-drop at xs
-      go false true = take-append-drop at xs
-      go false false = sym (parted-from a m xs)
+  pub next_from : (a m : ℕ) (xs : List (Node S V)) → take at xs ++ next_records by 0 a m (drop at xs) ≡ next_records by at a m xs
+  next_from a m xs = grind (arith, take-append-drop at xs, parted-from a m xs)
 
   parted-before : (a m : ℕ) (xs : List (Node S V)) → at ≤ length xs
       → (take at (parted_one by at a m xs) ≡ take at xs) × (drop at (parted_one by at a m xs) ≡ parted_one by 0 a m (drop at xs)) × (at ≤ length (parted_one by at a m xs))
   parted-before a m xs h =
-      let A = take at xs in
-      let B = parted_one by 0 a m (drop at xs) in
-      let many = length-take-le at xs h in (
-        ap (take at) (parted-from a m xs) ∙ take_at A B at many,
-        ap (drop at) (parted-from a m xs) ∙ drop_at A B at many,
-        rw (parted-from a m xs) (omega (arith, length-append A B)),
-      )
+      let many = length-take-le at xs h in
+      rw (parted-from a m xs) (take_at (take at xs) _ at many, drop_at (take at xs) _ at many, omega (arith, many, length-append (take at xs) (parted_one by 0 a m (drop at xs))))
 
   pub parts-shift : (k a m : ℕ) (xs : List (Node S V)) → at ≤ length xs → parts_from by at k a m xs ≡ lift xs (parts_from by 0 k a m (drop at xs))
   unfolding parts_from
   parts-shift zero a m xs h = ap (λ ys. (false, ys)) (sym (take-append-drop at xs))
   parts-shift (suc k) a m xs h =
-      go (leb m a) (alike by at (suc a) xs) (leb by.width m) _ _ _ _ (parts-shift k (suc a) m xs h)
-      (let b = parted-before a m xs h in
-      parts-shift k (suc a) (suc m) (parted_one by at a m xs) b.2 ∙ ap₂ (λ ys zs. (let r = parts_from by 0 k (suc a) (suc m) zs in (r.0, ys ++ r.1))) b.0 b.1)
-    where
-      go : (p q r : Bool) (X Y : Bool × List (Node S V)) (X' Y' : Bool × List (Node S V)) → X ≡ lift xs X' → Y ≡ lift xs Y'
-          → cond p (false, xs) (cond q X (cond r (true, xs) Y)) ≡ lift xs (cond p (false, drop at xs) (cond q X' (cond r (true, drop at xs) Y')))
-      go true q r X Y X' Y' e f = ap (λ ys. (false, ys)) (sym (take-append-drop at xs))
-      go false true r X Y X' Y' e f = e
-      go false false true X Y X' Y' e f = ap (λ ys. (true, ys)) (sym (take-append-drop at xs))
-      go false false false X Y X' Y' e f = f
+      let b = parted-before a m xs h in
+      let stays = parts-shift k (suc a) m xs h in
+      let parted = parts-shift k (suc a) (suc m) (parted_one by at a m xs) b.2 ∙ ap₂ (λ ys zs. (let r = parts_from by 0 k (suc a) (suc m) zs in (r.0, ys ++ r.1))) b.0 b.1 in
+      grind (arith, take-append-drop at xs, stays, parted)
 
   -- the nodes of the layer, counted from there
   pub count-from : (xs : List (Node S V)) → node_count by.width by.width (drop at xs) ≡ node_count (at + by.width) by.width xs

@@ -11,14 +11,14 @@ abbrev pub or_unused : {S V : Type 0} → (Label S V → ℕ → Bool) → Label
 or_unused stays u j = u.down.lasts == 0 || stays u j
 
 module _ {S V : Type 0} (stays : Label S V → ℕ → Bool) where
-  -- the arc of u by door j to place b, where the node at place a is parted and the new one stands at m
-  unfoldable pub parted_to : ℕ → ℕ → Node S V → ℕ → ℕ → ℕ
-  parted_to a m u j b = if b == a && not (stays u.label j) then suc m else suc b
+  -- the arc of a record with the label l by door j to place b, where the node at place a is parted and the new one stands at m
+  unfoldable pub parted_to : ℕ → ℕ → Label S V → ℕ → ℕ → ℕ
+  parted_to a m l j b = if b == a && not (stays l j) then suc m else suc b
 
   -- a node of the layer before
   unfoldable pub parted_node : ℕ → ℕ → Node S V → Node S V
   unfolding parted_to redirected
-  parted_node a m u = redirected (parted_to a m u) u
+  parted_node a m u = redirected (parted_to a m u.label) u
 
   -- of the list from the layer before theirs on, w records to a layer: that layer has the in-arcs
   unfoldable pub parted_second : ℕ → ℕ → ℕ → List (Node S V) → Node S V → List (Node S V)

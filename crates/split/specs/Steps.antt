@@ -1,6 +1,6 @@
 -- The calls as the code does them, in the flat list of records.
 -- Nobody has to believe these steps: `words` of `part`, `part_layer`, `join` and `agreed` says what each comes to.
-use Rattle.std.specs.Prelude.{ℕ, zero, suc, ◌+◌, ◌-◌, ◌*◌, min, max, Bool, true, false, if◌then◌else◌, ◌&&◌, ◌||◌, List, ◌++◌, length, take, drop, Some, None, Option, Ok, Err, is_ok, ◌==◌, nat_le, nat_lt, slice_index_or}
+use Rattle.std.specs.Prelude.{◌≡◌, ℕ, zero, suc, ◌+◌, ◌-◌, ◌*◌, min, max, Bool, true, false, if◌then◌else◌, ◌&&◌, ◌||◌, List, ◌++◌, length, take, drop, Some, None, Option, Ok, Err, is_ok, ◌==◌, nat_le, nat_lt, slice_index_or}
 use Rattle.layers.specs.declared.node.Node.{Node}
 use Rattle.layers.specs.declared.node.Down.{Down}
 use Rattle.layers.specs.declared.node.Label.{Label}
@@ -12,7 +12,9 @@ use Rattle.layers.specs.Records.{nodes_in}
 use Rattle.layers.specs.Settings.{Setting}
 use Rattle.layers.specs.Targets.{targets}
 use Rattle.labels.specs.Passes.{part, fits, arrivals, blank_node, relabelled}
+use Rattle.split.specs.declared.listing.InArcs.{InArcs}
 use Rattle.split.specs.Joined.{joined_second}
+use Rattle.split.specs.Listed.{IsListed, told_records}
 use Rattle.split.specs.Parted.{or_unused, parted_second}
 
 -- ---- checks: passed, or the refusal
@@ -83,6 +85,13 @@ module _ {S V : Type 0} (by : Setting S V) where
       if alike at (suc a) xs then xs
       else if nat_le by.width m then xs
       else parted_one at a m xs
+
+  -- the same, of records of which the in-arcs are altered in a list alone: the answer o, and what is left of both
+  abbrev pub NodeDone : ℕ → ℕ → Recs → InArcs → Outcome → Recs → InArcs → Type 0
+  NodeDone a m xs list o ys next =
+      let old = told_records by.width list xs in
+      (o ≡ group_check (alike 0 (suc a) old) (nat_le by.width m))
+      × (told_records by.width next ys ≡ next_records 0 a m old) × IsListed (take by.width ys) next
 
   -- part node a of layer i
   unfoldable pub part_check : ℕ → ℕ → Recs → Outcome

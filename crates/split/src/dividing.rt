@@ -87,6 +87,7 @@ pub(crate) fn divide<K: Test>(
 }
 
 /// Writes back that the in-arc x leads to node t.
+#[tactic(auto, using(crate::proofs::Divided::put_set))]
 fn put_arc<S: Copy, V: Copy>(us: &mut [Node<S, V>], x: &InArc, t: u8)
     requires place_in_bounds { x.now.place < length us.old }
     requires door_bound { x.now.door < 16 }
@@ -96,7 +97,7 @@ fn put_arc<S: Copy, V: Copy>(us: &mut [Node<S, V>], x: &InArc, t: u8)
 }
 
 /// Writes the listed in-arcs back into the records.
-#[tactic(auto, using(crate::proofs::InArcs::place_in, crate::proofs::InArcs::door_in))]
+#[tactic(auto, using(crate::proofs::InArcs::place_in, crate::proofs::InArcs::door_in, labels::proofs::Folds::folded_counting), unfolding(crate::specs::Listed::written))]
 pub(crate) fn put_back<S: Copy, V: Copy>(us: &mut [Node<S, V>], list: &InArcs)
     requires { IsListed us.old list.now }
     ensures { us.new ≡ written us.old list.now }

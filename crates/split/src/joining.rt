@@ -41,7 +41,7 @@ fn check_pair<S: Copy, V: Copy>(
 }
 
 /// Whether nodes a and b of the layer can be joined.
-#[tactic(auto, using(crate::proofs::Stands::count_most), unfolding(crate::specs::Steps::join_check))]
+#[tactic(auto, using(crate::proofs::Checks::count_most), unfolding(crate::specs::Steps::join_check))]
 fn check_join<R: Rule, T: Tally>(
     by: &Setting<'_, R, T>,
     nodes: &[Node<R::State, T::Value>],
@@ -83,7 +83,7 @@ fn join_nodes<R: Rule, T: Tally>(
 
 /// Joins nodes a and b of the layer: a node with the out-arcs of both stands at the lower of the two places, the nodes after
 /// the other move down, and all labels are worked out anew. A refusal alters nothing.
-#[tactic(auto, using(crate::proofs::Stands::count_most), unfolding(crate::specs::Steps::join_steps))]
+#[tactic(auto, using(crate::proofs::Checks::count_most), unfolding(crate::specs::Steps::join_steps))]
 pub fn join<R: Rule, T: Tally>(
     by: &Setting<'_, R, T>,
     nodes: &mut [Node<R::State, T::Value>],

@@ -1,5 +1,5 @@
 //! The in-arcs of a layer, listed once: by the place of their source, then by door.
-ghost use Rattle.std.specs.Prelude.{◌≡◌, ◌+◌, ◌<◌, ◌≤◌, List, ◌++◌, length};
+ghost use Rattle.std.specs.Prelude.{◌≡◌, ◌+◌, ◌<◌, ◌≤◌, List, ◌++◌, length, slice_index_or};
 ghost use Rattle.layers.specs.declared.node.Node.{Node as ANode};
 ghost use Rattle.split.specs.Listed.{Told, told_node, IsTold, IsListed, written, IsEarly};
 
@@ -22,12 +22,12 @@ pub(crate) struct InArcs {
 }
 
 /// Lists the arcs of the record u at a place.
-#[tactic(auto, unfolding(crate::specs::Listed::told_node))]
 fn list_node<S: Copy, V: Copy>(u: &Node<S, V>, place: u8, list: &mut InArcs)
     requires { list.old.many + 16 ≤ 2048 }
     ensures few { list.new.many ≤ list.old.many + 16 }
-    ensures told { (told : List (Told S V)) → IsTold list.old told
-        → IsTold list.new (told ++ told_node place u.now) }
+    ensures told { (us : List (ANode S V)) (told : List (Told S V)) → place < length us
+        → ((z : ANode S V) → (slice_index_or us place z).label ≡ u.now.label)
+        → IsTold us list.old told → IsTold us list.new (told ++ told_node place u.now) }
     ensures wide { length u.now.arcs.to ≡ 16 }
 {
     let arcs: &[u8] = &u.arcs.to;
@@ -48,6 +48,7 @@ fn list_node<S: Copy, V: Copy>(u: &Node<S, V>, place: u8, list: &mut InArcs)
 }
 
 /// Finds where the in-arcs of each node start.
+#[tactic(auto, using(crate::proofs::InArcs::early_set))]
 fn find_starts(list: &mut InArcs)
     requires { list.old.many ≤ 2048 }
     ensures early { IsEarly list.new }

@@ -3,7 +3,7 @@ ghost use Rattle.std.specs.Prelude.{◌≡◌, suc, ◌+◌, ◌-◌, ◌<◌, �
 ghost use Rattle.layers.specs.declared.node.Node.{Node as ANode};
 ghost use Rattle.layers.specs.Settings.{lent_setting};
 ghost use Rattle.split.specs.Listed.{IsListed, told_records};
-ghost use Rattle.split.specs.Steps.{node_count, group_check, alike, parted_one, part_check, part_steps, next_records, parts_from, layer_steps};
+ghost use Rattle.split.specs.Steps.{node_count, group_check, alike, NodeDone, parted_one, part_check, part_steps, next_records, parts_from, layer_steps};
 ghost use Rattle.split.specs.Words.{PartDone, LayerDone};
 
 use crate::agreement::{finish_of, first_into};
@@ -42,15 +42,8 @@ fn part_node<R: Rule, T: Tally>(
     requires a_lt_count { a < count }
     requires count_le_width { count ≤ by.now.width }
     requires listed { IsListed (take by.now.width nodes.old) list.old }
-    ensures answer { let by = lent_setting by.now (R.sense by.now.rule.now)
-        (T.sense by.now.tally.now) in
-        result ≡ group_check (alike by 0 (suc a) (told_records by.width list.old nodes.old))
-        (nat_le by.width count) }
-    ensures records { let by = lent_setting by.now (R.sense by.now.rule.now)
-        (T.sense by.now.tally.now) in
-        told_records by.width list.new nodes.new
-        ≡ next_records by 0 a count (told_records by.width list.old nodes.old) }
-    ensures listed { IsListed (take by.now.width nodes.new) list.new }
+    ensures { let by = lent_setting by.now (R.sense by.now.rule.now) (T.sense by.now.tally.now) in
+        NodeDone by a count nodes.old list.old result nodes.new list.new }
 {
     let t = a as u8 + 1;
     let (us, vs) = nodes.split_at_mut(by.width);
@@ -117,7 +110,7 @@ fn part_at<R: Rule, T: Tally>(
 
 /// Parts node `node` of the layer: the in-arcs that differ from the first go to a new last node, with the same out-arcs, and
 /// all labels are worked out anew. A refusal alters nothing.
-#[tactic(auto, unfolding(crate::specs::Steps::part_steps))]
+#[tactic(auto, using(crate::proofs::Checks::count_most), unfolding(crate::specs::Steps::part_steps))]
 pub fn part<R: Rule, T: Tally>(
     by: &Setting<'_, R, T>,
     nodes: &mut [Node<R::State, T::Value>],

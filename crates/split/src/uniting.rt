@@ -37,6 +37,7 @@ fn both<S: Copy, V: Copy>(x: &Node<S, V>, y: &Node<S, V>) -> Node<S, V>
 }
 
 /// The nodes lo and hi of a layer.
+#[tactic(auto, using(std::proofs::lemmas::List::get_or_read), unfolding(crate::specs::Joined::joined_layer))]
 fn unite_layer<S: Copy, V: Copy>(us: &mut [Node<S, V>], lo: usize, hi: usize, blank: &Node<S, V>)
     requires one_le_lo { 1 ≤ lo }
     requires lo_lt_hi { lo < hi }

@@ -6,8 +6,8 @@ use Rattle.labels.specs.Passes.{fits}
 use Rattle.labels.proofs.Rooms.{room-facts}
 use Rattle.std.proofs.Math.Bool.{and_comm}
 use Rattle.split.specs.Steps.{agreed_layers, agreed_steps}
-use Rattle.split.proofs.AgreedWords.{agreed-said}
-use Rattle.split.proofs.Doing.{layer-small, layer-within}
+use Rattle.split.proofs.CallWords.{agreed-said}
+use Rattle.split.proofs.Checks.{layer-small, layer-within}
 use Rattle.split.proofs.agreeing.agreed.Goals as goal
 
 pub overflow_mul-k : goal.overflow_mul-k

@@ -3,7 +3,7 @@ use Rattle.std.specs.Option.{MatchOption, is_some}
 use Rattle.layers.specs.Settings.{lent_setting}
 use Rattle.labels.specs.Passes.{arrivals}
 use Rattle.split.specs.Listed.{written}
-use Rattle.split.proofs.Asking.{none-agree}
+use Rattle.split.proofs.Checks.{none-agree}
 use Rattle.split.proofs.InArcs.{not-not}
 use Rattle.split.proofs.Meets.{stay-said}
 use Rattle.split.proofs.agreement.alike.Goals as goal
@@ -20,6 +20,6 @@ returns-in-None g c tally =
 pub returns-in-Some : goal.returns-in-Some
 returns-in-Some g c tally =
     let by = lent_setting c.args.by.now (g.R.Rule.sense c.args.by.now.rule.now) tally in
-    let said = stay-said by (g.met.R.Rule.reflexive c.args.by.now.rule.now) (written c.args.us.now c.args.list.now) c.in-Some.first c.args.t c.requires.one_le_t (c.in-Some.ensures by) in
+    let said = stay-said by (g.met.R.Rule.reflexive c.args.by.now.rule.now) (written c.args.us.now c.args.list.now) c.in-Some.first c.args.t c.requires.one_le_t c.requires.listed.wide (c.in-Some.ensures by) in
     let flip : c.is_none.result ≡ not (is_some c.first_leaving.result) = sym (not-not c.is_none.result) ∙ ap not (sym c.is_none.ensures) in
     flip ∙ by-case c.first_leaving.result _ _ _ c.first_leaving.ensures ∙ said

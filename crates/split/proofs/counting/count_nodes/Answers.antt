@@ -4,7 +4,7 @@ use Rattle.std.proofs.lemmas.Iterator.Consumers.{count_from_yields_List}
 use Rattle.std.proofs.lemmas.Iterator.Search.{YieldsList-from_take_while}
 use Rattle.std.proofs.lemmas.List.Folds.{length-prefix_len}
 use Rattle.layers.specs.declared.node.Node.{Node}
-use Rattle.split.proofs.Stands.{standing-counted}
+use Rattle.split.proofs.Checks.{standing-counted}
 use Rattle.split.proofs.counting.count_nodes.Goals as goal
 
 pub returns : goal.returns

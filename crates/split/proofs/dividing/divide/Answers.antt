@@ -1,9 +1,10 @@
 use Rattle.std.proofs.Common.{◌≡◌, ℕ, suc, ◌+◌, ◌-◌, not, get_or, min, set, take, true, false, refl, sym, ap, ◌∙◌, subst, arith}
+use Rattle.std.proofs.lemmas.Bool.{le-ltb}
 use Rattle.std.proofs.lemmas.List.{set-get_or}
 use Rattle.split.specs.declared.listing.InArc.{InArc}
 use Rattle.split.specs.declared.listing.InArcs.{InArcs}
 use Rattle.split.specs.Listed.{told_from, written, all_stay, leaves, Lists}
-use Rattle.split.proofs.InArcs.{place-here, door-here, here, to-here, leaves-here, other-here, one-record}
+use Rattle.split.proofs.InArcs.{some_record, leaves-here, other-here}
 use Rattle.split.proofs.Divided.{renumbered-there, sent-first, sent-next, divided, listed-back, written-back}
 use Rattle.split.proofs.dividing.divide.Goals as goal
 use Rattle.split.proofs.dividing.divide.Goals.{then-list-m+then-leaves, else-list-m, else-list-m-via-then-list-m+else-leaves, else-list-m-via-else-list-m}
@@ -22,12 +23,9 @@ loop-m-init g c =
 
 pub leaves-requires : goal.leaves-requires
 leaves-requires g c =
-    let list = c.args.list.now in
-    let same : get_or c.loop-m.list.arcs c.loop-m.m none ≡ get_or list.arcs c.loop-m.m none = ap (λ (l : InArcs). get_or l.arcs c.loop-m.m none) c.loop-m.invariant.0 in
-    record {
-      place_in_bounds = rw same (place-here c.requires.listed c.loop-m.m c.loop-m-test.true none);
-      door_bound = rw same (door-here c.requires.listed c.loop-m.m c.loop-m-test.true none);
-    }
+    let h = c.requires.listed.told.at c.loop-m.m c.loop-m-test.true in
+    let same : get_or c.loop-m.list.arcs c.loop-m.m none ≡ h.x.arc = ap (λ (l : InArcs). get_or l.arcs c.loop-m.m none) c.loop-m.invariant.0 ∙ h.arc none in
+    record { place_in_bounds = rw same h.place; door_bound = rw same h.door }
 
 pub loop-m-preserved : goal.loop-m-preserved
 loop-m-preserved g c =
@@ -44,22 +42,23 @@ loop-m-preserved g c =
     let back : t ≡ suc a = omega (arith, c.requires.one_le_t) in
     let new : c.args.new ≡ suc n = omega (arith, c.requires.one_le_new) in
     let old = c.loop-m.invariant in
-    let x = here l m lt in
-    let z = one-record l m lt in
-    let at : get_or L.to m 0 ≡ get_or list.to m 0 = old.1.2 m (omega arith) in
-    let said : get_or L.to m 0 ≡ t → leaves keeps (suc a) x ≡ not (keeps (get_or us (get_or L.arcs m none).place z).label ((get_or L.arcs m none).door + 1)) =
-    λ e. leaves-here l m lt keeps (suc a) none z (sym at ∙ e ∙ back) ∙ ap (λ (k : InArcs). not (keeps (get_or us (get_or k.arcs m none).place z).label ((get_or k.arcs m none).door + 1))) (sym old.0) in
+    let h = l.told.at m lt in
+    let z = some_record h.x in
+    let at : get_or L.to m 0 ≡ h.x.to = old.1.1 m h.x lt ∙ rw (le-ltb m m (omega arith)) (ap (λ y. y.to) (h.is h.x)) in
+    let there = renumbered-there keeps a n h.x h.used in
+    let said : get_or L.to m 0 ≡ t → leaves keeps (suc a) h.x ≡ not (keeps (get_or us (get_or L.arcs m none).place z).label ((get_or L.arcs m none).door + 1)) =
+    λ e. leaves-here h keeps (suc a) none z (sym at ∙ e ∙ back) ∙ ap (λ (k : InArcs). not (keeps (get_or us (get_or k.arcs m none).place z).label ((get_or k.arcs m none).door + 1))) (sym old.0) in
     elim c.if-list-m.branch [
       | then-list-m+then-leaves w ↦ (
         w.list-is ∙ ap (λ (k : InArcs). record k { to = set L.to m c.args.new }) old.0 ∙ ap (λ (k : InArcs). record list { to = k.to }) (sym w.list-is),
-        sent-next keeps a n us list l m L.to c.if-list-m.list.to c.args.new lt (ap (λ (k : InArcs). k.to) w.list-is) (new ∙ sym (renumbered-there keeps a n x true (said w.if-list-m.true ∙ sym (w.leaves.ensures z) ∙ w.if-leaves.true))) old.1,
+        sent-next keeps a n us list l m L.to c.if-list-m.list.to c.args.new lt (ap (λ (k : InArcs). k.to) w.list-is) (new ∙ sym (there true (said w.if-list-m.true ∙ sym (w.leaves.ensures z) ∙ w.if-leaves.true))) old.1,
       )
       | else-list-m w ↦ (
         w.list-is ∙ old.0 ∙ ap (λ (k : InArcs). record list { to = k.to }) (sym w.list-is),
-        sent-next keeps a n us list l m L.to c.if-list-m.list.to (get_or L.to m 0) lt (ap (λ (k : InArcs). k.to) w.list-is ∙ sym (set-get_or L.to m 0)) (at ∙ to-here l m lt ∙ sym (renumbered-there keeps a n x false
+        sent-next keeps a n us list l m L.to c.if-list-m.list.to (get_or L.to m 0) lt (ap (λ (k : InArcs). k.to) w.list-is ∙ sym (set-get_or L.to m 0)) (at ∙ sym (there false
             (elim w.else-list-m.branch [
               | else-list-m-via-then-list-m+else-leaves w' ↦ said w'.if-list-m.true ∙ sym (w'.leaves.ensures z) ∙ w'.if-leaves.false
-              | else-list-m-via-else-list-m w' ↦ other-here l m lt keeps (suc a) (λ e. w'.if-list-m.false (at ∙ e ∙ sym back))
+              | else-list-m-via-else-list-m w' ↦ other-here h keeps (suc a) (λ e. w'.if-list-m.false (at ∙ e ∙ sym back))
             ]))) old.1,
       )
     ]

@@ -2,7 +2,7 @@ use Rattle.std.proofs.Common.{◌≡◌, ◌+◌, ◌-◌, ◌*◌, Ok, ap, ◌�
 use Rattle.layers.specs.Settings.{lent_setting}
 use Rattle.labels.specs.Passes.{blank_node}
 use Rattle.split.specs.Steps.{node_check, node_count, join_check}
-use Rattle.split.proofs.Asking.{join-found}
+use Rattle.split.proofs.Checks.{join-found}
 use Rattle.split.proofs.joining.check_join.Goals as goal
 
 pub returns : goal.returns

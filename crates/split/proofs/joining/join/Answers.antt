@@ -2,8 +2,8 @@ use Rattle.std.proofs.Common.{◌≡◌, ℕ, ◌-◌, ◌*◌, min, max, length
 use Rattle.layers.specs.Settings.{lent_setting}
 use Rattle.std.proofs.lemmas.Result.{err_from_is_err_and}
 use Rattle.split.specs.Steps.{joined_one, join_steps}
-use Rattle.split.proofs.Doing.{join-done}
-use Rattle.split.proofs.JoinWords.{join-said}
+use Rattle.split.proofs.Checks.{join-done}
+use Rattle.split.proofs.CallWords.{join-said}
 use Rattle.split.proofs.joining.join.Goals as goal
 
 pub returns-in_err-check_join-clause-words : goal.returns-in_err-check_join-clause-words

@@ -1,10 +1,10 @@
-use Rattle.std.proofs.Common.{◌≡◌, ℕ, suc, ◌+◌, ◌-◌, ◌≤◌, Err, sym, ap, ◌∙◌, ap₂, add-one, arith}
+use Rattle.std.proofs.Common.{◌≡◌, ℕ, ◌-◌, Ok, Err, sym, ap, ◌∙◌, ap₂, arith}
 use Rattle.layers.specs.declared.refusal.Refusal.TheVariants.{LayerFull}
 use Rattle.layers.specs.Settings.{lent_setting}
 use Rattle.split.specs.Listed.{told_records}
 use Rattle.split.specs.Steps.{parts_from}
-use Rattle.split.proofs.Stands.{count_most}
-use Rattle.split.proofs.Turns.{parts-end, parts-full, parts_more, parts_same, next-most}
+use Rattle.split.proofs.Checks.{count_most}
+use Rattle.split.proofs.Turns.{parts-end, parts-full, parts_more, parts_same, Next, next-most}
 use Rattle.split.proofs.parting.part_listed.Goals as goal
 use Rattle.split.proofs.parting.part_listed.Goals.{in-Ok, in-Err+in_default}
 
@@ -20,59 +20,28 @@ loop-a-init g c =
 pub returns-then-count-a : goal.returns-then-count-a
 returns-then-count-a g c =
     let by = lent_setting c.args.by.now (g.R.Rule.sense c.args.by.now.rule.now) (g.T.Tally.sense c.args.by.now.tally.now) in
-    record {
-      records = parts-end by 0 c.loop-a.a c.loop-a.count (told_records by.width c.loop-a.list c.loop-a.nodes) (by.width - c.loop-a.a) c.if-count-a.true ∙ c.loop-a.invariant.1;
-      listed = c.loop-a.invariant.2;
-    }
+    record { records = parts-end by 0 c.loop-a.a c.loop-a.count _ c.if-count-a.true ∙ c.loop-a.invariant.1; listed = c.loop-a.invariant.2 }
 
 pub returns-in-LayerFull : goal.returns-in-LayerFull
 returns-in-LayerFull g c =
     let by = lent_setting c.args.by.now (g.R.Rule.sense c.args.by.now.rule.now) (g.T.Tally.sense c.args.by.now.tally.now) in
-    let a = c.loop-a.a in
-    let m = c.loop-a.count in
-    let xs = told_records by.width c.loop-a.list c.loop-a.nodes in
-    let ys = told_records by.width c.part_node.new.list c.part_node.new.nodes in
-    let left : suc (by.width - (a + 1)) ≡ by.width - a = omega (arith, c.loop-a-test.true) in
     let is : c.part_node.result ≡ Err LayerFull = c.in-Err.is ∙ ap Err c.in-LayerFull.is in
     let n = c.part_node.ensures in
-    record {
-      records = parts-full by 0 a m xs (by.width - (a + 1)) ys c.if-count-a.false (sym is ∙ n.answer, n.records) ∙ ap (λ (k : ℕ). parts_from by 0 k a m xs) left ∙ c.loop-a.invariant.1;
-      listed = n.listed;
-    }
-
-pub part_node-requires : goal.part_node-requires
-part_node-requires g c = record {
-  two_in_bounds = omega arith;
-  width_bound = c.requires.width_bound;
-  a_lt_count = c.if-count-a.false;
-  count_le_width = c.loop-a.invariant.0;
-  listed = c.loop-a.invariant.2;
-}
+    record { records = parts-full by 0 c.loop-a.a c.loop-a.count _ _ c.loop-a-test.true c.if-count-a.false (sym is ∙ n.0, n.1) ∙ c.loop-a.invariant.1; listed = n.2 }
 
 pub loop-a-preserved : goal.loop-a-preserved
 loop-a-preserved g c =
     let by = lent_setting c.args.by.now (g.R.Rule.sense c.args.by.now.rule.now) (g.T.Tally.sense c.args.by.now.tally.now) in
     let a = c.loop-a.a in
     let m = c.loop-a.count in
-    let xs = told_records by.width c.loop-a.list c.loop-a.nodes in
-    let ys = told_records by.width c.part_node.new.list c.part_node.new.nodes in
-    let k = by.width - (a + 1) in
-    let left : suc k ≡ by.width - a = omega (arith, c.loop-a-test.true) in
+    let old = c.loop-a.invariant in
     let n = c.part_node.ensures in
-    let most : c.match-part_node.count ≤ by.width =
     elim c.match-part_node.branch [
-      | in-Ok w ↦ let h = next-most by 0 a m xs ys c.loop-a.invariant.0 (sym w.in-Ok.is ∙ n.answer, n.records) in omega (arith, w.count-is)
-      | in-Err+in_default w ↦ let e = w.count-is in omega arith
-    ] in
-    let next : parts_from by 0 k (suc a) c.match-part_node.count ys ≡ parts_from by 0 (suc k) a m xs =
-    elim c.match-part_node.branch [
-      | in-Ok w ↦ ap (λ (l : ℕ). parts_from by 0 k (suc a) l ys) (w.count-is ∙ add-one m) ∙ parts_more by 0 a m xs k ys c.if-count-a.false (sym w.in-Ok.is ∙ n.answer, n.records)
-      | in-Err+in_default w ↦ ap (λ (l : ℕ). parts_from by 0 k (suc a) l ys) w.count-is ∙ parts_same by 0 a m xs k ys w.in-Err.e c.if-count-a.false w.in_default.not-LayerFull (sym w.in-Err.is ∙ n.answer, n.records)
-    ] in (
-      most,
-      ap (λ (b : ℕ). parts_from by 0 k b c.match-part_node.count ys) (add-one a) ∙ next ∙ ap (λ (l : ℕ). parts_from by 0 l a m xs) left ∙ c.loop-a.invariant.1,
-      n.listed,
-    )
+      | in-Ok w ↦
+          let next : Next by 0 a m _ (Ok tt) _ = (sym w.in-Ok.is ∙ n.0, n.1) in
+          rw w.count-is (let most = next-most by 0 a m _ _ old.0 next in omega arith, parts_more by 0 a m _ _ c.loop-a-test.true c.if-count-a.false next ∙ old.1, n.2)
+      | in-Err+in_default w ↦ rw w.count-is (old.0, parts_same by 0 a m _ _ w.in-Err.e c.loop-a-test.true c.if-count-a.false w.in_default.not-LayerFull (sym w.in-Err.is ∙ n.0, n.1) ∙ old.1, n.2)
+    ]
 
 pub returns : goal.returns
 unfolding parts_from

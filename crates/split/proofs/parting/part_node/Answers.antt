@@ -1,4 +1,4 @@
-use Rattle.std.proofs.Common.{◌≡◌, ℕ, suc, ◌+◌, ◌-◌, ◌≤◌, Bool, List, ◌++◌, map, length, get_or, set, take, drop, sym, ap, ◌∙◌, subst, ap₂, add-one, arith}
+use Rattle.std.proofs.Common.{◌≡◌, ℕ, suc, ◌+◌, ◌-◌, ◌≤◌, Bool, List, ◌++◌, map, length, get_or, set, take, drop, Some, true, sym, ap, ◌∙◌, subst, ap₂, add-one, arith}
 use Rattle.std.proofs.lemmas.List.{take_at, drop_at, take-append-drop, length-take-le}
 use Rattle.layers.specs.declared.node.Node.{Node}
 use Rattle.layers.specs.declared.node.Label.{Label}
@@ -7,56 +7,51 @@ use Rattle.layers.specs.Calls.{Outcome}
 use Rattle.layers.specs.Settings.{Setting, lent_setting}
 use Rattle.labels.specs.Passes.{arrivals, blank_node}
 use Rattle.split.specs.declared.listing.InArcs.{InArcs}
-use Rattle.split.specs.Agreed.{kept_by}
-use Rattle.split.specs.Listed.{IsListed, written, told_records}
+use Rattle.split.specs.declared.source.Source.{Source}
+use Rattle.split.specs.Agreed.{brought, kept_by}
+use Rattle.split.specs.Listed.{IsListed, written, told_from, all_stay, told_records}
 use Rattle.split.specs.Parted.{or_unused, parted_node, parted_second}
-use Rattle.split.specs.Steps.{alike, next_records, parted_one, kept_first}
-use Rattle.split.proofs.Asking.{none-agree}
+use Rattle.split.specs.Steps.{alike, NodeDone, parted_one, kept_first}
+use Rattle.split.proofs.Checks.{none-agree}
 use Rattle.split.proofs.Meets.{stay-said, kept-same}
-use Rattle.split.proofs.Turns.{next-alike, next-full, next-parted, told-head, told-tail}
+use Rattle.split.proofs.Turns.{Next, next-alike, next-full, next-parted, told-head, told-tail}
 use Rattle.split.proofs.parting.part_node.Goals as goal
 
-module _ {S V : Type 0} (by : Setting S V) (xs us vs : List (Node S V)) (list : InArcs) (front : us ≡ take by.width xs) (back : vs ≡ drop by.width xs) (le : by.width ≤ length xs) where
+module _ {S V : Type 0} (by : Setting S V) (xs us vs : List (Node S V)) (list : InArcs) (front : us ≡ take by.width xs) (back : vs ≡ drop by.width xs) (le : by.width ≤ length xs) (l : IsListed (take by.width xs) list) (a : ℕ) where
   -- whether the in-arcs agree, of the records with the list written back
-  agree-said : (a : ℕ) → IsListed (take by.width xs) list → alike by 0 (suc a) (told_records by.width list xs) ≡ all_agree by.rule (arrivals by (a + 1) (written us list))
-  agree-said a l = ap₂ (λ (t : ℕ) ys. all_agree by.rule (arrivals by t ys)) (sym (add-one a)) (told-head by.width xs us list front le l)
+  agree-said : alike by 0 (suc a) (told_records by.width list xs) ≡ all_agree by.rule (arrivals by (a + 1) (written us list))
+  agree-said = ap₂ (λ (t : ℕ) ys. all_agree by.rule (arrivals by t ys)) (sym (add-one a)) (told-head by.width xs us list front le l)
+
+  agree-stay : (self : (x : S) → by.rule.same x x ≡ true) (s : Source S V) → Some (brought by s) ≡ first_arrival (arrivals by (a + 1) (written us list))
+      → alike by 0 (suc a) (told_records by.width list xs) ≡ all_stay (λ u j. kept_by by.round by.rule s u.down j) (a + 1) (told_from 0 (written us list))
+  agree-stay self s e = let l' = subst (λ ys. IsListed ys list) (sym front) l in agree-said ∙ sym (stay-said by self (written us list) s (a + 1) (omega arith) l'.wide e)
 
   -- what a refusal leaves
-  left : (o p : Outcome) (a m : ℕ) → IsListed (take by.width xs) list → (o ≡ p) × (told_records by.width list xs ≡ next_records by 0 a m (told_records by.width list xs))
-      → (o ≡ p) × (told_records by.width list (us ++ vs) ≡ next_records by 0 a m (told_records by.width list xs)) × IsListed (take by.width (us ++ vs)) list
-  left o p a m l n = let e : us ++ vs ≡ xs = ap₂ (λ ys zs. ys ++ zs) front back ∙ take-append-drop by.width xs in (n.0, ap (told_records by.width list) e ∙ n.1, subst (λ ys. IsListed (take by.width ys) list) (sym e) l)
+  left : (o : Outcome) (m : ℕ) → Next by 0 a m (told_records by.width list xs) o (told_records by.width list xs) → NodeDone by a m xs list o (us ++ vs) list
+  left o m n = let e : us ++ vs ≡ xs = ap₂ (λ ys zs. ys ++ zs) front back ∙ take-append-drop by.width xs in (n.0, ap (told_records by.width list) e ∙ n.1, subst (λ ys. IsListed (take by.width ys) list) (sym e) l)
 
 pub returns-in_default : goal.returns-in_default
 returns-in_default g c =
     let by = lent_setting c.args.by.now (g.R.Rule.sense c.args.by.now.rule.now) (g.T.Tally.sense c.args.by.now.tally.now) in
-    let xs = c.args.nodes.now in
-    let list = c.args.list.now in
-    let s = c.split_at_mut-us in
-    let same = agree-said by xs _ _ list s.ensures.front s.ensures.back (omega arith) c.args.a c.requires.listed ∙ none-agree by _ (c.in_default.ensures by) in
-    let d = left by xs _ _ list s.ensures.front s.ensures.back (omega arith) _ _ c.args.a c.args.count c.requires.listed (next-alike by 0 c.args.a c.args.count (told_records by.width list xs) same) in
-    record { answer = d.0; records = d.1; listed = d.2 }
+    let s = c.split_at_mut-us.ensures in
+    let l = c.requires.listed in
+    left by _ _ _ _ s.front s.back (omega arith) l c.args.a _ _ (next-alike by 0 _ _ _ (agree-said by _ _ _ _ s.front s.back (omega arith) l c.args.a ∙ none-agree by _ (c.in_default.ensures by)))
 
 pub returns-in_default-first_leaving : goal.returns-in_default-first_leaving
 returns-in_default-first_leaving g c =
     let by = lent_setting c.args.by.now (g.R.Rule.sense c.args.by.now.rule.now) (g.T.Tally.sense c.args.by.now.tally.now) in
-    let xs = c.args.nodes.now in
-    let list = c.args.list.now in
-    let s = c.split_at_mut-us in
-    let said = stay-said by (g.met.R.Rule.reflexive c.args.by.now.rule.now) _ c.in-Some.first (c.args.a + 1) (omega arith) (c.in-Some.ensures by) in
-    let same = agree-said by xs _ _ list s.ensures.front s.ensures.back (omega arith) c.args.a c.requires.listed ∙ sym said ∙ c.in_default-first_leaving.ensures in
-    let d = left by xs _ _ list s.ensures.front s.ensures.back (omega arith) _ _ c.args.a c.args.count c.requires.listed (next-alike by 0 c.args.a c.args.count (told_records by.width list xs) same) in
-    record { answer = d.0; records = d.1; listed = d.2 }
+    let s = c.split_at_mut-us.ensures in
+    let l = c.requires.listed in
+    let same = agree-stay by _ _ _ _ s.front s.back (omega arith) l c.args.a (g.met.R.Rule.reflexive c.args.by.now.rule.now) c.in-Some.first (c.in-Some.ensures by) in
+    left by _ _ _ _ s.front s.back (omega arith) l c.args.a _ _ (next-alike by 0 _ _ _ (same ∙ c.in_default-first_leaving.ensures))
 
 pub returns-then-count-by : goal.returns-then-count-by
 returns-then-count-by g c =
     let by = lent_setting c.args.by.now (g.R.Rule.sense c.args.by.now.rule.now) (g.T.Tally.sense c.args.by.now.tally.now) in
-    let xs = c.args.nodes.now in
-    let list = c.args.list.now in
-    let s = c.split_at_mut-us in
-    let said = stay-said by (g.met.R.Rule.reflexive c.args.by.now.rule.now) _ c.in-Some.first (c.args.a + 1) (omega arith) (c.in-Some.ensures by) in
-    let apart = agree-said by xs _ _ list s.ensures.front s.ensures.back (omega arith) c.args.a c.requires.listed ∙ sym said ∙ c.in-Some-first_leaving.ensures.2 in
-    let d = left by xs _ _ list s.ensures.front s.ensures.back (omega arith) _ _ c.args.a c.args.count c.requires.listed (next-full by 0 c.args.a c.args.count (told_records by.width list xs) apart c.if-count-by.true) in
-    record { answer = d.0; records = d.1; listed = d.2 }
+    let s = c.split_at_mut-us.ensures in
+    let l = c.requires.listed in
+    let same = agree-stay by _ _ _ _ s.front s.back (omega arith) l c.args.a (g.met.R.Rule.reflexive c.args.by.now.rule.now) c.in-Some.first (c.in-Some.ensures by) in
+    left by _ _ _ _ s.front s.back (omega arith) l c.args.a _ _ (next-full by 0 _ _ _ (same ∙ c.in-Some-first_leaving.ensures.2) c.if-count-by.true)
 
 pub returns : goal.returns
 unfolding parted_one parted_second
@@ -77,9 +72,8 @@ returns g c =
     let le : w ≤ length xs = omega arith in
     let R = told_records w list xs in
     let long : length us ≡ w = ap (λ ys. length ys) front ∙ length-take-le w xs le in
-    let said = stay-said by (g.met.R.Rule.reflexive c.args.by.now.rule.now) (written us list) c.in-Some.first (a + 1) (omega arith) (c.in-Some.ensures by) in
     let e = c.in-Some-first_leaving.ensures in
-    let apart = agree-said by xs us vs list front back le a l ∙ sym said ∙ e.2 in
+    let apart = agree-stay by xs us vs list front back le l a (g.met.R.Rule.reflexive c.args.by.now.rule.now) c.in-Some.first (c.in-Some.ensures by) ∙ e.2 in
     let n = next-parted by 0 a m R apart c.if-count-by.false in
     let head : take w R ≡ written us list = told-head w xs us list front le l in
     let tail : drop w R ≡ vs = told-tail w xs us list front le l ∙ sym back in
@@ -94,9 +88,8 @@ returns g c =
     let made : written us next ≡ map (parted_node (kept_first by o) a m) (take w R) =
     c.divide.ensures.records ∙ ap₂ (λ i j. P keeps i j (written us list)) old new ∙ ap₂ (λ f ys. P f a m ys) stays (sym head) in
     let last : rest ≡ set (drop w R) m (get_or (drop w R) a z) =
-    c.copy_record.ensures z ∙ ap (λ ys. set ys m (get_or ys a z)) (sym tail) in
-    record {
-      answer = n.0;
-      records = ap₂ (λ ys zs. ys ++ zs) (ap (λ ys. written ys next) (take_at us rest w long) ∙ made) (drop_at us rest w long ∙ last) ∙ n.1;
-      listed = subst (λ ys. IsListed ys next) (sym (take_at us rest w long)) c.divide.ensures.listed;
-    }
+    c.copy_record.ensures z ∙ ap (λ ys. set ys m (get_or ys a z)) (sym tail) in (
+      n.0,
+      ap₂ (λ ys zs. ys ++ zs) (ap (λ ys. written ys next) (take_at us rest w long) ∙ made) (drop_at us rest w long ∙ last) ∙ n.1,
+      subst (λ ys. IsListed ys next) (sym (take_at us rest w long)) c.divide.ensures.listed,
+    )

@@ -1,6 +1,6 @@
 use Rattle.std.proofs.Common.{sym, subst, arith}
 use Rattle.layers.specs.Shape.{IsShaped, IsTimely}
-use Rattle.split.proofs.JoinWords.{join-shaped, join-timely}
+use Rattle.split.proofs.CallWords.{join-shaped, join-timely}
 use Rattle.diagram.specs.Words.{setting_of}
 use Rattle.diagram.proofs.diagram.Diagram.join.Goals as goal
 

@@ -1,6 +1,6 @@
 use Rattle.std.proofs.Common.{sym, subst, arith}
 use Rattle.layers.specs.Shape.{IsShaped, IsTimely}
-use Rattle.split.proofs.PartWords.{part-shaped, part-timely}
+use Rattle.split.proofs.CallWords.{part-shaped, part-timely}
 use Rattle.diagram.specs.Words.{setting_of}
 use Rattle.diagram.proofs.diagram.Diagram.part.Goals as goal
 
