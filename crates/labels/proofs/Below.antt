@@ -19,7 +19,7 @@ module _ {S V : Type 0} (by : Setting S V) where
       let n = by.round.n in
       let room = (room-facts n by.width (length xs) fit).enough in
       cond-true (fits n by.width (length xs) && (leb 1 i && leb i n)) _ _ (and_from _ _ fit (and_from _ _ (le-leb 1 i low) (le-leb i n high)))
-      ∙ below-lawful by i Ls xs low high room p (read-arranged by Ls xs p room e) ups downs (has-ready by Ls xs p room has)
+      ∙ below-lawful by i Ls xs low high p (read-arranged by Ls xs p room e) ups downs (has-ready by Ls xs p room has)
 
   pub used-read : (Ls : Net) (xs : List (Node S V)) → fits by.round.n by.width (length xs) ≡ true → IsLawful by.round.n by.width Ls
       → arcs_read (take (by.round.n * by.width + 1) xs) ≡ laid_arcs by.width Ls → HasPlaces by Ls xs → relabelled_used by xs ≡ records_with by xs Ls

@@ -10,7 +10,7 @@ use Rattle.layers.specs.declared.node.Node.{Node}
 use Rattle.layers.specs.declared.node.Down.{Down}
 use Rattle.layers.specs.Labels.{arrival_over, merge, blank_label}
 use Rattle.labels.specs.Passes.{arrivals, with_down, blank_node, by_door, from_node, gathered, labelled, next_layer, cleared, taken, landed, hit, crossed, spread}
-use Rattle.labels.proofs.Folds.{all_any, all_joined, folded_keeps, folded-view}
+use Rattle.labels.proofs.Folds.{all_joined, folded_keeps, folded-view}
 use Rattle.layers.specs.Settings.{Setting}
 use Rattle.layers.specs.Records.{nodes_in}
 
@@ -48,7 +48,7 @@ module _ {S V : Type 0} (by : Setting S V) where
   unfolding crossed
   crossed-long u vs k = hit-long vs (get_or u.arcs.to k 0) (arrival_over by u.label.down (k + 1))
 
-  pub spread-long : (vs : List (Node S V)) (u : Node S V) → length (spread by vs u) ≡ length vs
+  spread-long : (vs : List (Node S V)) (u : Node S V) → length (spread by vs u) ≡ length vs
   unfolding spread
   spread-long vs u =
       cond_both (eqb u.label.down.lasts 0) vs (fold (crossed by u) vs (range_with_len 0 16)) (λ ys. length ys ≡ length vs) (λ _. refl)
@@ -69,7 +69,7 @@ module _ {S V : Type 0} (by : Setting S V) where
       (λ n. rw (ne_eqb u.label.down.lasts 0 n) doors)
       (cases_eq u.label.down.lasts 0)
 
-  pub spreads-long : (vs us : List (Node S V)) → length (fold (spread by) vs us) ≡ length vs
+  spreads-long : (vs us : List (Node S V)) → length (fold (spread by) vs us) ≡ length vs
   spreads-long vs us = folded_keeps (λ ys. length ys ≡ length vs) (spread by) (λ ys u h. spread-long ys u ∙ h) vs us refl
 
   spreads-at : (b : ℕ) (vs us : List (Node S V)) → b < length vs
@@ -85,7 +85,7 @@ module _ {S V : Type 0} (by : Setting S V) where
   takes-label v [] = refl
   takes-label v (x ∷ xs) = takes-label (takes v x) xs
 
-  pub or_some : (a b : ℕ) → 0 < a → 0 < bit_or a b
+  or_some : (a b : ℕ) → 0 < a → 0 < bit_or a b
   or_some a b h = omega (arith, or_add_and a b, and_le_r a b)
 
   taken-merged : (got : Down S V) (xs : List (Down S V)) → 0 < got.lasts → fold (taken by.rule by.tally) got xs ≡ fold (merge by.rule by.tally) got xs
@@ -103,20 +103,14 @@ module _ {S V : Type 0} (by : Setting S V) where
   taken-gathered [] h = refl
   taken-gathered (x ∷ xs) h = taken-merged x xs h.0
 
-  -- what holds of each arrival
-  pub all-arrivals : (P : Down S V → Type 0) (Q : Node S V → Type 0) → ((u : Node S V) (j : ℕ) → Q u → P (arrival_over by u.label.down j))
-      → (t : ℕ) (us : List (Node S V)) → All Q us → All P (arrivals by t us)
-  unfolding from_node by_door
-  all-arrivals P Q f t =
-      all_joined P Q (from_node by t)
-      (λ u q. cond_both (eqb u.label.down.lasts 0) [] (flat_map (by_door by t u) (range_with_len 0 16)) (All P) (λ _. tt)
-      (λ _. all_joined P (λ _. Unit {0}) (by_door by t u)
-      (λ k _. cond_both (eqb (get_or u.arcs.to k 0) t) (arrival_over by u.label.down (k + 1) ∷ []) [] (All P) (λ _. (f u (k + 1) q, tt)) (λ _. tt))
-      (range_with_len 0 16) (all_any (range_with_len 0 16))))
-
   reached : (t : ℕ) (us : List (Node S V)) → All Reached (arrivals by t us)
-  unfolding arrival_over
-  reached t us = all-arrivals Reached (λ _. Unit {0}) (λ u j _. pow_pos j) t us (all_any us)
+  unfolding from_node by_door arrival_over
+  reached t us =
+      all_joined Reached (from_node by t)
+      (λ u. cond_both (eqb u.label.down.lasts 0) [] (flat_map (by_door by t u) (range_with_len 0 16)) (All Reached) (λ _. tt)
+      (λ _. all_joined Reached (by_door by t u)
+      (λ k. cond_both (eqb (get_or u.arcs.to k 0) t) (arrival_over by u.label.down (k + 1) ∷ []) [] (All Reached) (λ _. (pow_pos (k + 1), tt)) (λ _. tt))
+      (range_with_len 0 16))) us
 
   -- ---- the whole layer
   pub spreads-layer : (us vs : List (Node S V)) → fold (spread by) (map (cleared by.rule by.tally) vs) (nodes_in us) ≡ next_layer by us vs
