@@ -1,7 +1,7 @@
 -- The doors that have an arc, in place of all sixteen
 use Rattle.std.proofs.Common.{◌≡◌, ℕ, ◌+◌, ◌<◌, ◌≤◌, Bool, true, false, cond, not, eqb, List, [], ◌∷◌, ◌++◌, length, get_or, take, set, fold, sym, refl, ap, ◌∙◌, ⊎_elim, append-nil, arith}
 use mir.Val.{bool_byte}
-use Rattle.std.specs.List.{range_with_len, filter, flat_map}
+use Rattle.std.specs.List.{range_with_len, filter}
 use Rattle.std.proofs.lemmas.Bool.{cases_eq, eq-eqb, ne_eqb}
 use Rattle.std.proofs.lemmas.Grind.{common_steps}
 use Rattle.std.proofs.lemmas.List.{take-set, take_more_set}
@@ -32,15 +32,6 @@ folded_out {B} f to none b = go b (range_with_len 0 16)
     go b [] = refl
     go b (k ∷ ks) =
         ⊎_elim (λ e. rw (eq-eqb (get_or to k 0) 0 e) (ap (λ c. fold f c ks) (none b k e) ∙ go b ks)) (λ n. rw (ne_eqb (get_or to k 0) 0 n) (go (f b k) ks)) (cases_eq (get_or to k 0) 0)
-
--- and what all doors bring, if one with no arc brings nothing
-pub brought_out : {X : Type 0} (F : ℕ → List X) (to : List ℕ) → ((k : ℕ) → get_or to k 0 ≡ 0 → F k ≡ []) → flat_map F (range_with_len 0 16) ≡ flat_map F (doors_out to)
-brought_out F to none = go (range_with_len 0 16)
-  where
-    go : (ks : List ℕ) → flat_map F ks ≡ flat_map F (filter (λ k. not (eqb (get_or to k 0) 0)) ks)
-    go [] = refl
-    go (k ∷ ks) =
-        ⊎_elim (λ e. rw (eq-eqb (get_or to k 0) 0 e) (ap (λ xs. xs ++ flat_map F ks) (none k e) ∙ go ks)) (λ n. rw (ne_eqb (get_or to k 0) 0 n) (ap (λ xs. F k ++ xs) (go ks))) (cases_eq (get_or to k 0) 0)
 
 -- each is one of the sixteen
 pub listed_door : (xs : List ℕ) (m i : ℕ) → ((a : ℕ) → a < m → get_or xs a 0 < 16) → i < length (take m xs) → get_or (take m xs) i 0 < 16

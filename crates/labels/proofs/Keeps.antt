@@ -5,31 +5,27 @@ use Rattle.std.proofs.lemmas.Bool.{cond_both}
 use Rattle.std.proofs.lemmas.List.{map-append, take-map, take-append-drop}
 use Rattle.std.proofs.Math.Seq.{map-set_same}
 use Rattle.layers.specs.declared.node.Node.{Node}
-use Rattle.layers.specs.declared.node.Arcs.{Arcs}
-use Rattle.layers.specs.declared.node.Label.{Label}
 use Rattle.layers.specs.declared.node.Down.{Down}
 use Rattle.layers.specs.declared.node.Up.{Up}
 use Rattle.layers.specs.Labels.{arrival_over, blank_label, no_up}
 use Rattle.layers.specs.Records.{is_used}
 use Rattle.layers.specs.Settings.{Setting}
 use Rattle.labels.specs.Passes.{with_down, with_up, bare, blank_node, cleared, unlabelled, begun, renewed, sources, landed, hit, crossed, spread, crossed_all, next_renewed, end_renewed, renewed_after, risen, risen_from, pass_up, relabelled_used, relabelled}
-use Rattle.labels.proofs.Climbs.{arcs_of, down_of, up_of}
+use Rattle.labels.proofs.Climbs.{arcs_of, up_of}
 use Rattle.labels.proofs.Folds.{folded_keeps}
 
 module _ {S V : Type 0} where
-  -- records are the same by their arcs and their labels
-  pub same-records : (xs ys : List (Node S V)) → map arcs_of xs ≡ map arcs_of ys → map down_of xs ≡ map down_of ys → map up_of xs ≡ map up_of ys → xs ≡ ys
-  same-records [] [] a d u = refl
-  same-records [] (y ∷ ys) a d u = absurd cc
-  same-records (x ∷ xs) [] a d u = absurd cc
-  same-records (x ∷ xs) (y ∷ ys) a d u =
-      let rest : map arcs_of xs ≡ map arcs_of ys = cc in
-      let ds : map down_of xs ≡ map down_of ys = cc in
-      let us : map up_of xs ≡ map up_of ys = cc in
-      let arcs : x.arcs ≡ y.arcs = cc in
-      let down : x.label.down ≡ y.label.down = cc in
-      let up : x.label.up ≡ y.label.up = cc in
-      ap₂ (λ z zs. z ∷ zs) (ap₂ (λ (o : Arcs) (l : Label S V). record { arcs = o; label = l }) arcs (ap₂ (λ (o : Down S V) (u : Up). record { down = o; up = u }) down up)) (same-records xs ys rest ds us)
+  -- records are the same by their upward sets and by what else they have
+  pub same-records : (xs ys : List (Node S V)) → map bare xs ≡ map bare ys → map up_of xs ≡ map up_of ys → xs ≡ ys
+  same-records [] [] b u = refl
+  same-records [] (y ∷ ys) b u = absurd cc
+  same-records (x ∷ xs) [] b u = absurd cc
+  same-records (x ∷ xs) (y ∷ ys) b u =
+      let one : bare x ≡ bare y = cc in
+      let up : up_of x ≡ up_of y = cc in
+      let rest : map bare xs ≡ map bare ys = cc in
+      let ups : map up_of xs ≡ map up_of ys = cc in
+      ap₂ (λ z zs. z ∷ zs) (ap₂ (λ (z : Node S V) (v : Up). with_up z v) one up) (same-records xs ys rest ups)
 
   pub fronts : {X : Type 0} (f : Node S V → X) (k : ℕ) (xs ys : List (Node S V)) → map f xs ≡ map f ys → map f (take k xs) ≡ map f (take k ys)
   fronts f k xs ys e = sym (take-map f k xs) ∙ ap (take k) e ∙ take-map f k ys

@@ -218,7 +218,7 @@ module _ {S V : Type 0} (by : Setting S V) (wide : 1 ≤ by.width) where
       ∙ ap₂ (λ (a : Arcs) (l : Down S V). record { arcs = a; label = record { down = l; up = no_up } }) (mapped-at arcs_of (arcs_at M) m vs b (blank_node by.rule by.tally) ev h)
       (ap (λ (t : ℕ). gathered by.rule by.tally (arrivals by t (nodes_in us))) (add-one b)
       ∙ ap (gathered by.rule by.tally) (sym (bare-from by (suc b) us) ∙ ap (λ xs. flat_map (from_node by (suc b)) (nodes_in xs)) eu
-      ∙ arrivals-in by b by.width labs L (λ a lt. let l = fit.filled.there a lt in (l.0, l.1, fit.filled.lasting a l.0 l.1)) (few by.round.n L by.round.most fit.even) fit.room)
+      ∙ arrivals-in by b by.width labs L fit.filled.long fit.room (λ a lt. let l = fit.filled.there a lt in (l.0, l.1, fit.filled.lasting a l.0 l.1)) (few by.round.n L by.round.most fit.even))
       ∙ gathered-is by (arrivals_at (arrival_over by) b labs L) ∙ next-label by b (width Ls) labs L (tied-ranged (L ∷ Ls) tied).0))
 
   next-front : (labs : List (Option (Down S V))) (L M : Layer) (Ls : Net) (us vs : List (Node S V)) → Fit by wide labs L (M ∷ Ls) → IsTied (L ∷ M ∷ Ls) → Front by.width labs L us
@@ -498,4 +498,4 @@ module _ {S V : Type 0} (by : Setting S V) where
       (below-laid by wide d k 0 (first_labels by.rule by.tally) L Ls xs (drop (n * w + 1) xs) (omega arith) (omega (arith, by.round.most)) (full-net by wide L Ls p) p.tied (soon-first by wide) arr ready (rw (← back) down)
       ∙ ap (λ ys. labelled_from by (first_labels by.rule by.tally) (L ∷ Ls) ++ ys) (past-is w (suc (d + k)) xs ∙ ap (λ (m : ℕ). drop (m * w + 1) xs) end)) in
       let kept : map up_of Y ≡ map up_of xs = in-parts up_of (d * w) (take (d * w) xs) (renewed_after by k (drop (d * w) xs)) xs refl (renewals-keep by up_of (λ x l. refl) k (drop (d * w) xs)) in
-      same-records Y (risen_from w (d + k) Y) (sym (rises_keep arcs_of (λ x u. refl) w (d + k) Y)) (sym (rises_keep down_of (λ x u. refl) w (d + k) Y)) (kept ∙ up ∙ ap (map up_of) (sym U)) ∙ U
+      same-records Y (risen_from w (d + k) Y) (sym (rises_keep bare (λ x u. refl) w (d + k) Y)) (kept ∙ up ∙ ap (map up_of) (sym U)) ∙ U
