@@ -1,6 +1,7 @@
 -- What climbs to a node over its arcs, of the upward sets of the layer after it: the arcs alone decide it.
-use Rattle.std.proofs.Common.{◌≡◌, ℕ, zero, suc, ◌+◌, ◌-◌, ◌<◌, ◌≤◌, Bool, true, false, cond, eqb, List, [], ◌∷◌, ◌++◌, map, length, get_or, take, drop, Some, None, Option, sym, refl, ap, ◌∙◌, ap₂, ⊎_elim, zero-add, add-one, arith}
+use Rattle.std.proofs.Common.{◌≡◌, ℕ, zero, suc, ◌+◌, ◌-◌, ◌<◌, ◌≤◌, Bool, cond, List, [], ◌∷◌, ◌++◌, map, length, get_or, take, drop, Some, None, Option, sym, refl, ap, ◌∙◌, ap₂, ⊎_elim, zero-add, add-one, arith}
 use Rattle.std.specs.List.{range_with_len, flat_map}
+use Rattle.std.proofs.lemmas.Grind.{common_steps}
 use Rattle.std.proofs.lemmas.List.{drop_more, get_or_past, get_or-map, length-map, take-map, drop-map}
 use Rattle.std.proofs.lemmas.Simd.{map-map}
 use Rattle.std.proofs.lemmas.Bool.{cases_lt, ne_eqb}
@@ -69,12 +70,8 @@ pub doors-same : {X : Type 0} (F G : ℕ → List X) (a m : ℕ) → ((k : ℕ) 
 doors-same F G a zero h = refl
 doors-same F G a (suc m) h = ap₂ (λ xs ys. xs ++ ys) (h a (omega arith)) (doors-same F G (a + 1) m (λ k lt. h k (omega arith)))
 
-map-cond : {X Y : Type 0} (f : X → Y) (q : Bool) (xs : List X) → map f (cond q [] xs) ≡ cond q [] (map f xs)
-map-cond f true xs = refl
-map-cond f false xs = refl
-
 numbered-map : {X Y : Type 0} (f : X → Y) (t : ℕ) (vs : List X) → map f (numbered t vs) ≡ numbered t (map f vs)
-numbered-map f t vs = map-cond f (eqb t 0) (take 1 (drop (t - 1) vs)) ∙ ap (λ ys. cond (eqb t 0) [] ys) (sym (take-map f 1 (drop (t - 1) vs)) ∙ ap (take 1) (sym (drop-map f (t - 1) vs)))
+numbered-map f t vs = grind (arith, common_steps, take-map, drop-map)
 
 module _ {S V : Type 0} where
   abbrev pub arcs_of : Node S V → Arcs

@@ -1,8 +1,8 @@
 -- The doors that have an arc, in place of all sixteen
-use Rattle.std.proofs.Common.{◌≡◌, ℕ, ◌+◌, ◌<◌, ◌≤◌, Bool, true, false, cond, not, eqb, List, [], ◌∷◌, ◌++◌, length, get_or, take, set, fold, sym, refl, ap, ◌∙◌, ⊎_elim, append-nil, arith}
+use Rattle.std.proofs.Common.{◌≡◌, ℕ, ◌+◌, ◌<◌, ◌≤◌, Bool, true, false, cond, not, eqb, List, [], ◌∷◌, ◌++◌, length, get_or, take, set, fold, sym, refl, ap, ◌∙◌, append-nil, arith}
 use mir.Val.{bool_byte}
 use Rattle.std.specs.List.{range_with_len, filter}
-use Rattle.std.proofs.lemmas.Bool.{cases_eq, eq-eqb, ne_eqb}
+use Rattle.std.proofs.lemmas.Bool.Decides.{nat_tests}
 use Rattle.std.proofs.lemmas.Grind.{common_steps}
 use Rattle.std.proofs.lemmas.List.{take-set, take_more_set}
 use Rattle.std.proofs.lemmas.List.Elements.{filter-append}
@@ -30,8 +30,7 @@ folded_out {B} f to none b = go b (range_with_len 0 16)
   where
     go : (b : B) (ks : List ℕ) → fold f b ks ≡ fold f b (filter (λ k. not (eqb (get_or to k 0) 0)) ks)
     go b [] = refl
-    go b (k ∷ ks) =
-        ⊎_elim (λ e. rw (eq-eqb (get_or to k 0) 0 e) (ap (λ c. fold f c ks) (none b k e) ∙ go b ks)) (λ n. rw (ne_eqb (get_or to k 0) 0 n) (go (f b k) ks)) (cases_eq (get_or to k 0) 0)
+    go b (k ∷ ks) = grind (arith, nat_tests, none b k, go b ks, go (f b k) ks)
 
 -- each is one of the sixteen
 pub listed_door : (xs : List ℕ) (m i : ℕ) → ((a : ℕ) → a < m → get_or xs a 0 < 16) → i < length (take m xs) → get_or (take m xs) i 0 < 16

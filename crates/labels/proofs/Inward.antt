@@ -1,6 +1,7 @@
 -- What the code's pass adds up at a record is what flows in over the arcs.
-use Rattle.std.proofs.Common.{◌≡◌, ℕ, zero, suc, ◌+◌, ◌<◌, ◌≤◌, Bool, true, false, cond, eqb, List, [], ◌∷◌, ◌++◌, length, get_or, Some, None, Option, sym, refl, ap, ◌∙◌, ap₂, zero-add, add-one, arith}
+use Rattle.std.proofs.Common.{◌≡◌, ℕ, zero, suc, ◌+◌, ◌<◌, ◌≤◌, Bool, false, cond, eqb, List, [], ◌∷◌, ◌++◌, length, get_or, Some, None, Option, sym, refl, ap, ◌∙◌, ap₂, zero-add, add-one, arith}
 use Rattle.std.specs.List.{range_with_len, flat_map}
+use Rattle.std.proofs.lemmas.Grind.{common_steps}
 use Rattle.std.proofs.lemmas.Bool.{cond-false, ne_eqb}
 use Rattle.std.proofs.lemmas.List.{get_or_past}
 use Rattle.labels.proofs.Folds.{by-doors}
@@ -19,8 +20,7 @@ module _ {S V : Type 0} (by : Setting S V) where
   over-door t to l k = cond (eqb (get_or to k 0) t) (arrival_over by l (k + 1) ∷ []) []
 
   put-cond : (q : Bool) (x : Down S V) (rest : List (Down S V)) → cond q (x ∷ []) [] ++ rest ≡ put q x rest
-  put-cond true x rest = refl
-  put-cond false x rest = refl
+  put-cond q x rest = grind (arith, common_steps)
 
   no-door : (b : ℕ) (to : List ℕ) (l : Down S V) (k : ℕ) → get_or to k 0 ≡ 0 → over-door (suc b) to l k ≡ []
   no-door b to l k e = cond-false (eqb (get_or to k 0) (suc b)) _ [] (ne_eqb (get_or to k 0) (suc b) (λ h. omega arith))

@@ -1,5 +1,5 @@
 -- What the passes keep: the arcs, and each pass the labels of the other.
-use Rattle.std.proofs.Common.{◌≡◌, ℕ, zero, suc, ◌+◌, ◌-◌, ◌*◌, eqb, List, [], ◌∷◌, ◌++◌, map, get_or, take, drop, fold, sym, refl, ap, ◌∙◌, ap₂}
+use Rattle.std.proofs.Common.{◌≡◌, ℕ, zero, suc, ◌+◌, ◌-◌, ◌*◌, eqb, List, [], ◌∷◌, ◌++◌, map, get_or, take, drop, fold, sym, refl, ap, ◌∙◌, ap₂, arith}
 use Rattle.std.specs.List.{range_with_len}
 use Rattle.std.proofs.lemmas.Bool.{cond_both}
 use Rattle.std.proofs.lemmas.List.{map-append, take-map, take-append-drop}
@@ -8,7 +8,6 @@ use Rattle.layers.specs.declared.node.Node.{Node}
 use Rattle.layers.specs.declared.node.Down.{Down}
 use Rattle.layers.specs.declared.node.Up.{Up}
 use Rattle.layers.specs.Labels.{arrival_over, blank_label, no_up}
-use Rattle.layers.specs.Records.{is_used}
 use Rattle.layers.specs.Settings.{Setting}
 use Rattle.labels.specs.Passes.{with_down, with_up, bare, blank_node, cleared, unlabelled, begun, renewed, sources, landed, hit, crossed, spread, crossed_all, next_renewed, end_renewed, renewed_after, risen, risen_from, pass_up, relabelled_used, relabelled}
 use Rattle.labels.proofs.Climbs.{arcs_of, up_of}
@@ -36,11 +35,11 @@ module _ {S V : Type 0} where
 
   each-kept : {X : Type 0} (f : Node S V → X) (g : Node S V → Node S V) → ((x : Node S V) → f (g x) ≡ f x) → (us : List (Node S V)) → map f (map g us) ≡ map f us
   each-kept f g h [] = refl
-  each-kept f g h (u ∷ us) = ap₂ (λ y ys. y ∷ ys) (h u) (each-kept f g h us)
+  each-kept f g h (u ∷ us) = grind (arith, h u, each-kept f g h us)
 
   renewed-keeps : {X : Type 0} (f : Node S V → X) (g : Node S V → Node S V) → ((x : Node S V) → f (g x) ≡ f x) → (us : List (Node S V)) → map f (renewed g us) ≡ map f us
   renewed-keeps f g h [] = refl
-  renewed-keeps f g h (u ∷ us) = cond_both (is_used u) (g u ∷ renewed g us) (u ∷ us) (λ ys. map f ys ≡ f u ∷ map f us) (λ _. ap₂ (λ y ys. y ∷ ys) (h u) (renewed-keeps f g h us)) (λ _. refl)
+  renewed-keeps f g h (u ∷ us) = grind (arith, h u, renewed-keeps f g h us)
 
   -- ---- the pass up keeps what is not an upward set
   module _ {X : Type 0} (f : Node S V → X) (h : (x : Node S V) (u : Up) → f (with_up x u) ≡ f x) where

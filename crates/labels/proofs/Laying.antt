@@ -1,12 +1,12 @@
 -- The two passes over records with the arcs of a net leave the net laid out with its labels.
 use Rattle.std.proofs.Common.{◌≡◌, ℕ, zero, suc, ◌+◌, ◌-◌, ◌*◌, ◌<◌, ◌≤◌, Bool, true, false, cond, not, eqb, List, [], ◌∷◌, ◌++◌, map, length, get_or, take, drop, Some, None, Option, sym, refl, ap, ◌∙◌, subst, ap₂, ⊎_elim, append_assoc, suc-mul, zero-mul, zero-add, add-one, arith}
-use Rattle.std.specs.List.{flat_map, AllByRecursion as All}
-use Rattle.std.proofs.ByRecursion.{All-from_get_or}
+use Rattle.std.specs.List.{flat_map}
 use Rattle.round.specs.Clock.{latest_finish}
 use Rattle.std.proofs.lemmas.List.FromFn.{get_or-map-range_with_len, length-map-range_with_len}
 use Rattle.std.proofs.Math.Seq.{take-add}
 use Rattle.std.proofs.lemmas.List.{map-append, same_lists, get_or-map, get_or_past, length-map, drop-drop, drop-map, drop-take, drop_at, take-map, take-take, take_at, length-take, length-take-le, length-drop, get_or-take, get_or-drop, get_or_append_left}
 use Rattle.std.proofs.lemmas.Simd.{map-map}
+use Rattle.std.proofs.lemmas.Grind.{common_steps}
 use Rattle.std.proofs.lemmas.Bool.{cases_lt}
 use Rattle.layers.specs.declared.node.Arcs.{Arcs}
 use Rattle.layers.specs.declared.node.Node.{Node}
@@ -28,7 +28,7 @@ use Rattle.labels.proofs.Climbs.{down_of, linked, node-climbed, climbed-is, up_o
 use Rattle.labels.proofs.Inward.{arrivals-in, gathered-is}
 use Rattle.labels.proofs.Earlies.{arrive-soon}
 use Rattle.labels.proofs.Keeps.{renewals-keep, rises_keep, same-records, fronts, in-parts}
-use Rattle.labels.proofs.Places.{next-is, end-is, Stands, Idle, Blank, Ready, renewed-map, idle-stays}
+use Rattle.labels.proofs.Places.{next-is, end-is, Stands, Blank, Ready, renewed-map, idle-stays}
 use Rattle.layers.proofs.Model.{or_blank, or_no_up}
 use Rattle.layers.specs.Settings.{Setting}
 
@@ -72,19 +72,18 @@ good-net n w (L ∷ Ls) h even room t = (few n L h even.0, room.0, t.0, good-net
 pub split : {X Y : Type 0} (f : X → Y) (w m : ℕ) (xs : List X) → map f (take (w + m) xs) ≡ map f (take w xs) ++ map f (take m (drop w xs))
 split f w m xs = ap (map f) (take-add w m xs) ∙ map-append f (take w xs) (take m (drop w xs))
 
+-- what is seen of the front of a list, in two parts
+halves : {X Y : Type 0} (g : X → Y) (n m : ℕ) (xs : List X) (zs : List Y) → map g (take (n + m) xs) ≡ zs → (map g (take n xs) ≡ take n zs) × (map g (take m (drop n xs)) ≡ drop n zs)
+halves g n m xs zs e = (grind (arith, take-take n (n + m) xs, take-map g n (take (n + m) xs), e), grind (arith, drop-take n m xs, drop-map g n (take (n + m) xs), e))
+
 pub arranged-of : {S V : Type 0} (w : ℕ) (Ls : Net) (xs : List (Node S V)) → length Ls * w + 1 ≤ length xs → arcs_read (take (length Ls * w + 1) xs) ≡ laid_arcs w Ls → Arranged w Ls xs
 arranged-of w [] xs h e = let one : 1 ≡ 0 * w + 1 = omega (arith, zero-mul w) in ap (λ (k : ℕ). map arcs_of (take k xs)) one ∙ e
 arranged-of w (L ∷ Ls) xs h e =
     let m = length Ls * w + 1 in
     let both : suc (length Ls) * w + 1 ≡ w + m = omega (arith, suc-mul (length Ls) w) in
-    let A = map arcs_of (take w xs) in
-    let B = map arcs_of (take m (drop w xs)) in
-    let g = arcs_at L in
-    let whole : A ++ B ≡ table w g ++ laid_arcs w Ls = sym (split arcs_of w m xs) ∙ ap (λ (k : ℕ). map arcs_of (take k xs)) (sym both) ∙ e in
-    let long : length A ≡ w = length-map (take w xs) arcs_of ∙ length-take-le w xs (omega (arith, both)) in (
-      sym (take_at A B w long) ∙ ap (take w) whole ∙ take_at (table w g) (laid_arcs w Ls) w (table-long w g),
-      arranged-of w Ls (drop w xs) (omega (arith, both, length-drop w xs)) (sym (drop_at A B w long) ∙ ap (drop w) whole ∙ drop_at (table w g) (laid_arcs w Ls) w (table-long w g)),
-    )
+    let long : length (table w (arcs_at L)) ≡ w = table-long w (arcs_at L) in
+    let parts = halves arcs_of w m xs (table w (arcs_at L) ++ laid_arcs w Ls) (rw both at e) in
+    (parts.0 ∙ take_at (table w (arcs_at L)) (laid_arcs w Ls) w long, arranged-of w Ls (drop w xs) (omega (arith, both, length-drop w xs)) (parts.1 ∙ drop_at (table w (arcs_at L)) (laid_arcs w Ls) w long))
 
 -- so the list has room for them
 arranged-room : {S V : Type 0} (w : ℕ) (Ls : Net) (xs : List (Node S V)) → Arranged w Ls xs → length Ls * w < length xs
@@ -118,14 +117,6 @@ abbrev first : Net → Layer
 first [] = []
 first (L ∷ Ls) = L
 
--- what two lists show in front they show in both parts of it
-halves : {X Y : Type 0} (g : X → Y) (n m : ℕ) (xs ys : List X) → map g (take (n + m) xs) ≡ map g (take (n + m) ys) → (map g (take n xs) ≡ map g (take n ys)) × (map g (take m (drop n xs)) ≡ map g (take m (drop n ys)))
-halves g n m xs ys e =
-    let le : n ≤ n + m = omega arith in (
-      rw (← take-take n (n + m) xs le, ← take-take n (n + m) ys le, ← take-map g n (take (n + m) xs), ← take-map g n (take (n + m) ys)) (ap (take n) e),
-      rw (← drop-take n m xs, ← drop-take n m ys, ← drop-map g n (take (n + m) xs), ← drop-map g n (take (n + m) ys)) (ap (drop n) e),
-    )
-
 module _ {S V : Type 0} (by : Setting S V) where
   -- ---- the records of a net
   front-of : (labs : List (Option (Down S V))) (Ls : Net) (later : List (Node S V)) → take (records by.width Ls) (labelled_from by labs Ls ++ later) ≡ table (records by.width Ls) (record_of_place by (first Ls) labs (ups Ls))
@@ -147,18 +138,18 @@ module _ {S V : Type 0} (by : Setting S V) where
       → (map g (take by.width xs) ≡ table by.width (λ a. g (record_of_place by L labs (ups (L ∷ Ls)) a)))
       × (map g (take (m * by.width) (drop by.width xs)) ≡ map g (take (m * by.width) (labelled_from by (labels_next by labs L (width Ls)) Ls ++ later)))
   rows g m labs L Ls xs later e =
-      let h = halves g by.width (m * by.width) xs (labelled_from by labs (L ∷ Ls) ++ later) (rw (one-more m by.width) at e) in
-      (h.0 ∙ ap (map g) (front-of labs (L ∷ Ls) later) ∙ map-table g by.width _, h.1 ∙ ap (λ ys. map g (take (m * by.width) ys)) (back-of labs L Ls later))
+      let Y = labelled_from by labs (L ∷ Ls) ++ later in
+      let h = halves g by.width (m * by.width) xs (map g (take (by.width + m * by.width) Y)) (rw (one-more m by.width) at e) in
+      let k = halves g by.width (m * by.width) Y (map g (take (by.width + m * by.width) Y)) refl in (
+        h.0 ∙ sym k.0 ∙ ap (map g) (front-of labs (L ∷ Ls) later) ∙ map-table g by.width (record_of_place by L labs (ups (L ∷ Ls))),
+        h.1 ∙ sym k.1 ∙ ap (λ ys. map g (take (m * by.width) ys)) (back-of labs L Ls later),
+      )
 
   -- ---- down
-  cut-both : {X Y : Type 0} (F : X → List Y) (q : Bool) (xs ys : List X) → flat_map F xs ≡ flat_map F ys → flat_map F (cond q xs []) ≡ flat_map F (cond q ys [])
-  cut-both F true xs ys e = e
-  cut-both F false xs ys e = refl
-
   bare-from : (t : ℕ) (us : List (Node S V)) → flat_map (from_node by t) (nodes_in (map bare us)) ≡ flat_map (from_node by t) (nodes_in us)
   unfolding from_node by_door
   bare-from t [] = refl
-  bare-from t (u ∷ us) = cut-both (from_node by t) (is_used u) (bare u ∷ nodes_in (map bare us)) (u ∷ nodes_in us) (ap (λ ys. from_node by t u ++ ys) (bare-from t us))
+  bare-from t (u ∷ us) = grind (arith, common_steps, bare-from t us)
 
   next-label : (b m : ℕ) (labs : List (Option (Down S V))) (L : Layer) → IsRanged L m
       → or_blank by.rule by.tally (gather (merge by.rule by.tally) (arrivals_at (arrival_over by) b labs L)) ≡ or_blank by.rule by.tally (get_or (labels_next by labs L m) b None)
@@ -186,11 +177,11 @@ module _ {S V : Type 0} (by : Setting S V) where
       (λ x i. let f = ins-from (arrival_over by) a labs L x i in rw f.is (arrive-soon by e f.label f.door (s f.source f.label f.labelled)))
       (next-some (arrival_over by) (merge by.rule by.tally) labs L m a l q)
 
-  soon-all : (e : ℕ) (labs : List (Option (Down S V))) (L : Layer) (us : List (Node S V)) → e ≤ 15 → Soon e labs → map bare us ≡ table by.width (record_of_place by L labs []) → All (Early (latest_finish 15)) us
-  soon-all e labs L us le s is =
-      let z = blank_node by.rule by.tally in
-      All-from_get_or (Early (latest_finish 15)) us z (λ a lt. subst (λ (x : Node S V). x.label.down.finish ≤ latest_finish 15)
-      (sym (mapped-at bare (record_of_place by L labs []) by.width us a z is (omega (arith, mapped-long bare (record_of_place by L labs []) by.width us is)))) (go (get_or labs a None) (s a)))
+  soon-all : (e w : ℕ) (labs : List (Option (Down S V))) (L : Layer) (us : List (Node S V)) → e ≤ 15 → Soon e labs → map bare us ≡ table w (record_of_place by L labs [])
+      → (a : ℕ) (d : Node S V) → a < length us → Early (latest_finish 15) (get_or us a d)
+  soon-all e w labs L us le s is a d lt =
+      subst (λ (x : Node S V). x.label.down.finish ≤ latest_finish 15)
+      (sym (mapped-at bare (record_of_place by L labs []) w us a d is (omega (arith, mapped-long bare (record_of_place by L labs []) w us is)))) (go (get_or labs a None) (s a))
     where
       go : (o : Option (Down S V)) → ((l : Down S V) → o ≡ Some l → l.finish ≤ latest_finish e) → (or_blank by.rule by.tally o).finish ≤ latest_finish 15
       go None h = omega arith
@@ -270,12 +261,12 @@ module _ {S V : Type 0} (by : Setting S V) (wide : 1 ≤ by.width) where
       let T = record_of_place by L labs (ups (L ∷ Ls)) in
       let vs = table (records w Ls) (record_of_place by (first Ls) (labels_next by labs L (width Ls)) (ups Ls)) in
       let long = mapped-long bare B w us front.is in
-      let idle : Stands Idle (length L) us = λ a d lt.
+      let idle : Stands (λ x. (is_used x ≡ false) × (risen vs x ≡ x)) (length L) us = λ a d lt.
       let at = mapped-at bare B w us a d front.is (omega (arith, long)) in (
         λ h. ap is_used at ∙ (let l = f.there a h in rw (l.1, f.lasting a l.0 l.1) refl),
-        λ h. (ap (λ (x : Node S V). x.label.down.lasts) at ∙ ap (λ o. (or_blank by.rule by.tally o).lasts) (get_or_past labs a None (omega (arith, f.long))), front.spare a d h lt),
+        λ h. unfold risen in idle-stays vs (get_or us a d) (ap (λ (x : Node S V). x.label.down.lasts) at ∙ ap (λ o. (or_blank by.rule by.tally o).lasts) (get_or_past labs a None (omega (arith, f.long)))) (front.spare a d h lt),
       ) in
-      let risen-us : renewed (risen vs) us ≡ table w T = renewed-map Idle (risen vs) (unfold risen in idle-stays vs) (length L) us idle
+      let risen-us : renewed (risen vs) us ≡ table w T = renewed-map (risen vs) (length L) us idle
       ∙ mapped-is (risen vs) T w us long (λ a d h. ap (λ (y : Node S V). with_up y (gathered_up (ups_of vs y))) (mapped-at bare B w us a d front.is h) ∙ ap (with_up (B a)) (node-ups labs L Ls a full tied)) in
       rw (e, front-of by (labels_next by labs L (width Ls)) Ls later, risen-us) (sym (append_assoc (table w T) (labelled_from by (labels_next by labs L (width Ls)) Ls) later))
 
@@ -294,7 +285,7 @@ module _ {S V : Type 0} (by : Setting S V) (wide : 1 ≤ by.width) where
       let nb = next-block 1 labs L [] [] us vs full.0 tied front.is arr in
       let us-long = mapped-long bare (record_of_place by L labs []) w us front.is in
       let n-long = mapped-long bare (record_of_place by [] (labels_next by labs L 1) []) 1 N nb in
-      rw (end-is by us (drop w xs) (soon-all by e labs L us (omega arith) soon front.is), take_at us (N ++ D) w us-long, drop_at us (N ++ D) w us-long, take_at N D 1 n-long, drop_at N D 1 n-long, nb)
+      rw (end-is by us (drop w xs) (soon-all by e w labs L us (omega arith) soon front.is), take_at us (N ++ D) w us-long, drop_at us (N ++ D) w us-long, take_at N D 1 n-long, drop_at N D 1 n-long, nb)
       (rise labs L [] us (table 1 (record_of_place by [] (labels_next by labs L 1) []) ++ D) D full tied front refl)
   laid (suc k) e labs L (M ∷ Ls) xs q few full tied soon front arr ready =
       let w = by.width in
@@ -308,7 +299,7 @@ module _ {S V : Type 0} (by : Setting S V) (wide : 1 ≤ by.width) where
       let Z = renewed_after by k (N ++ D) in
       let ih = laid k (suc e) (labels_next by labs L (length M)) M Ls (N ++ D) (omega arith) (omega arith) full.1 tied.3 (soon-next by e labs L (length M) soon)
       (rw (take_at N D w n-long) next) (rw (drop_at N D w n-long) arr.1) (rw (drop_at N D w n-long) ready.1) in
-      rw (next-is by ready.0.0 us vs (soon-all by e labs L us (omega arith) soon front.is) ready.0.2, take_at us Z w us-long, drop_at us Z w us-long)
+      rw (next-is by ready.0.0 us vs (soon-all by e w labs L us (omega arith) soon front.is) ready.0.2, take_at us Z w us-long, drop_at us Z w us-long)
       (rise labs L (M ∷ Ls) us (risen_from w k Z) (past w k D) full tied front (ih ∙ ap (λ ys. labelled_from by (labels_next by labs L (length M)) (M ∷ Ls) ++ past w k ys) (drop_at N D w n-long)))
 
   -- from a layer on, where the labels of the d layers in front of it stand as they should, and k more are between it and the end
@@ -384,12 +375,10 @@ module _ {S V : Type 0} (by : Setting S V) (wide : 1 ≤ by.width) where
 
   -- places that are known
   used-if : {X : Type 0} (q : Bool) (l : X) → cond q (Some l) None ≡ None → not q ≡ true
-  used-if true l e = absurd cc
-  used-if false l e = refl
+  used-if q l e = grind (arith, common_steps)
 
   blank-if : {X : Type 0} (q : Bool) (l m : X) → cond q (Some l) None ≡ Some m → l ≡ m
-  blank-if true l m e = cc
-  blank-if false l m e = absurd cc
+  blank-if q l m e = grind (arith, common_steps)
 
   places-ready : (labs : List (Option (Down S V))) (Ls : Net) (xs later : List (Node S V)) → Full by wide labs Ls
       → map (unused_label by) (take (length Ls * by.width) xs) ≡ map (unused_label by) (take (length Ls * by.width) (labelled_from by labs Ls ++ later)) → Ready by Ls xs

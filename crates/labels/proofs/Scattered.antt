@@ -1,9 +1,11 @@
 -- The one pass gives each node what the list of its arrives comes to
-use Rattle.std.proofs.Common.{◌≡◌, ℕ, ◌+◌, ◌-◌, ◌<◌, cond, eqb, ◌≢◌, List, [], ◌∷◌, map, length, get_or, set, fold, refl, ap, ◌∙◌, ⊎_elim, arith}
+use Rattle.std.proofs.Common.{◌≡◌, ℕ, ◌+◌, ◌-◌, ◌<◌, cond, eqb, List, [], ◌∷◌, map, length, get_or, fold, refl, ap, ◌∙◌, ⊎_elim, arith}
 use lib.Bits.{bit_or, or_add_and, and_le_r}
 use Rattle.std.specs.List.{range_with_len, flat_map, AllByRecursion as All}
+use Rattle.std.proofs.lemmas.Bool.Decides.{nat_tests}
+use Rattle.std.proofs.lemmas.Grind.{common_steps}
 use Rattle.std.proofs.lemmas.Nat.{pow_pos}
-use Rattle.std.proofs.lemmas.List.{length-set, length-map, get_or-set_same, get_or-set_other, get_or-map}
+use Rattle.std.proofs.lemmas.List.{length-set, length-map, get_or-map}
 use Rattle.std.proofs.lemmas.List.FromFn.{fill_by_all}
 use Rattle.std.proofs.lemmas.Bool.{cases_eq, eq-eqb, ne_eqb, cond-false, cond_both}
 use Rattle.layers.specs.declared.node.Node.{Node}
@@ -26,23 +28,7 @@ module _ {S V : Type 0} (by : Setting S V) where
   hit-at : (vs : List (Node S V)) (b t : ℕ) (x : Down S V) → b < length vs
       → get_or (hit by.rule by.tally vs t x) b (blank_node by.rule by.tally) ≡ fold (takes) (get_or vs b (blank_node by.rule by.tally)) (cond (eqb t (b + 1)) (x ∷ []) [])
   unfolding hit landed
-  hit-at vs b t x lt =
-      let z = blank_node by.rule by.tally in
-      let there : ℕ → Node S V = λ i. takes (get_or vs i z) x in
-      ⊎_elim
-      (λ (e : t ≡ 0).
-      rw (eq-eqb t 0 e, ne_eqb t (b + 1) (omega arith)) refl)
-      (λ (n : t ≡ 0 → ⊥).
-      rw (ne_eqb t 0 n)
-      (⊎_elim
-      (λ (e : t ≡ b + 1).
-      let i : t - 1 ≡ b = omega arith in
-      rw (eq-eqb t (b + 1) e) (ap (λ k. get_or (set vs k (there k)) b z) i ∙ get_or-set_same vs b (there b) z lt))
-      (λ (m : t ≡ b + 1 → ⊥).
-      let i : b ≢ t - 1 = (λ e. m (omega arith)) in
-      rw (ne_eqb t (b + 1) m) (get_or-set_other vs (t - 1) b (there (t - 1)) z i))
-      (cases_eq t (b + 1))))
-      (cases_eq t 0)
+  hit-at vs b t x lt = grind (arith, common_steps, nat_tests)
 
   crossed-long : (u : Node S V) (vs : List (Node S V)) (k : ℕ) → length (crossed by u vs k) ≡ length vs
   unfolding crossed
@@ -64,10 +50,7 @@ module _ {S V : Type 0} (by : Setting S V) where
       (λ ys k h. omega (arith, crossed-long u ys k))
       (λ ys k h. hit-at ys b (get_or u.arcs.to k 0) (arrival_over by u.label.down (k + 1)) h)
       vs (range_with_len 0 16) lt in
-      ⊎_elim
-      (λ e. rw (eq-eqb u.label.down.lasts 0 e) refl)
-      (λ n. rw (ne_eqb u.label.down.lasts 0 n) doors)
-      (cases_eq u.label.down.lasts 0)
+      ⊎_elim (λ e. rw (eq-eqb u.label.down.lasts 0 e) refl) (λ n. rw (ne_eqb u.label.down.lasts 0 n) doors) (cases_eq u.label.down.lasts 0)
 
   spreads-long : (vs us : List (Node S V)) → length (fold (spread by) vs us) ≡ length vs
   spreads-long vs us = folded_keeps (λ ys. length ys ≡ length vs) (spread by) (λ ys u h. spread-long ys u ∙ h) vs us refl
