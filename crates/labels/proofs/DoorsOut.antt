@@ -18,9 +18,9 @@ put-next true xs m k lt = take_more_set xs m k lt
 put-next false xs m k lt = ap (λ (i : ℕ). take i (set xs m k)) (omega arith) ∙ take-set xs m k ∙ sym (append-nil (take m xs))
 
 -- of the numbers below k those with a property, and k written behind them, which counts only if it has it
-pub listed-more : (p : ℕ → Bool) (xs : List ℕ) (m k : ℕ) → m < length xs → take m xs ≡ filter p (range_with_len 0 k)
+pub listed_more : (p : ℕ → Bool) (xs : List ℕ) (m k : ℕ) → m < length xs → take m xs ≡ filter p (range_with_len 0 k)
     → take (m + bool_byte (p k)) (set xs m k) ≡ filter p (range_with_len 0 (k + 1))
-listed-more p xs m k lt e =
+listed_more p xs m k lt e =
     put-next (p k) xs m k lt ∙ ap (λ ys. ys ++ cond (p k) (k ∷ []) []) e
     ∙ sym (filter-append p (range_with_len 0 k) (k ∷ [])) ∙ ap (filter p) (sym (counting_more k))
 

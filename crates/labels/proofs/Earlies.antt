@@ -7,12 +7,12 @@ use Rattle.layers.specs.declared.node.Down.{Down}
 use Rattle.layers.specs.Labels.{leg, arrival_over}
 use Rattle.layers.specs.Settings.{Setting}
 use Rattle.labels.specs.Passes.{next_renewed, renewed_after}
-use Rattle.labels.proofs.Legs.{leg-most}
+use Rattle.labels.proofs.Legs.{leg_most}
 
 module _ {S V : Type 0} (by : Setting S V) where
   pub arrive-soon : (k : ℕ) (u : Down S V) (j : ℕ) → u.finish ≤ latest_finish k → (arrival_over by u j).finish ≤ latest_finish (suc k)
   unfolding arrival_over
-  arrive-soon k u j h = (clock-laws by.round).bound k u.finish (leg by.round u.lasts j) j h (leg-most by.round u.lasts j)
+  arrive-soon k u j h = (clock-laws by.round).bound k u.finish (leg by.round u.lasts j) j h (leg_most by.round u.lasts j)
 
   pub after_more : (k : ℕ) (xs : List (Node S V)) → k ≢ 0
       → renewed_after by k xs ≡ take by.width xs ++ renewed_after by (k - 1) (next_renewed by (take by.width xs) (take by.width (drop by.width xs)) ++ drop by.width (drop by.width xs))

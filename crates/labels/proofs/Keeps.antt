@@ -1,17 +1,16 @@
 -- What the passes keep: the arcs, and each pass the labels of the other.
-use Rattle.std.proofs.Common.{◌≡◌, ℕ, zero, suc, ◌+◌, ◌-◌, ◌*◌, eqb, List, [], ◌∷◌, ◌++◌, map, get_or, take, drop, fold, sym, refl, ap, ◌∙◌, ap₂, arith}
-use Rattle.std.specs.List.{range_with_len}
-use Rattle.std.proofs.lemmas.Bool.{cond_both}
+use Rattle.std.proofs.Common.{◌≡◌, ℕ, zero, suc, ◌-◌, ◌*◌, List, [], ◌∷◌, ◌++◌, map, take, drop, sym, refl, ap, ◌∙◌, ap₂, arith}
 use Rattle.std.proofs.lemmas.List.{map-append, take-map, take-append-drop}
 use Rattle.std.proofs.Math.Seq.{map-set_same}
 use Rattle.layers.specs.declared.node.Node.{Node}
 use Rattle.layers.specs.declared.node.Down.{Down}
 use Rattle.layers.specs.declared.node.Up.{Up}
-use Rattle.layers.specs.Labels.{arrival_over, blank_label, no_up}
+use Rattle.layers.specs.Labels.{blank_label, no_up}
 use Rattle.layers.specs.Settings.{Setting}
-use Rattle.labels.specs.Passes.{with_down, with_up, bare, blank_node, cleared, unlabelled, begun, renewed, sources, landed, hit, crossed, spread, crossed_all, next_renewed, end_renewed, renewed_after, risen, risen_from, pass_up, relabelled_used, relabelled}
+use Rattle.labels.specs.Passes.{with_down, with_up, bare, blank_node, cleared, unlabelled, begun, renewed, sources, spread, crossed_all, next_renewed, end_renewed, renewed_after, risen, risen_from, pass_up, relabelled_used, relabelled}
 use Rattle.labels.proofs.Climbs.{arcs_of, up_of}
 use Rattle.labels.proofs.Folds.{folded_keeps}
+use Rattle.labels.proofs.Scattered.{spread-has}
 
 module _ {S V : Type 0} where
   -- records are the same by their upward sets and by what else they have
@@ -52,16 +51,10 @@ module _ {S V : Type 0} (by : Setting S V) where
   -- ---- the pass down keeps what is not a downward label
   module _ {X : Type 0} (f : Node S V → X) (h : (x : Node S V) (l : Down S V) → f (with_down x l) ≡ f x) where
     crossed-keeps : (us vs : List (Node S V)) → map f (crossed_all by us vs) ≡ map f vs
-    unfolding crossed_all spread crossed hit landed
+    unfolding crossed_all
     crossed-keeps us vs =
         let P : List (Node S V) → Type 0 = λ ys. map f ys ≡ map f vs in
-        folded_keeps P (spread by)
-        (λ ys u e. cond_both (eqb u.label.down.lasts 0) ys (fold (crossed by u) ys (range_with_len 0 16)) P (λ _. e)
-        (λ _. folded_keeps P (crossed by u)
-        (λ ys k e. cond_both (eqb (get_or u.arcs.to k 0) 0) ys (landed by.rule by.tally ys (get_or u.arcs.to k 0 - 1) (arrival_over by u.label.down (k + 1))) P (λ _. e)
-        (λ _. map-set_same f ys (get_or u.arcs.to k 0 - 1) _ (blank_node by.rule by.tally) (h _ _) ∙ e))
-        ys (range_with_len 0 16) e))
-        vs (sources us) refl
+        folded_keeps P (spread by) (spread-has by P (λ ys i l e. map-set_same f ys i _ (blank_node by.rule by.tally) (h _ _) ∙ e)) vs (sources us) refl
 
     abbrev blank : Down S V
     blank = blank_label by.rule by.tally

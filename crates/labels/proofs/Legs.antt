@@ -20,9 +20,9 @@ nearest-most r m j i =
     folded_keeps (λ o. unwrap_or o 0 ≤ 999) (leg_step r m j) (λ o i h. picked-most (has m i && not (eqb i j)) o (drive r i j) (r.legs i j) h) None
     (range_with_len 0 i) (omega arith)
 
-pub leg-most : (r : Round) (m j : ℕ) → leg r m j ≤ 999
+pub leg_most : (r : Round) (m j : ℕ) → leg r m j ≤ 999
 unfolding leg
-leg-most r m j = nearest-most r m j (r.n + 1)
+leg_most r m j = nearest-most r m j (r.n + 1)
 
 -- ---- 1000 for no drive
 far-step : (o : Option ℕ) (e : Bool) (d : ℕ) → d ≤ 999 → unwrap_or o 0 ≤ 999 → unwrap_or (cond (not e) (nearest o d) o) 1000 ≡ min (unwrap_or o 1000) (max d (cond e 1000 0))

@@ -1,5 +1,5 @@
 -- The one pass gives each node what the list of its arrives comes to
-use Rattle.std.proofs.Common.{◌≡◌, ℕ, ◌+◌, ◌-◌, ◌<◌, cond, eqb, List, [], ◌∷◌, map, length, get_or, fold, refl, ap, ◌∙◌, ⊎_elim, arith}
+use Rattle.std.proofs.Common.{◌≡◌, ℕ, ◌+◌, ◌-◌, ◌<◌, cond, eqb, List, [], ◌∷◌, map, length, get_or, set, fold, refl, ap, ◌∙◌, ⊎_elim, arith}
 use lib.Bits.{bit_or, or_add_and, and_le_r}
 use Rattle.std.specs.List.{range_with_len, flat_map, AllByRecursion as All}
 use Rattle.std.proofs.lemmas.Bool.Decides.{nat_tests}
@@ -20,25 +20,21 @@ module _ {S V : Type 0} (by : Setting S V) where
   abbrev takes : Node S V → Down S V → Node S V
   takes v x = with_down v (taken by.rule by.tally v.label.down x)
 
-  -- ---- one place of the targets
-  hit-long : (vs : List (Node S V)) (t : ℕ) (x : Down S V) → length (hit by.rule by.tally vs t x) ≡ length vs
-  unfolding hit landed
-  hit-long vs t x = cond_both (eqb t 0) vs (landed by.rule by.tally vs (t - 1) x) (λ ys. length ys ≡ length vs) (λ _. refl) (λ _. length-set vs (t - 1) _)
+  -- ---- what stays when a label is written stays over a node's arcs
+  module _ (P : List (Node S V) → Type 0) (h : (ys : List (Node S V)) (i : ℕ) (l : Down S V) → P ys → P (set ys i (with_down (get_or ys i (blank_node by.rule by.tally)) l))) where
+    crossed-has : (u : Node S V) (ys : List (Node S V)) (k : ℕ) → P ys → P (crossed by u ys k)
+    unfolding crossed hit landed
+    crossed-has u ys k p = let t = get_or u.arcs.to k 0 in cond_both (eqb t 0) ys (landed by.rule by.tally ys (t - 1) (arrival_over by u.label.down (k + 1))) P (λ _. p) (λ _. h ys (t - 1) _ p)
 
+    pub spread-has : (ys : List (Node S V)) (u : Node S V) → P ys → P (spread by ys u)
+    unfolding spread
+    spread-has ys u p = cond_both (eqb u.label.down.lasts 0) ys (fold (crossed by u) ys (range_with_len 0 16)) P (λ _. p) (λ _. folded_keeps P (crossed by u) (crossed-has u) ys (range_with_len 0 16) p)
+
+  -- ---- one place of the targets
   hit-at : (vs : List (Node S V)) (b t : ℕ) (x : Down S V) → b < length vs
       → get_or (hit by.rule by.tally vs t x) b (blank_node by.rule by.tally) ≡ fold (takes) (get_or vs b (blank_node by.rule by.tally)) (cond (eqb t (b + 1)) (x ∷ []) [])
   unfolding hit landed
   hit-at vs b t x lt = grind (arith, common_steps, nat_tests)
-
-  crossed-long : (u : Node S V) (vs : List (Node S V)) (k : ℕ) → length (crossed by u vs k) ≡ length vs
-  unfolding crossed
-  crossed-long u vs k = hit-long vs (get_or u.arcs.to k 0) (arrival_over by u.label.down (k + 1))
-
-  spread-long : (vs : List (Node S V)) (u : Node S V) → length (spread by vs u) ≡ length vs
-  unfolding spread
-  spread-long vs u =
-      cond_both (eqb u.label.down.lasts 0) vs (fold (crossed by u) vs (range_with_len 0 16)) (λ ys. length ys ≡ length vs) (λ _. refl)
-      (λ _. folded_keeps (λ ys. length ys ≡ length vs) (crossed by u) (λ ys k h. crossed-long u ys k ∙ h) vs (range_with_len 0 16) refl)
 
   spread_at : (b : ℕ) (vs : List (Node S V)) (u : Node S V) → b < length vs
       → get_or (spread by vs u) b (blank_node by.rule by.tally) ≡ fold (takes) (get_or vs b (blank_node by.rule by.tally)) (from_node by (b + 1) u)
@@ -47,19 +43,19 @@ module _ {S V : Type 0} (by : Setting S V) where
       let z = blank_node by.rule by.tally in
       let doors : get_or (fold (crossed by u) vs (range_with_len 0 16)) b z ≡ fold (takes) (get_or vs b z) (flat_map (by_door by (b + 1) u) (range_with_len 0 16)) =
       folded-view (λ ys. b < length ys) (λ ys. get_or ys b z) (crossed by u) (takes) (by_door by (b + 1) u)
-      (λ ys k h. omega (arith, crossed-long u ys k))
+      (crossed-has (λ ys. b < length ys) (λ ys i l h. omega (arith, length-set {A = Node S V})) u)
       (λ ys k h. hit-at ys b (get_or u.arcs.to k 0) (arrival_over by u.label.down (k + 1)) h)
       vs (range_with_len 0 16) lt in
       ⊎_elim (λ e. rw (eq-eqb u.label.down.lasts 0 e) refl) (λ n. rw (ne_eqb u.label.down.lasts 0 n) doors) (cases_eq u.label.down.lasts 0)
 
   spreads-long : (vs us : List (Node S V)) → length (fold (spread by) vs us) ≡ length vs
-  spreads-long vs us = folded_keeps (λ ys. length ys ≡ length vs) (spread by) (λ ys u h. spread-long ys u ∙ h) vs us refl
+  spreads-long vs us = let P : List (Node S V) → Type 0 = λ ys. length ys ≡ length vs in folded_keeps P (spread by) (spread-has P (λ ys i l e. length-set ys i _ ∙ e)) vs us refl
 
   spreads-at : (b : ℕ) (vs us : List (Node S V)) → b < length vs
       → get_or (fold (spread by) vs us) b (blank_node by.rule by.tally) ≡ fold (takes) (get_or vs b (blank_node by.rule by.tally)) (arrivals by (b + 1) us)
   spreads-at b vs us lt =
       folded-view (λ ys. b < length ys) (λ ys. get_or ys b (blank_node by.rule by.tally)) (spread by) (takes) (from_node by (b + 1))
-      (λ ys u h. omega (arith, spread-long ys u))
+      (spread-has (λ ys. b < length ys) (λ ys i l h. omega (arith, length-set {A = Node S V})))
       (λ ys u h. spread_at b ys u h)
       vs us lt
 

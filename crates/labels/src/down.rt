@@ -14,6 +14,7 @@ use rules::rule::Rule;
 use tallies::tally::Tally;
 
 /// What the arc by door j brings from a node with the label u, `drive` minutes away.
+#[tactic(auto, using(std::proofs::lemmas::Nat::one_shl, crate::proofs::Legs::leg_most), unfolding(layers::specs::Labels::arrival_over))]
 pub(crate) fn arrive<R: Rule, T: Tally>(
     by: &Setting<'_, R, T>,
     u: &Down<R::State, T::Value>,
@@ -81,7 +82,7 @@ fn land<R: Rule, T: Tally>(
 }
 
 /// Over the arc of u by the door k + 1, if there is one; `legs` are those of u.
-#[tactic(auto, unfolding(crate::specs::Passes::crossed, crate::specs::Passes::hit, crate::specs::Passes::landed))]
+#[tactic(auto, using(std::proofs::lemmas::Bool::Decides::nat_tests, std::proofs::lemmas::List::set_past), unfolding(crate::specs::Passes::crossed, crate::specs::Passes::hit, crate::specs::Passes::landed))]
 fn cross<R: Rule, T: Tally>(
     by: &Setting<'_, R, T>,
     u: &Node<R::State, T::Value>,
@@ -138,6 +139,7 @@ fn unreached<R: Rule, T: Tally>(rule: &R, tally: &T) -> Down<R::State, T::Value>
 }
 
 /// The nodes of the layer, which stand first, have no label any more.
+#[tactic(auto, using(std::proofs::lemmas::Bool::Decides::nat_tests, std::proofs::lemmas::List::drop_all))]
 fn clear<R: Rule, T: Tally>(rule: &R, tally: &T, vs: &mut [Node<R::State, T::Value>])
     ensures { vs.new ≡ renewed (cleared (R.sense rule.now) (T.sense tally.now)) vs.old }
 {
@@ -161,6 +163,7 @@ fn is_source<S: Copy, V: Copy>(u: &Node<S, V>) -> bool
 }
 
 /// Over all arcs of the nodes of the layer us, which stand first.
+#[tactic(auto, using(std::proofs::lemmas::Bool::Decides::nat_tests, std::proofs::lemmas::List::drop_all), unfolding(crate::specs::Passes::crossed_all))]
 fn spread_layer<R: Rule, T: Tally>(
     by: &Setting<'_, R, T>,
     us: &[Node<R::State, T::Value>],
@@ -221,7 +224,7 @@ fn at_first<R: Rule, T: Tally>(rule: &R, tally: &T) -> Down<R::State, T::Value>
 }
 
 /// Works out anew the labels after a layer, which has its own, with `later` layers between it and the end.
-#[tactic(auto, using(crate::proofs::Rests::one_more, crate::proofs::Rests::front_long))]
+#[tactic(auto, using(crate::proofs::Rests::one_more, crate::proofs::Rests::front_long, crate::proofs::Earlies::after_more), unfolding(crate::specs::Passes::renewed_after))]
 pub(crate) fn label_after<R: Rule, T: Tally>(
     by: &Setting<'_, R, T>,
     nodes: &mut [Node<R::State, T::Value>],

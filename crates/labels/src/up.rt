@@ -74,6 +74,7 @@ fn climb_all<S: Copy, V: Copy>(vs: &[Node<S, V>], u: &Node<S, V>) -> Up
 }
 
 /// The nodes of the layer us, which stand first, gather from the layer vs after it.
+#[tactic(auto, using(std::proofs::lemmas::Bool::Decides::nat_tests, std::proofs::lemmas::List::drop_all))]
 fn rise_layer<S: Copy, V: Copy>(us: &mut [Node<S, V>], vs: &[Node<S, V>])
     ensures { us.new ≡ renewed (risen vs.now) us.old }
 {
@@ -87,7 +88,7 @@ fn rise_layer<S: Copy, V: Copy>(us: &mut [Node<S, V>], vs: &[Node<S, V>])
 }
 
 /// A layer and all after it, with `later` layers between it and the end, which has no door after it.
-#[tactic(auto, using(crate::proofs::Rests::one_more, crate::proofs::Rests::front_long))]
+#[tactic(auto, using(crate::proofs::Rests::one_more, crate::proofs::Rests::front_long, crate::proofs::Steps::risen_last, crate::proofs::Steps::risen_more))]
 fn rise_from<S: Copy, V: Copy>(nodes: &mut [Node<S, V>], width: usize, later: usize)
     requires { later * width + width < length nodes.old }
     ensures { nodes.new ≡ risen_from width later nodes.old }
