@@ -18,7 +18,7 @@ use Rattle.layers.proofs.Standing.{arcs-X}
 use Rattle.layers.proofs.Proper.{proper-kept}
 use Rattle.layers.proofs.Shaped.{relaid-shaped}
 use Rattle.labels.specs.Passes.{fits, below_steps, HasDownsBefore, unused_label}
-use Rattle.labels.proofs.Below.{below-laid}
+use Rattle.labels.proofs.Below.{below_laid}
 use Rattle.labels.proofs.Climbs.{down_of, up_of}
 use Rattle.labels.proofs.Rooms.{Roomed, room-facts}
 use Rattle.filter.specs.Steps.{Done, IsLabelled, arc_count, sweep_labelled_steps}
@@ -107,7 +107,7 @@ module _ {S V : Type 0} (by : Setting S V) (self : (s : S) → by.rule.same s s 
           let back : suc (i - 1) ≡ i = omega arith in
           let is : labelled_records by Ls ++ later xs ≡ records_with by zs Ls = ap (λ (ys : Recs). labelled_records by Ls ++ ys) (sym (q.tail ∙ swept-fresh.tail)) in
           let below : below_steps by i zs ≡ records_with by zs Ls =
-          below-laid by i Ls zs (ap (fits n by.width) q.long ∙ swept-fresh.sound.fit) lo (omega arith) q.left.well
+          below_laid by i Ls zs (ap (fits n by.width) q.long ∙ swept-fresh.sound.fit) lo (omega arith) q.left.well
           (ap (λ (k : ℕ). arcs_read (take k zs)) (sym deep) ∙ arcs-laid by.width Ls zs q.left.holds.0) (st.ups ∙ ap (map up_of) is)
           (subst (λ (k : ℕ). HasDownsBefore by k Ls zs) back (st.downs ∙ ap (λ ys. map down_of (take (suc (i - 1) * by.width) ys)) is)) (st.places ∙ ap (λ ys. map (unused_label by) (take (n * by.width) ys)) is) in
           ap (λ (ys : Recs). ((layer_steps by i ys).0, below_steps by i (layer_steps by i ys).1)) (once-words (ltb 1 i) h)
