@@ -1,10 +1,9 @@
 -- The doors that have an arc, in place of all sixteen
-use Rattle.std.proofs.Common.{◌≡◌, ℕ, ◌+◌, ◌<◌, ◌≤◌, Bool, true, false, cond, not, eqb, List, [], ◌∷◌, ◌++◌, length, get_or, take, set, fold, sym, refl, ap, ◌∙◌, append-nil, arith}
+use Rattle.std.proofs.Common.{◌≡◌, ℕ, ◌+◌, ◌<◌, ◌≤◌, Bool, true, false, cond, not, eqb, List, [], ◌∷◌, ◌++◌, length, get_or, take, set, fold, sym, refl, ap, ◌∙◌, arith}
 use mir.Val.{bool_byte}
 use Rattle.std.specs.List.{range_with_len, filter}
 use Rattle.std.proofs.lemmas.Bool.Decides.{nat_tests}
 use Rattle.std.proofs.lemmas.Grind.{common_steps}
-use Rattle.std.proofs.lemmas.List.{take-set, take_more_set}
 use Rattle.std.proofs.lemmas.List.Elements.{filter-append}
 use Rattle.labels.specs.Passes.{doors_out}
 use Rattle.labels.proofs.Folds.{counting_more}
@@ -14,8 +13,7 @@ byte-most true = omega arith
 byte-most false = omega arith
 
 put-next : (q : Bool) (xs : List ℕ) (m k : ℕ) → m < length xs → take (m + bool_byte q) (set xs m k) ≡ take m xs ++ cond q (k ∷ []) []
-put-next true xs m k lt = take_more_set xs m k lt
-put-next false xs m k lt = ap (λ (i : ℕ). take i (set xs m k)) (omega arith) ∙ take-set xs m k ∙ sym (append-nil (take m xs))
+put-next q xs m k lt = grind (arith, common_steps)
 
 -- of the numbers below k those with a property, and k written behind them, which counts only if it has it
 pub listed_more : (p : ℕ → Bool) (xs : List ℕ) (m k : ℕ) → m < length xs → take m xs ≡ filter p (range_with_len 0 k)

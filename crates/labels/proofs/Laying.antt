@@ -7,7 +7,7 @@ use Rattle.std.proofs.Math.Seq.{take-add}
 use Rattle.std.proofs.lemmas.List.{map-append, same_lists, get_or-map, get_or_past, length-map, drop-drop, drop-map, drop-take, drop_at, take-map, take-take, take_at, length-take, length-take-le, length-drop, get_or-take, get_or-drop, get_or_append_left}
 use Rattle.std.proofs.lemmas.Simd.{map-map}
 use Rattle.std.proofs.lemmas.Grind.{common_steps}
-use Rattle.std.proofs.lemmas.Bool.{cases_lt}
+use Rattle.std.proofs.lemmas.Bool.{cases_lt, le-leb}
 use Rattle.layers.specs.declared.node.Arcs.{Arcs}
 use Rattle.layers.specs.declared.node.Node.{Node}
 use Rattle.layers.specs.declared.node.Down.{Down}
@@ -16,17 +16,19 @@ use Rattle.layers.specs.declared.node.Up.{Up}
 use Rattle.layers.specs.Net.{table, Layer, Net, node, target, width}
 use Rattle.layers.specs.Flow.{arrivals_at, gather, next, climbs_of, up}
 use Rattle.layers.specs.Lawful.{IsRanged, IsTied, IsRoomy, IsEven, IsLawful}
-use Rattle.layers.specs.Labels.{arrival_over, merge, first_label, first_labels, labels_next, climb, merge_up, no_up, ups}
+use Rattle.layers.specs.Labels.{leg, arrival_over, merge, first_label, first_labels, labels_next, climb, merge_up, no_up, ups}
 use Rattle.layers.specs.Records.{is_used, nodes_in, arcs_read, laid_arcs, arcs_at, record_of_place, labelled_from, labelled_records}
 use Rattle.layers.proofs.Flows.{table_at, ins-from, next-some, gather-all, gather-any}
 use Rattle.layers.proofs.Bridge.{table-long, map-table, ups-full, ups-end, Fit, Full, full-first}
 use Rattle.layers.specs.Calls.{records_with}
 use Rattle.layers.proofs.Proper.{RangedAll, tied-ranged}
-use Rattle.labels.specs.Passes.{with_up, blank_node, by_door, from_node, arrivals, gathered, labelled, next_layer, up_by, ups_of, gathered_up, renewed, begun, renewed_after, Early, HasUps, HasDownsBefore, unused_label, HasPlaces, risen, risen_from, unlabelled, bare, pass_up, relabelled_used, relabelled}
+use Rattle.labels.specs.Passes.{with_up, blank_node, by_door, from_node, arrivals, gathered, labelled, next_layer, up_by, ups_of, gathered_up, renewed, begun, renewed_after, Early, HasUps, HasDownsBefore, fits, below_steps, unused_label, HasPlaces, risen, risen_from, unlabelled, bare, pass_up, relabelled_used, relabelled}
 pub use Rattle.labels.proofs.Climbs.{arcs_of}
 use Rattle.labels.proofs.Climbs.{down_of, linked, node-climbed, climbed-is, up_of}
 use Rattle.labels.proofs.Inward.{arrivals-in, gathered-is}
-use Rattle.labels.proofs.Earlies.{arrive-soon}
+use Rattle.labels.proofs.Legs.{leg_most}
+use Rattle.labels.proofs.Rooms.{room-facts}
+use Rattle.round.proofs.Clocks.{clock-laws}
 use Rattle.labels.proofs.Keeps.{renewals-keep, rises_keep, same-records, fronts, in-parts}
 use Rattle.labels.proofs.Places.{next-is, end-is, Stands, Blank, Ready, renewed-map, idle-stays}
 use Rattle.layers.proofs.Model.{or_blank, or_no_up}
@@ -170,11 +172,15 @@ module _ {S V : Type 0} (by : Setting S V) where
   abbrev Soon : ℕ → List (Option (Down S V)) → Type 0
   Soon e labs = (a : ℕ) (l : Down S V) → get_or labs a None ≡ Some l → l.finish ≤ latest_finish e
 
+  arrive-soon : (k : ℕ) (u : Down S V) (j : ℕ) → u.finish ≤ latest_finish k → (arrival_over by u j).finish ≤ latest_finish (suc k)
+  unfolding arrival_over
+  arrive-soon k u j h = (clock-laws by.round).bound k u.finish (leg by.round u.lasts j) j h (leg_most by.round u.lasts j)
+
   soon-next : (e : ℕ) (labs : List (Option (Down S V))) (L : Layer) (m : ℕ) → Soon e labs → Soon (suc e) (labels_next by labs L m)
   unfolding labels_next merge
   soon-next e labs L m s a l q =
       gather-all (merge by.rule by.tally) (λ x. x.finish ≤ latest_finish (suc e)) (λ x y p q. omega arith) (arrivals_at (arrival_over by) a labs L) l
-      (λ x i. let f = ins-from (arrival_over by) a labs L x i in rw f.is (arrive-soon by e f.label f.door (s f.source f.label f.labelled)))
+      (λ x i. let f = ins-from (arrival_over by) a labs L x i in rw f.is (arrive-soon e f.label f.door (s f.source f.label f.labelled)))
       (next-some (arrival_over by) (merge by.rule by.tally) labs L m a l q)
 
   soon-all : (e w : ℕ) (labs : List (Option (Down S V))) (L : Layer) (us : List (Node S V)) → e ≤ 15 → Soon e labs → map bare us ≡ table w (record_of_place by L labs [])
@@ -455,7 +461,7 @@ module _ {S V : Type 0} (by : Setting S V) where
       ∙ ap (λ ys. labelled_records by Ls ++ ys) (sym (drop-drop 1 at (A ++ D)) ∙ ap (drop 1) (drop_at A D at long) ∙ drop-drop 1 at xs)
 
   -- the same, of the flat list of arcs
-  pub read-arranged : (Ls : Net) (xs : List (Node S V)) → IsLawful by.round.n by.width Ls → by.round.n * by.width + 1 ≤ length xs → arcs_read (take (by.round.n * by.width + 1) xs) ≡ laid_arcs by.width Ls → Arranged by.width Ls xs
+  read-arranged : (Ls : Net) (xs : List (Node S V)) → IsLawful by.round.n by.width Ls → by.round.n * by.width + 1 ≤ length xs → arcs_read (take (by.round.n * by.width + 1) xs) ≡ laid_arcs by.width Ls → Arranged by.width Ls xs
   read-arranged Ls xs p h e =
       let n : length Ls * by.width + 1 ≡ by.round.n * by.width + 1 = ap (λ (k : ℕ). k * by.width + 1) p.deep in
       arranged-of by.width Ls xs (omega (arith, n)) (ap (λ (k : ℕ). arcs_read (take k xs)) n ∙ e)
@@ -469,7 +475,7 @@ module _ {S V : Type 0} (by : Setting S V) where
       places-ready by wide (first_labels by.rule by.tally) (L ∷ Ls) xs (drop (by.round.n * by.width + 1) xs) (full-net by wide L Ls p)
       (subst (λ (k : ℕ). map (unused_label by) (take (k * by.width) xs) ≡ map (unused_label by) (take (k * by.width) (labelled_from by (first_labels by.rule by.tally) (L ∷ Ls) ++ drop (by.round.n * by.width + 1) xs))) deep has)
 
-  pub below-lawful : (i : ℕ) (Ls : Net) (xs : List (Node S V)) → 1 ≤ i → i ≤ by.round.n → IsLawful by.round.n by.width Ls → Arranged by.width Ls xs → HasUps by Ls xs → HasDownsBefore by i Ls xs → Ready by Ls xs
+  below-lawful : (i : ℕ) (Ls : Net) (xs : List (Node S V)) → 1 ≤ i → i ≤ by.round.n → IsLawful by.round.n by.width Ls → Arranged by.width Ls xs → HasUps by Ls xs → HasDownsBefore by i Ls xs → Ready by Ls xs
       → take ((i - 1) * by.width) xs ++ renewed_after by (by.round.n - i) (drop ((i - 1) * by.width) xs) ≡ records_with by xs Ls
   unfolding records_with labelled_records
   below-lawful i [] xs low high p arr up down ready = let none : 0 ≡ by.round.n = p.deep in absurd (omega (arith, by.round.one))
@@ -488,3 +494,21 @@ module _ {S V : Type 0} (by : Setting S V) where
       ∙ ap (λ ys. labelled_from by (first_labels by.rule by.tally) (L ∷ Ls) ++ ys) (past-is w (suc (d + k)) xs ∙ ap (λ (m : ℕ). drop (m * w + 1) xs) end)) in
       let kept : map up_of Y ≡ map up_of xs = in-parts up_of (d * w) (take (d * w) xs) (renewed_after by k (drop (d * w) xs)) xs refl (renewals-keep by up_of (λ x l. refl) k (drop (d * w) xs)) in
       same-records Y (risen_from w (d + k) Y) (sym (rises_keep bare (λ x u. refl) w (d + k) Y)) (kept ∙ up ∙ ap (map up_of) (sym U)) ∙ U
+
+  -- ---- of the list that is lent
+  pub below_laid : (i : ℕ) (Ls : Net) (xs : List (Node S V)) → fits by.round.n by.width (length xs) ≡ true → 1 ≤ i → i ≤ by.round.n → IsLawful by.round.n by.width Ls
+      → arcs_read (take (by.round.n * by.width + 1) xs) ≡ laid_arcs by.width Ls → HasUps by Ls xs → HasDownsBefore by i Ls xs → HasPlaces by Ls xs → below_steps by i xs ≡ records_with by xs Ls
+  unfolding below_steps
+  below_laid i Ls xs fit low high p e ups downs has =
+      let room = (room-facts by.round.n by.width (length xs) fit).enough in
+      rw (fit, le-leb 1 i low, le-leb i by.round.n high) (below-lawful i Ls xs low high p (read-arranged Ls xs p room e) ups downs (has-ready Ls xs p room has))
+
+  pub used_read : (Ls : Net) (xs : List (Node S V)) → fits by.round.n by.width (length xs) ≡ true → IsLawful by.round.n by.width Ls
+      → arcs_read (take (by.round.n * by.width + 1) xs) ≡ laid_arcs by.width Ls → HasPlaces by Ls xs → relabelled_used by xs ≡ records_with by xs Ls
+  used_read Ls xs fit p e has =
+      let room = (room-facts by.round.n by.width (length xs) fit).enough in
+      used-lawful Ls xs p (read-arranged Ls xs p room e) (has-ready Ls xs p room has)
+
+  pub relabelled_read : (Ls : Net) (xs : List (Node S V)) → fits by.round.n by.width (length xs) ≡ true → IsLawful by.round.n by.width Ls
+      → arcs_read (take (by.round.n * by.width + 1) xs) ≡ laid_arcs by.width Ls → relabelled by xs ≡ records_with by xs Ls
+  relabelled_read Ls xs fit p e = relabelled-lawful Ls xs p (read-arranged Ls xs p (room-facts by.round.n by.width (length xs) fit).enough e)

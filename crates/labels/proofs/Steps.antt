@@ -9,9 +9,10 @@ use Rattle.rules.specs.Rules.{RuleSense}
 use Rattle.tallies.specs.Tallies.{TallySense}
 use Rattle.layers.specs.declared.node.Node.{Node}
 use Rattle.layers.specs.declared.node.Up.{Up}
+use Rattle.layers.specs.Settings.{Setting}
 use Rattle.layers.specs.Labels.{first_label, climb, merge_up, no_up}
-use Rattle.labels.specs.Passes.{gathered_up, taken_up, with_down, begun, renewed, bare, risen, risen_from}
-use Rattle.labels.proofs.Folds.{counting_more}
+use Rattle.labels.specs.Passes.{gathered_up, taken_up, with_down, begun, renewed, bare, risen, risen_from, next_renewed, renewed_after}
+use Rattle.labels.proofs.Folds.{counting_more, folded-view}
 
 -- one more of sixteen
 pub folded-counting-more : {A B : Type 0} (f : B → A → B) (F : ℕ → List A) (a : B) (k : ℕ) → fold f a (flat_map F (range_with_len 0 (k + 1))) ≡ fold f (fold f a (flat_map F (range_with_len 0 k))) (F k)
@@ -22,8 +23,7 @@ folded-counting-more f F a k =
 
 -- a fold over what each brings, one by one
 pub fold_joined : {X A B : Type 0} (f : B → A → B) (F : X → List A) (a : B) (xs : List X) → fold (λ b x. fold f b (F x)) a xs ≡ fold f a (flat_map F xs)
-fold_joined f F a [] = refl
-fold_joined f F a (x ∷ xs) = fold_joined f F (fold f a (F x)) xs ∙ sym (fold-append f a (F x) (flat_map F xs))
+fold_joined f F a xs = folded-view (λ _. Unit {0}) (λ b. b) (λ b x. fold f b (F x)) f F (λ b x h. h) (λ b x h. refl) a xs tt
 
 taken-some : (a : Up) (xs : List Up) → fold taken_up (Some a) xs ≡ Some (fold merge_up a xs)
 taken-some a [] = refl
@@ -42,12 +42,10 @@ climb_one (v ∷ vs) (suc b) j x lt h = climb_one vs b j x (omega arith) h
 
 -- ---- the first of a list
 pub first_set : {X : Type 0} (f : X → X) (ys : List X) (d : X) → 0 < length ys → set ys 0 (f (get_or ys 0 d)) ≡ map f (take 1 ys) ++ drop 1 ys
-first_set f [] d h = absurd (omega arith)
-first_set f (y ∷ ys) d h = refl
+first_set f ys d h = grind (arith, common_steps)
 
 pub begun_set : {S V : Type 0} (R : RuleSense S) (T : TallySense V) (ys : List (Node S V)) (d : Node S V) → 0 < length ys → set ys 0 (with_down (get_or ys 0 d) (first_label R T)) ≡ begun R T ys
-begun_set R T [] d h = absurd (omega arith)
-begun_set R T (y ∷ ys) d h = refl
+begun_set R T ys d h = grind (arith, common_steps)
 
 -- ---- a loop over the nodes of a layer: what it leaves, so far and to come
 module _ {S V : Type 0} (f : Node S V → Node S V) where
@@ -67,3 +65,10 @@ module _ {S V : Type 0} (w : ℕ) where
   unfolding risen_from
   risen_more zero xs ne = absurd (ne refl)
   risen_more (suc k) xs ne = let e : suc k - 1 ≡ k = omega arith in rw e
+
+-- ---- a pass down with a layer more to go
+pub after_more : {S V : Type 0} (by : Setting S V) (k : ℕ) (xs : List (Node S V)) → k ≢ 0
+    → renewed_after by k xs ≡ take by.width xs ++ renewed_after by (k - 1) (next_renewed by (take by.width xs) (take by.width (drop by.width xs)) ++ drop by.width (drop by.width xs))
+unfolding renewed_after
+after_more by zero xs ne = absurd (ne refl)
+after_more by (suc k) xs ne = let e : suc k - 1 ≡ k = omega arith in rw e

@@ -18,7 +18,7 @@ use Rattle.layers.proofs.Standing.{arcs-X}
 use Rattle.layers.proofs.Proper.{proper-kept}
 use Rattle.layers.proofs.Shaped.{relaid-shaped}
 use Rattle.labels.specs.Passes.{fits, below_steps, HasDownsBefore, unused_label}
-use Rattle.labels.proofs.Below.{below_laid}
+use Rattle.labels.proofs.Laying.{below_laid}
 use Rattle.labels.proofs.Climbs.{down_of, up_of}
 use Rattle.labels.proofs.Rooms.{Roomed, room-facts}
 use Rattle.filter.specs.Steps.{Done, IsLabelled, arc_count, sweep_labelled_steps}

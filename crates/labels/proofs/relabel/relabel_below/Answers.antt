@@ -4,10 +4,8 @@ use Rattle.labels.proofs.relabel.relabel_below.Goals as goal
 
 pub overflow_mul-layer : goal.overflow_mul-layer
 overflow_mul-layer g c =
-    let f = follow-facts c.args.layer c.args.by.now.round.now.n c.args.by.now.width (length c.args.nodes.now) (sym c.has_layer.ensures ∙ c.if-has_layer.true) in
-    record { fits = omega (arith, f.enough) }
+    record { fits = omega (arith, follow-facts c.args.layer c.args.by.now.round.now.n c.args.by.now.width (length c.args.nodes.now) (sym c.has_layer.ensures ∙ c.if-has_layer.true)) }
 
 pub split_at_mut-from-requires : goal.split_at_mut-from-requires
 split_at_mut-from-requires g c =
-    let f = follow-facts c.args.layer c.args.by.now.round.now.n c.args.by.now.width (length c.args.nodes.now) (sym c.has_layer.ensures ∙ c.if-has_layer.true) in
-    omega (arith, f.enough)
+    omega (arith, follow-facts c.args.layer c.args.by.now.round.now.n c.args.by.now.width (length c.args.nodes.now) (sym c.has_layer.ensures ∙ c.if-has_layer.true))
