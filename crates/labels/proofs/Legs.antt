@@ -51,7 +51,7 @@ leg_some r m j ne = grind (arith, common_steps)
 abbrev pub line : List ℕ
 line = map (λ m. cond (eqb m 15) 1000 0) (range_with_len 0 32)
 
-pub line-at : (i k : ℕ) → i ≤ 16 → k < 16 → get_or line (16 - i + k) 0 ≡ cond (eqb i (k + 1)) 1000 0
-line-at i k most lt =
+pub line_at : (i k : ℕ) → i ≤ 16 → k < 16 → get_or line (16 - i + k) 0 ≡ cond (eqb i (k + 1)) 1000 0
+line_at i k most lt =
     get_or-map-range_with_len (λ m. cond (eqb m 15) 1000 0) 0 32 (16 - i + k) (16 - i + k) 0 (omega arith) (omega arith)
     ∙ grind (arith, nat_tests)

@@ -105,6 +105,7 @@ fn cross<R: Rule, T: Tally>(
 }
 
 /// Over all arcs of the node u.
+#[tactic(auto, using(crate::proofs::DoorsOut::listed_door, std::proofs::lemmas::List::Sums::fold_more))]
 fn spread_node<R: Rule, T: Tally>(
     by: &Setting<'_, R, T>,
     u: &Node<R::State, T::Value>,

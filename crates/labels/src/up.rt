@@ -56,7 +56,7 @@ fn climb_by<S: Copy, V: Copy>(
 }
 
 /// What u gathers from the layer vs after it; a place that is not in use gathers nothing.
-#[tactic(auto, unfolding(crate::specs::Passes::ups_of, crate::specs::Passes::gathered_up))]
+#[tactic(auto, using(crate::proofs::DoorsOut::listed_door, std::proofs::lemmas::List::Sums::fold_more), unfolding(crate::specs::Passes::ups_of, crate::specs::Passes::gathered_up))]
 fn climb_all<S: Copy, V: Copy>(vs: &[Node<S, V>], u: &Node<S, V>) -> Up
     ensures { result ≡ gathered_up (ups_of vs.now u.now) }
 {
