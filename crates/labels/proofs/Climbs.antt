@@ -11,7 +11,7 @@ use Rattle.layers.specs.declared.node.Down.{Down}
 use Rattle.layers.specs.declared.node.Up.{Up}
 use Rattle.layers.specs.Net.{Outs, Layer, Net, node, target}
 use Rattle.layers.specs.Flow.{gather, read, cons_if_some, climbs_of, up}
-use Rattle.layers.specs.Labels.{climb, merge_up, ups}
+use Rattle.layers.specs.Labels.{climb, merge_up, no_up, ups}
 use Rattle.layers.specs.Records.{padded_targets}
 use Rattle.layers.proofs.Flows.{table_at}
 use Rattle.layers.proofs.Model.{or_no_up}
@@ -26,10 +26,6 @@ climbing V to k = map (λ v. climb v (k + 1)) (numbered (get_or to k 0) V)
 abbrev pub climbed : List Up → List ℕ → Up
 climbed V to = gathered_up (flat_map (climbing V to) (range_with_len 0 16))
 
--- the sets with the number suc b are those that the net gives
-abbrev pub Linked : List (Option Up) → List Up → ℕ → Type 0
-Linked us V b = (x : Up) × (get_or us b None ≡ Some x) × (numbered (suc b) V ≡ x ∷ [])
-
 gathered_up-is : (xs : List Up) → gathered_up xs ≡ or_no_up (gather merge_up xs)
 unfolding gathered_up gather
 gathered_up-is [] = refl
@@ -41,12 +37,13 @@ numbered-at b vs d h =
     ap (λ (q : Bool). cond q [] (take 1 (drop (suc b - 1) vs))) (ne_eqb (suc b) 0 (λ e. omega arith))
     ∙ ap (λ (k : ℕ). take 1 (drop k vs)) less ∙ ap (take 1) (drop_more vs b d h)
 
-pub linked : (us : List (Option Up)) (V : List Up) (b : ℕ) (x d : Up) → b < length V → get_or us b None ≡ Some x → get_or V b d ≡ x → Linked us V b
-linked us V b x d h e q = (x, e, numbered-at b V d h ∙ ap (λ y. y ∷ []) q)
+-- the sets with the number suc b are those that the net gives
+abbrev pub Linked : List (Option Up) → List Up → ℕ → Type 0
+Linked us V b = (b < length V) × (get_or us b None ≡ Some (get_or V b no_up))
 
 climb-step : (us : List (Option Up)) (V : List Up) (to : List ℕ) (k t : ℕ) (rest : List Up) → get_or to k 0 ≡ t → ((b : ℕ) → t ≡ suc b → Linked us V b) → climbing V to k ++ rest ≡ cons_if_some climb (suc k) (read us t) rest
 climb-step us V to k zero rest e g = rw e refl
-climb-step us V to k (suc b) rest e g = let (x, is, n) = g b refl in rw (e, n, is, add-one k) refl
+climb-step us V to k (suc b) rest e g = let (lt, is) = g b refl in rw (e, numbered-at b V no_up lt, is, add-one k) refl
 
 -- at a place of a layer, in use or not: what the net says
 pub node-climbed : (L : Layer) (Ls : Net) (V : List Up) (a : ℕ) → length (node L a) ≤ 16 → ((j b : ℕ) → target (node L a) j ≡ suc b → Linked (ups Ls) V b)

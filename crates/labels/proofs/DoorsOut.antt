@@ -1,5 +1,5 @@
 -- The doors that have an arc, in place of all sixteen
-use Rattle.std.proofs.Common.{◌≡◌, ℕ, ◌+◌, ◌<◌, ◌≤◌, Bool, true, false, cond, not, eqb, List, [], ◌∷◌, ◌++◌, length, get_or, take, set, fold, sym, refl, ap, ◌∙◌, arith}
+use Rattle.std.proofs.Common.{◌≡◌, ℕ, ◌+◌, ◌<◌, ◌≤◌, Bool, cond, not, eqb, List, [], ◌∷◌, ◌++◌, length, get_or, take, set, fold, sym, refl, ap, ◌∙◌, arith}
 use mir.Val.{bool_byte}
 use Rattle.std.specs.List.{range_with_len, filter}
 use Rattle.std.proofs.lemmas.Bool.Decides.{nat_tests}
@@ -9,8 +9,7 @@ use Rattle.labels.specs.Passes.{doors_out}
 use Rattle.labels.proofs.Folds.{counting_more}
 
 pub byte-most : (q : Bool) → bool_byte q ≤ 1
-byte-most true = omega arith
-byte-most false = omega arith
+byte-most q = grind (arith, common_steps)
 
 put-next : (q : Bool) (xs : List ℕ) (m k : ℕ) → m < length xs → take (m + bool_byte q) (set xs m k) ≡ take m xs ++ cond q (k ∷ []) []
 put-next q xs m k lt = grind (arith, common_steps)

@@ -1,13 +1,13 @@
 -- What the code's pass adds up at a record is what flows in over the arcs.
-use Rattle.std.proofs.Common.{◌≡◌, ℕ, zero, suc, ◌+◌, ◌<◌, ◌≤◌, Bool, false, cond, eqb, List, [], ◌∷◌, ◌++◌, length, get_or, Some, None, Option, sym, refl, ap, ◌∙◌, ap₂, zero-add, add-one, arith}
+use Rattle.std.proofs.Common.{◌≡◌, ℕ, zero, suc, ◌+◌, ◌<◌, ◌≤◌, false, cond, eqb, List, [], ◌∷◌, ◌++◌, length, get_or, Some, None, Option, refl, ap, ◌∙◌, ap₂, zero-add, add-one, arith}
 use Rattle.std.specs.List.{range_with_len, flat_map}
 use Rattle.std.proofs.lemmas.Grind.{common_steps}
-use Rattle.std.proofs.lemmas.Bool.{cond-false, ne_eqb}
+use Rattle.std.proofs.lemmas.Bool.Decides.{nat_tests}
 use Rattle.std.proofs.lemmas.List.{get_or_past}
 use Rattle.labels.proofs.Folds.{by-doors}
 use Rattle.layers.specs.declared.node.Down.{Down}
 use Rattle.layers.specs.Net.{table, Outs, Layer, node}
-use Rattle.layers.specs.Flow.{put, arrivals_by_door, arrivals_at, gather}
+use Rattle.layers.specs.Flow.{arrivals_by_door, arrivals_at, gather}
 use Rattle.layers.specs.Labels.{arrival_over, merge, no_up}
 use Rattle.layers.specs.Records.{nodes_in, padded_targets, record_of_place}
 use Rattle.layers.proofs.Flows.{table_at}
@@ -19,21 +19,14 @@ module _ {S V : Type 0} (by : Setting S V) where
   abbrev pub over-door : ℕ → List ℕ → Down S V → ℕ → List (Down S V)
   over-door t to l k = cond (eqb (get_or to k 0) t) (arrival_over by l (k + 1) ∷ []) []
 
-  put-cond : (q : Bool) (x : Down S V) (rest : List (Down S V)) → cond q (x ∷ []) [] ++ rest ≡ put q x rest
-  put-cond q x rest = grind (arith, common_steps)
-
-  no-door : (b : ℕ) (to : List ℕ) (l : Down S V) (k : ℕ) → get_or to k 0 ≡ 0 → over-door (suc b) to l k ≡ []
-  no-door b to l k e = cond-false (eqb (get_or to k 0) (suc b)) _ [] (ne_eqb (get_or to k 0) (suc b) (λ h. omega arith))
-
   -- over m doors from a on, of which those past ts have no arc
   pub doors-in : (b : ℕ) (l : Down S V) (ts to : List ℕ) (a m : ℕ) → length ts ≤ m → ((i : ℕ) → i < m → get_or to (a + i) 0 ≡ get_or ts i 0)
       → flat_map (over-door (suc b) to l) (range_with_len a m) ≡ arrivals_by_door (arrival_over by) b l (suc a) ts
   unfolding arrivals_by_door
   doors-in b l ts to a m h e =
       by-doors (over-door (suc b) to l) (arrivals_by_door (arrival_over by) b l) ts a m h (λ j. refl)
-      (λ k i q ge lt. no-door b to l k (ap (λ (k : ℕ). get_or to k 0) (sym q) ∙ e i lt ∙ get_or_past ts i 0 ge))
-      (λ k i rest q lt. rw (← q, e i (omega arith), q, add-one k)
-      (put-cond (eqb (get_or ts i 0) (suc b)) (arrival_over by l (suc k)) (arrivals_by_door (arrival_over by) b l (suc (suc k)) rest)))
+      (λ k i q ge lt. let none : get_or to k 0 ≡ 0 = rw (← q, e i lt) (get_or_past ts i 0 ge) in grind (arith, nat_tests, none))
+      (λ k i rest q lt. rw (← q, e i (omega arith), q, add-one k) (grind (arith, common_steps)))
 
   from-used : (b : ℕ) (nd : Outs) (l : Down S V) → length nd ≤ 16 → eqb l.lasts 0 ≡ false
       → from_node by (suc b) (record { arcs = record { to = padded_targets nd }; label = record { down = l; up = no_up } }) ≡ arrivals_by_door (arrival_over by) b l 1 nd

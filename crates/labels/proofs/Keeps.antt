@@ -5,7 +5,7 @@ use Rattle.std.proofs.Math.Seq.{map-set_same}
 use Rattle.layers.specs.declared.node.Node.{Node}
 use Rattle.layers.specs.declared.node.Down.{Down}
 use Rattle.layers.specs.declared.node.Up.{Up}
-use Rattle.layers.specs.Labels.{blank_label, no_up}
+use Rattle.layers.specs.Labels.{no_up}
 use Rattle.layers.specs.Settings.{Setting}
 use Rattle.labels.specs.Passes.{with_down, with_up, bare, blank_node, cleared, unlabelled, begun, renewed, sources, spread, crossed_all, next_renewed, end_renewed, renewed_after, risen, risen_from, pass_up, relabelled_used, relabelled}
 use Rattle.labels.proofs.Climbs.{arcs_of, up_of}
@@ -32,7 +32,7 @@ module _ {S V : Type 0} where
   pub in-parts : {X : Type 0} (f : Node S V → X) (k : ℕ) (A B xs : List (Node S V)) → map f A ≡ map f (take k xs) → map f B ≡ map f (drop k xs) → map f (A ++ B) ≡ map f xs
   in-parts f k A B xs a b = map-append f A B ∙ ap₂ (λ ys zs. ys ++ zs) a b ∙ sym (map-append f (take k xs) (drop k xs)) ∙ ap (map f) (take-append-drop k xs)
 
-  each-kept : {X : Type 0} (f : Node S V → X) (g : Node S V → Node S V) → ((x : Node S V) → f (g x) ≡ f x) → (us : List (Node S V)) → map f (map g us) ≡ map f us
+  pub each-kept : {X : Type 0} (f : Node S V → X) (g : Node S V → Node S V) → ((x : Node S V) → f (g x) ≡ f x) → (us : List (Node S V)) → map f (map g us) ≡ map f us
   each-kept f g h [] = refl
   each-kept f g h (u ∷ us) = grind (arith, h u, each-kept f g h us)
 
@@ -56,20 +56,14 @@ module _ {S V : Type 0} (by : Setting S V) where
         let P : List (Node S V) → Type 0 = λ ys. map f ys ≡ map f vs in
         folded_keeps P (spread by) (spread-has by P (λ ys i l e. map-set_same f ys i _ (blank_node by.rule by.tally) (h _ _) ∙ e)) vs (sources us) refl
 
-    abbrev blank : Down S V
-    blank = blank_label by.rule by.tally
-
-    abbrev clear : Node S V → Node S V
-    clear = cleared by.rule by.tally
-
     pub renewals-keep : (k : ℕ) (xs : List (Node S V)) → map f (renewed_after by k xs) ≡ map f xs
     unfolding renewed_after next_renewed end_renewed
     renewals-keep zero xs =
         let rest = drop by.width xs in
-        in-parts f by.width _ _ xs refl (in-parts f 1 _ _ rest (crossed-keeps (take by.width xs) (map clear (take 1 rest)) ∙ each-kept f clear (λ x. h x blank) (take 1 rest)) refl)
+        in-parts f by.width _ _ xs refl (in-parts f 1 _ _ rest (crossed-keeps (take by.width xs) (map (cleared by.rule by.tally) (take 1 rest)) ∙ each-kept f (cleared by.rule by.tally) (λ x. h x _) (take 1 rest)) refl)
     renewals-keep (suc k) xs =
         let rest = drop by.width xs in
-        in-parts f by.width _ _ xs refl (renewals-keep k _ ∙ in-parts f by.width _ _ rest (crossed-keeps (take by.width xs) (renewed clear (take by.width rest)) ∙ renewed-keeps f clear (λ x. h x blank) (take by.width rest)) refl)
+        in-parts f by.width _ _ xs refl (renewals-keep k _ ∙ in-parts f by.width _ _ rest (crossed-keeps (take by.width xs) (renewed (cleared by.rule by.tally) (take by.width rest)) ∙ renewed-keeps f (cleared by.rule by.tally) (λ x. h x _) (take by.width rest)) refl)
 
     pub begun-keeps : (xs : List (Node S V)) → map f (begun by.rule by.tally xs) ≡ map f xs
     begun-keeps [] = refl

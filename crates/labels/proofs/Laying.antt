@@ -1,5 +1,5 @@
 -- The two passes over records with the arcs of a net leave the net laid out with its labels.
-use Rattle.std.proofs.Common.{◌≡◌, ℕ, zero, suc, ◌+◌, ◌-◌, ◌*◌, ◌<◌, ◌≤◌, Bool, true, false, cond, not, eqb, List, [], ◌∷◌, ◌++◌, map, length, get_or, take, drop, Some, None, Option, sym, refl, ap, ◌∙◌, subst, ap₂, ⊎_elim, append_assoc, suc-mul, zero-mul, zero-add, add-one, arith}
+use Rattle.std.proofs.Common.{◌≡◌, ℕ, zero, suc, ◌+◌, ◌-◌, ◌*◌, ◌<◌, ◌≤◌, Bool, true, false, cond, not, eqb, List, [], ◌∷◌, ◌++◌, map, length, get_or, take, drop, Some, None, Option, sym, refl, ap, ◌∙◌, subst, ap₂, ⊎_elim, append_assoc, suc-mul, zero-mul, add-one, arith}
 use Rattle.std.specs.List.{flat_map}
 use Rattle.round.specs.Clock.{latest_finish}
 use Rattle.std.proofs.lemmas.List.FromFn.{get_or-map-range_with_len, length-map-range_with_len}
@@ -24,7 +24,7 @@ use Rattle.layers.specs.Calls.{records_with}
 use Rattle.layers.proofs.Proper.{RangedAll, tied-ranged}
 use Rattle.labels.specs.Passes.{with_up, blank_node, by_door, from_node, arrivals, gathered, labelled, next_layer, up_by, ups_of, gathered_up, renewed, begun, renewed_after, Early, HasUps, HasDownsBefore, fits, below_steps, unused_label, HasPlaces, risen, risen_from, unlabelled, bare, pass_up, relabelled_used, relabelled}
 pub use Rattle.labels.proofs.Climbs.{arcs_of}
-use Rattle.labels.proofs.Climbs.{down_of, linked, node-climbed, climbed-is, up_of}
+use Rattle.labels.proofs.Climbs.{down_of, node-climbed, climbed-is, up_of}
 use Rattle.labels.proofs.Inward.{arrivals-in, gathered-is}
 use Rattle.labels.proofs.Legs.{leg_most}
 use Rattle.labels.proofs.Rooms.{room-facts}
@@ -103,7 +103,7 @@ abbrev past : {X : Type 0} → ℕ → ℕ → List X → List X
 past w zero xs = drop 1 xs
 past w (suc k) xs = past w k (drop w xs)
 
-one-more : (k w : ℕ) → suc k * w ≡ w + k * w
+pub one-more : (k w : ℕ) → suc k * w ≡ w + k * w
 one-more k w = omega (arith, suc-mul k w)
 
 past-is : {X : Type 0} (w k : ℕ) (xs : List X) → past w k xs ≡ drop (k * w + 1) xs
@@ -111,24 +111,28 @@ past-is w zero xs = rw (zero-mul w) refl
 past-is w (suc k) xs = past-is w k (drop w xs) ∙ drop-drop (k * w + 1) w xs ∙ ap (λ (i : ℕ). drop i xs) (omega (arith, one-more k w))
 
 -- how many records the first of these layers has, and the layer
-abbrev records : ℕ → Net → ℕ
+abbrev pub records : ℕ → Net → ℕ
 records w [] = 1
 records w (L ∷ Ls) = w
 
-abbrev first : Net → Layer
+abbrev pub first : Net → Layer
 first [] = []
 first (L ∷ Ls) = L
 
+pub ups-long : (L : Layer) (Ls : Net) → length (ups (L ∷ Ls)) ≡ length L
+unfolding ups up
+ups-long L Ls = length-map L (λ nd. gather merge_up (climbs_of climb (ups Ls) 1 nd))
+
 module _ {S V : Type 0} (by : Setting S V) where
   -- ---- the records of a net
-  front-of : (labs : List (Option (Down S V))) (Ls : Net) (later : List (Node S V)) → take (records by.width Ls) (labelled_from by labs Ls ++ later) ≡ table (records by.width Ls) (record_of_place by (first Ls) labs (ups Ls))
+  pub front-of : (labs : List (Option (Down S V))) (Ls : Net) (later : List (Node S V)) → take (records by.width Ls) (labelled_from by labs Ls ++ later) ≡ table (records by.width Ls) (record_of_place by (first Ls) labs (ups Ls))
   unfolding labelled_from ups up
   front-of labs [] later = refl
   front-of labs (L ∷ Ls) later =
       let T = record_of_place by L labs (ups (L ∷ Ls)) in
       rw (append_assoc (table by.width T) (labelled_from by (labels_next by labs L (width Ls)) Ls) later) (take_at (table by.width T) _ by.width (table-long by.width T))
 
-  back-of : (labs : List (Option (Down S V))) (L : Layer) (Ls : Net) (later : List (Node S V)) → drop by.width (labelled_from by labs (L ∷ Ls) ++ later) ≡ labelled_from by (labels_next by labs L (width Ls)) Ls ++ later
+  pub back-of : (labs : List (Option (Down S V))) (L : Layer) (Ls : Net) (later : List (Node S V)) → drop by.width (labelled_from by labs (L ∷ Ls) ++ later) ≡ labelled_from by (labels_next by labs L (width Ls)) Ls ++ later
   unfolding labelled_from
   back-of labs L Ls later =
       let T = record_of_place by L labs (ups (L ∷ Ls)) in
@@ -185,13 +189,7 @@ module _ {S V : Type 0} (by : Setting S V) where
 
   soon-all : (e w : ℕ) (labs : List (Option (Down S V))) (L : Layer) (us : List (Node S V)) → e ≤ 15 → Soon e labs → map bare us ≡ table w (record_of_place by L labs [])
       → (a : ℕ) (d : Node S V) → a < length us → Early (latest_finish 15) (get_or us a d)
-  soon-all e w labs L us le s is a d lt =
-      subst (λ (x : Node S V). x.label.down.finish ≤ latest_finish 15)
-      (sym (mapped-at bare (record_of_place by L labs []) w us a d is (omega (arith, mapped-long bare (record_of_place by L labs []) w us is)))) (go (get_or labs a None) (s a))
-    where
-      go : (o : Option (Down S V)) → ((l : Down S V) → o ≡ Some l → l.finish ≤ latest_finish e) → (or_blank by.rule by.tally o).finish ≤ latest_finish 15
-      go None h = omega arith
-      go (Some l) h = omega (arith, h l refl)
+  soon-all e w labs L us le s is a d lt = grind (arith, common_steps, s a, mapped-at bare (record_of_place by L labs []) w us a d is (omega (arith, mapped-long bare (record_of_place by L labs []) w us is)))
 
 -- ---- layers whose nodes have labels
 module _ {S V : Type 0} (by : Setting S V) (wide : 1 ≤ by.width) where
@@ -223,19 +221,14 @@ module _ {S V : Type 0} (by : Setting S V) (wide : 1 ≤ by.width) where
   unfolding labelled
   next-front labs L M Ls us vs fit tied f arr m le blank =
       let is = next-block by.width labs L (M ∷ Ls) M us vs fit tied f.is arr in
-      let many = mapped-long arcs_of (arcs_at M) by.width vs arr in
       let long = mapped-long bare (record_of_place by M (labels_next by labs L (length M)) []) by.width (next_layer by us vs) is in
       record {
         is = is;
         spare = λ a d ge lt.
-            ap up_of (next-at us vs a d (omega arith)) ∙ ap (λ (l : Label S V). l.up) ((blank a (blank_node by.rule by.tally) (omega arith)).1 (omega arith));
+            ap up_of (next-at us vs a d (omega (arith, mapped-long arcs_of (arcs_at M) by.width vs arr))) ∙ ap (λ (l : Label S V). l.up) ((blank a (blank_node by.rule by.tally) (omega (arith, mapped-long arcs_of (arcs_at M) by.width vs arr))).1 (omega arith));
       }
 
   -- ---- up
-  ups-long : (L : Layer) (Ls : Net) → length (ups (L ∷ Ls)) ≡ length L
-  unfolding ups up
-  ups-long L Ls = length-map L (λ nd. gather merge_up (climbs_of climb (ups Ls) 1 nd))
-
   -- an arc leads to a node with upward sets
   leads : (labs : List (Option (Down S V))) (L : Layer) (Ls : Net) → Full by wide labs Ls → IsTied (L ∷ Ls) → (a j b : ℕ) → target (node L a) j ≡ suc b → (b < records by.width Ls) × ((x : Up) × (get_or (ups Ls) b None ≡ Some x))
   leads labs L [] full tied a j b t = (tied a j b t, (no_up, ups-end b (omega (arith, tied a j b t))))
@@ -250,8 +243,7 @@ module _ {S V : Type 0} (by : Setting S V) (wide : 1 ≤ by.width) where
       let f = full.0.filled in
       let flow = climbed-is (table r R) (record_of_place by L labs [] a) ∙ node-climbed L Ls (map up_of (table r R)) a (few by.round.n L by.round.most full.0.even a) (λ j b t.
       let x = leads (labels_next by labs L (width Ls)) L Ls full.1 tied a j b t in
-      linked (ups Ls) (map up_of (table r R)) b x.1.0 no_up (omega (arith, length-map (table r R) up_of, table-long r R, x.0)) x.1.1
-      (ap (λ ys. get_or ys b no_up) (map-table up_of r R) ∙ table_at r b (λ k. or_no_up (get_or (ups Ls) k None)) no_up x.0 ∙ ap or_no_up x.1.1)) in
+      (omega (arith, length-map (table r R) up_of, table-long r R, x.0), x.1.1 ∙ ap Some (sym (ap (λ ys. get_or ys b no_up) (map-table up_of r R) ∙ table_at r b (λ k. or_no_up (get_or (ups Ls) k None)) no_up x.0 ∙ ap or_no_up x.1.1)))) in
       ⊎_elim (λ lt. let l = f.there a lt in rw (l.1, f.lasting a l.0 l.1) flow)
       (λ ge. rw (get_or_past labs a None (omega (arith, f.long)), get_or_past (ups (L ∷ Ls)) a None (omega (arith, ups-long L Ls))) refl)
       (cases_lt a (length L))
@@ -277,12 +269,11 @@ module _ {S V : Type 0} (by : Setting S V) (wide : 1 ≤ by.width) where
       rw (e, front-of by (labels_next by labs L (width Ls)) Ls later, risen-us) (sym (append_assoc (table w T) (labelled_from by (labels_next by labs L (width Ls)) Ls) later))
 
   -- ---- both
-  laid : (k e : ℕ) (labs : List (Option (Down S V))) (L : Layer) (Ls : Net) (xs : List (Node S V)) → length Ls ≡ k → e + k ≤ 15 → Full by wide labs (L ∷ Ls) → IsTied (L ∷ Ls) → Soon by e labs
-      → Front by.width labs L (take by.width xs) → Arranged by.width Ls (drop by.width xs) → Ready by Ls (drop by.width xs) → risen_from by.width k (renewed_after by k xs) ≡ labelled_from by labs (L ∷ Ls) ++ past by.width (suc k) xs
+  laid : (e : ℕ) (labs : List (Option (Down S V))) (L : Layer) (Ls : Net) (xs : List (Node S V)) → e + length Ls ≤ 15 → Full by wide labs (L ∷ Ls) → IsTied (L ∷ Ls) → Soon by e labs
+      → Front by.width labs L (take by.width xs) → Arranged by.width Ls (drop by.width xs) → Ready by Ls (drop by.width xs)
+      → risen_from by.width (length Ls) (renewed_after by (length Ls) xs) ≡ labelled_from by labs (L ∷ Ls) ++ past by.width (suc (length Ls)) xs
   unfolding renewed_after risen_from labelled_from
-  laid zero e labs L (M ∷ Ls) xs q few full tied soon front arr ready = absurd (omega arith)
-  laid (suc k) e labs L [] xs q few full tied soon front arr ready = absurd (omega arith)
-  laid zero e labs L [] xs q few full tied soon front arr ready =
+  laid e labs L [] xs few full tied soon front arr ready =
       let w = by.width in
       let us = take w xs in
       let vs = take 1 (drop w xs) in
@@ -293,7 +284,7 @@ module _ {S V : Type 0} (by : Setting S V) (wide : 1 ≤ by.width) where
       let n-long = mapped-long bare (record_of_place by [] (labels_next by labs L 1) []) 1 N nb in
       rw (end-is by us (drop w xs) (soon-all by e w labs L us (omega arith) soon front.is), take_at us (N ++ D) w us-long, drop_at us (N ++ D) w us-long, take_at N D 1 n-long, drop_at N D 1 n-long, nb)
       (rise labs L [] us (table 1 (record_of_place by [] (labels_next by labs L 1) []) ++ D) D full tied front refl)
-  laid (suc k) e labs L (M ∷ Ls) xs q few full tied soon front arr ready =
+  laid e labs L (M ∷ Ls) xs few full tied soon front arr ready =
       let w = by.width in
       let us = take w xs in
       let vs = take w (drop w xs) in
@@ -302,8 +293,9 @@ module _ {S V : Type 0} (by : Setting S V) (wide : 1 ≤ by.width) where
       let next = next-front labs L M Ls us vs full.0 tied front arr.0 ready.0.0 ready.0.1 ready.0.2 in
       let us-long = mapped-long bare (record_of_place by L labs []) w us front.is in
       let n-long = mapped-long bare (record_of_place by M (labels_next by labs L (length M)) []) w N next.is in
+      let k = length Ls in
       let Z = renewed_after by k (N ++ D) in
-      let ih = laid k (suc e) (labels_next by labs L (length M)) M Ls (N ++ D) (omega arith) (omega arith) full.1 tied.3 (soon-next by e labs L (length M) soon)
+      let ih = laid (suc e) (labels_next by labs L (length M)) M Ls (N ++ D) (omega arith) full.1 tied.3 (soon-next by e labs L (length M) soon)
       (rw (take_at N D w n-long) next) (rw (drop_at N D w n-long) arr.1) (rw (drop_at N D w n-long) ready.1) in
       rw (next-is by ready.0.0 us vs (soon-all by e w labs L us (omega arith) soon front.is) ready.0.2, take_at us Z w us-long, drop_at us Z w us-long)
       (rise labs L (M ∷ Ls) us (risen_from w k Z) (past w k D) full tied front (ih ∙ ap (λ ys. labelled_from by (labels_next by labs L (length M)) (M ∷ Ls) ++ past w k ys) (drop_at N D w n-long)))
@@ -336,7 +328,9 @@ module _ {S V : Type 0} (by : Setting S V) (wide : 1 ≤ by.width) where
   unfolding risen_from
   below-laid (suc d) k e labs L [] xs later q few full tied soon arr ready downs = absurd (omega arith)
   below-laid zero k e labs L Ls xs later q few full tied soon arr ready downs =
-      rw (zero-add k) (laid k e labs L Ls xs (q ∙ zero-add k) (omega arith) full tied soon (front-laid L Ls labs (take by.width xs) arr.0 (rows by down_of 0 labs L Ls xs later downs).0 ready.0.0 ready.0.1 ready.0.2) arr.1 ready.1)
+      let same : 0 + k ≡ length Ls = sym q in
+      let less : k ≡ length Ls = omega arith in
+      rw (same, less) (laid e labs L Ls xs (omega arith) full tied soon (front-laid L Ls labs (take by.width xs) arr.0 (rows by down_of 0 labs L Ls xs later downs).0 ready.0.0 ready.0.1 ready.0.2) arr.1 ready.1)
   below-laid (suc d) k e labs L (M ∷ Ls) xs later q few full tied soon arr ready downs =
       let w = by.width in
       let us = take w xs in
@@ -427,22 +421,15 @@ module _ {S V : Type 0} (by : Setting S V) where
       let f = front-begun by wide w ready.0.0 L xs wide one (omega (arith, ready.0.1)) ready.0.2 arr.0 in
       let less : by.round.n - 1 ≡ k = omega arith in
       rw less
-      (laid by wide k 0 (first_labels by.rule by.tally) L Ls B refl (omega (arith, by.round.most)) (full-net by wide L Ls p) p.tied (soon-first by wide) f.0 (rw f.1 arr.1) (rw f.1 ready.1)
+      (laid by wide 0 (first_labels by.rule by.tally) L Ls B (omega (arith, by.round.most)) (full-net by wide L Ls p) p.tied (soon-first by wide) f.0 (rw f.1 arr.1) (rw f.1 ready.1)
       ∙ ap (λ ys. labelled_from by (first_labels by.rule by.tally) (L ∷ Ls) ++ ys) (ap (past w k) f.1 ∙ past-is w (suc k) xs ∙ ap (λ (n : ℕ). drop (n * w + 1) xs) deep))
 
   blank-ready : (Ls : Net) (xs : List (Node S V)) → ((a : ℕ) (d : Node S V) → a < length Ls * by.width → a < length xs → Blank by (get_or xs a d)) → Ready by Ls xs
   blank-ready [] xs h = tt
   blank-ready (L ∷ Ls) xs h =
-      let w = by.width in
-      let more : suc (length Ls) * w ≡ w + length Ls * w = omega (arith, suc-mul (length Ls) w) in (
-        (
-          0,
-          omega arith,
-          λ a d lt.
-              let in_layer : a < w = omega (arith, length-take w xs) in
-              (λ l. absurd (omega arith), λ l. rw (get_or-take w xs a d in_layer) (h a d (omega (arith, more)) (omega (arith, length-take w xs)))),
-        ),
-        blank-ready Ls (drop w xs) (λ a d lt in_list. rw (get_or-drop w xs a d) (h (w + a) d (omega (arith, more)) (omega (arith, length-drop w xs)))),
+      let more = one-more (length Ls) by.width in (
+        (0, omega arith, λ a d lt. (λ l. absurd (omega arith), λ l. rw (get_or-take by.width xs a d (omega (arith, length-take by.width xs))) (h a d (omega (arith, more, length-take by.width xs)) (omega (arith, length-take by.width xs))))),
+        blank-ready Ls (drop by.width xs) (λ a d lt in_list. rw (get_or-drop by.width xs a d) (h (by.width + a) d (omega (arith, more)) (omega (arith, length-drop by.width xs)))),
       )
 
   -- of arcs that a diagram may have

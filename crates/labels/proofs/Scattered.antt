@@ -48,17 +48,6 @@ module _ {S V : Type 0} (by : Setting S V) where
       vs (range_with_len 0 16) lt in
       ⊎_elim (λ e. rw (eq-eqb u.label.down.lasts 0 e) refl) (λ n. rw (ne_eqb u.label.down.lasts 0 n) doors) (cases_eq u.label.down.lasts 0)
 
-  spreads-long : (vs us : List (Node S V)) → length (fold (spread by) vs us) ≡ length vs
-  spreads-long vs us = let P : List (Node S V) → Type 0 = λ ys. length ys ≡ length vs in folded_keeps P (spread by) (spread-has P (λ ys i l e. length-set ys i _ ∙ e)) vs us refl
-
-  spreads-at : (b : ℕ) (vs us : List (Node S V)) → b < length vs
-      → get_or (fold (spread by) vs us) b (blank_node by.rule by.tally) ≡ fold (takes) (get_or vs b (blank_node by.rule by.tally)) (arrivals by (b + 1) us)
-  spreads-at b vs us lt =
-      folded-view (λ ys. b < length ys) (λ ys. get_or ys b (blank_node by.rule by.tally)) (spread by) (takes) (from_node by (b + 1))
-      (spread-has (λ ys. b < length ys) (λ ys i l h. omega (arith, length-set {A = Node S V})))
-      (λ ys u h. spread_at b ys u h)
-      vs us lt
-
   -- ---- what is taken in is what is gathered
   takes-label : (v : Node S V) (xs : List (Down S V)) → fold (takes) v xs ≡ with_down v (fold (taken by.rule by.tally) v.label.down xs)
   takes-label v [] = refl
@@ -96,11 +85,13 @@ module _ {S V : Type 0} (by : Setting S V) where
   unfolding next_layer labelled
   spreads-layer us vs =
       let z = blank_node by.rule by.tally in
-      let vs₀ = map (cleared by.rule by.tally) vs in
+      let f = cleared by.rule by.tally in
       let N = nodes_in us in
-      fill_by_all (labelled by us vs) (fold (spread by) vs₀ N) (length vs) z (spreads-long vs₀ N ∙ length-map vs (cleared by.rule by.tally))
+      let P : List (Node S V) → Type 0 = λ ys. length ys ≡ length vs in
+      fill_by_all (labelled by us vs) (fold (spread by) (map f vs) N) (length vs) z (folded_keeps P (spread by) (spread-has P (λ ys i l e. length-set ys i _ ∙ e)) (map f vs) N (length-map vs f))
       (λ b lt.
-      spreads-at b vs₀ N (omega (arith, length-map vs (cleared by.rule by.tally)))
-      ∙ ap (λ v. fold (takes) v (arrivals by (b + 1) N)) (get_or-map (cleared by.rule by.tally) vs b z z lt)
-      ∙ takes-label (cleared by.rule by.tally (get_or vs b z)) (arrivals by (b + 1) N)
+      folded-view (λ ys. b < length ys) (λ ys. get_or ys b z) (spread by) (takes) (from_node by (b + 1)) (spread-has (λ ys. b < length ys) (λ ys i l h. omega (arith, length-set {A = Node S V})))
+      (λ ys u h. spread_at b ys u h) (map f vs) N (omega (arith, length-map vs f))
+      ∙ ap (λ v. fold (takes) v (arrivals by (b + 1) N)) (get_or-map f vs b z z lt)
+      ∙ takes-label (f (get_or vs b z)) (arrivals by (b + 1) N)
       ∙ ap (with_down (get_or vs b z)) (taken-gathered (arrivals by (b + 1) N) (reached (b + 1) N)))
