@@ -1,5 +1,5 @@
 -- The doors that have an arc, in place of all sixteen
-use Rattle.std.proofs.Common.{◌≡◌, ℕ, ◌+◌, ◌<◌, ◌≤◌, Bool, cond, not, eqb, List, [], ◌∷◌, ◌++◌, length, get_or, take, set, fold, sym, refl, ap, ◌∙◌, arith}
+use Rattle.std.proofs.Common.{◌≡◌, ℕ, ◌+◌, ◌<◌, ◌≤◌, Bool, cond, not, eqb, List, [], ◌∷◌, ◌++◌, length, get_or, take, set, fold, refl, arith}
 use mir.Val.{bool_byte}
 use Rattle.std.specs.List.{range_with_len, filter}
 use Rattle.std.proofs.lemmas.Bool.Decides.{nat_tests}
@@ -17,9 +17,7 @@ put-next q xs m k lt = grind (arith, common_steps)
 -- of the numbers below k those with a property, and k written behind them, which counts only if it has it
 pub listed_more : (p : ℕ → Bool) (xs : List ℕ) (m k : ℕ) → m < length xs → take m xs ≡ filter p (range_with_len 0 k)
     → take (m + bool_byte (p k)) (set xs m k) ≡ filter p (range_with_len 0 (k + 1))
-listed_more p xs m k lt e =
-    put-next (p k) xs m k lt ∙ ap (λ ys. ys ++ cond (p k) (k ∷ []) []) e
-    ∙ sym (filter-append p (range_with_len 0 k) (k ∷ [])) ∙ ap (filter p) (sym (counting_more k))
+listed_more p xs m k lt e = grind (arith, common_steps, put-next (p k) xs m k lt, filter-append p (range_with_len 0 k) (k ∷ []), counting_more k, e)
 
 -- a fold over all doors that does nothing where there is no arc
 pub folded_out : {B : Type 0} (f : B → ℕ → B) (to : List ℕ) → ((b : B) (k : ℕ) → get_or to k 0 ≡ 0 → f b k ≡ b) → (b : B) → fold f b (range_with_len 0 16) ≡ fold f b (doors_out to)

@@ -21,9 +21,7 @@ module _ {S V : Type 0} where
   same-records (x ∷ xs) (y ∷ ys) b u =
       let one : bare x ≡ bare y = cc in
       let up : up_of x ≡ up_of y = cc in
-      let rest : map bare xs ≡ map bare ys = cc in
-      let ups : map up_of xs ≡ map up_of ys = cc in
-      ap₂ (λ z zs. z ∷ zs) (ap₂ (λ (z : Node S V) (v : Up). with_up z v) one up) (same-records xs ys rest ups)
+      ap₂ (λ z zs. z ∷ zs) (ap₂ (λ (z : Node S V) (v : Up). with_up z v) one up) (same-records xs ys (cc) (cc))
 
   pub fronts : {X : Type 0} (f : Node S V → X) (k : ℕ) (xs ys : List (Node S V)) → map f xs ≡ map f ys → map f (take k xs) ≡ map f (take k ys)
   fronts f k xs ys e = sym (take-map f k xs) ∙ ap (take k) e ∙ take-map f k ys

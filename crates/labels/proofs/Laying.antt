@@ -198,6 +198,9 @@ module _ {S V : Type 0} (by : Setting S V) (wide : 1 ≤ by.width) where
     is : map bare us ≡ table w (record_of_place by L labs [])
     spare : (a : ℕ) (d : Node S V) → length L ≤ a → a < length us → (get_or us a d).label.up ≡ no_up
 
+  front-long : (w : ℕ) (labs : List (Option (Down S V))) (L : Layer) (us : List (Node S V)) → Front w labs L us → length us ≡ w
+  front-long w labs L us f = mapped-long bare (record_of_place by L labs []) w us f.is
+
   next-at : (us vs : List (Node S V)) (b : ℕ) (d : Node S V) → b < length vs → get_or (next_layer by us vs) b d ≡ labelled by us vs b
   unfolding next_layer
   next-at us vs b d lt = get_or-map-range_with_len (labelled by us vs) 0 (length vs) b b d lt (omega arith)
@@ -280,9 +283,8 @@ module _ {S V : Type 0} (by : Setting S V) (wide : 1 ≤ by.width) where
       let N = next_layer by us vs in
       let D = drop 1 (drop w xs) in
       let nb = next-block 1 labs L [] [] us vs full.0 tied front.is arr in
-      let us-long = mapped-long bare (record_of_place by L labs []) w us front.is in
       let n-long = mapped-long bare (record_of_place by [] (labels_next by labs L 1) []) 1 N nb in
-      rw (end-is by us (drop w xs) (soon-all by e w labs L us (omega arith) soon front.is), take_at us (N ++ D) w us-long, drop_at us (N ++ D) w us-long, take_at N D 1 n-long, drop_at N D 1 n-long, nb)
+      rw (end-is by us (drop w xs) (soon-all by e w labs L us (omega arith) soon front.is), take_at us (N ++ D) w (front-long w labs L us front), drop_at us (N ++ D) w (front-long w labs L us front), take_at N D 1 n-long, drop_at N D 1 n-long, nb)
       (rise labs L [] us (table 1 (record_of_place by [] (labels_next by labs L 1) []) ++ D) D full tied front refl)
   laid e labs L (M ∷ Ls) xs few full tied soon front arr ready =
       let w = by.width in
@@ -291,13 +293,12 @@ module _ {S V : Type 0} (by : Setting S V) (wide : 1 ≤ by.width) where
       let N = next_layer by us vs in
       let D = drop w (drop w xs) in
       let next = next-front labs L M Ls us vs full.0 tied front arr.0 ready.0.0 ready.0.1 ready.0.2 in
-      let us-long = mapped-long bare (record_of_place by L labs []) w us front.is in
-      let n-long = mapped-long bare (record_of_place by M (labels_next by labs L (length M)) []) w N next.is in
+      let n-long = front-long w (labels_next by labs L (length M)) M N next in
       let k = length Ls in
       let Z = renewed_after by k (N ++ D) in
       let ih = laid (suc e) (labels_next by labs L (length M)) M Ls (N ++ D) (omega arith) full.1 tied.3 (soon-next by e labs L (length M) soon)
       (rw (take_at N D w n-long) next) (rw (drop_at N D w n-long) arr.1) (rw (drop_at N D w n-long) ready.1) in
-      rw (next-is by ready.0.0 us vs (soon-all by e w labs L us (omega arith) soon front.is) ready.0.2, take_at us Z w us-long, drop_at us Z w us-long)
+      rw (next-is by ready.0.0 us vs (soon-all by e w labs L us (omega arith) soon front.is) ready.0.2, take_at us Z w (front-long w labs L us front), drop_at us Z w (front-long w labs L us front))
       (rise labs L (M ∷ Ls) us (risen_from w k Z) (past w k D) full tied front (ih ∙ ap (λ ys. labelled_from by (labels_next by labs L (length M)) (M ∷ Ls) ++ past w k ys) (drop_at N D w n-long)))
 
   -- from a layer on, where the labels of the d layers in front of it stand as they should, and k more are between it and the end
@@ -336,10 +337,9 @@ module _ {S V : Type 0} (by : Setting S V) (wide : 1 ≤ by.width) where
       let us = take w xs in
       let h = rows by down_of (suc d) labs L (M ∷ Ls) xs later downs in
       let front = front-laid L (M ∷ Ls) labs us arr.0 h.0 ready.0.0 ready.0.1 ready.0.2 in
-      let long = mapped-long bare (record_of_place by L labs []) w us front.is in
       let Z = below d k (drop w xs) in
       let one : suc d + k ≡ suc (d + k) = omega arith in
-      rw (one, take_at us Z w long, drop_at us Z w long)
+      rw (one, take_at us Z w (front-long w labs L us front), drop_at us Z w (front-long w labs L us front))
       (rise labs L (M ∷ Ls) us (risen_from w (d + k) Z) (past w (suc (d + k)) (drop w xs)) full tied front
       (below-laid d k (suc e) (labels_next by labs L (length M)) M Ls (drop w xs) later (omega arith) (omega arith) full.1 tied.3 (soon-next by e labs L (length M) soon) arr.1 ready.1 h.1))
 

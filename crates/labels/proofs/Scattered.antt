@@ -7,7 +7,7 @@ use Rattle.std.proofs.lemmas.Grind.{common_steps}
 use Rattle.std.proofs.lemmas.Nat.{pow_pos}
 use Rattle.std.proofs.lemmas.List.{length-set, length-map, get_or-map}
 use Rattle.std.proofs.lemmas.List.FromFn.{fill_by_all}
-use Rattle.std.proofs.lemmas.Bool.{cases_eq, eq-eqb, ne_eqb, cond-false, cond_both}
+use Rattle.std.proofs.lemmas.Bool.{cases_eq, eq-eqb, ne_eqb, cond_both}
 use Rattle.layers.specs.declared.node.Node.{Node}
 use Rattle.layers.specs.declared.node.Down.{Down}
 use Rattle.layers.specs.Labels.{arrival_over, merge, blank_label}
@@ -59,9 +59,7 @@ module _ {S V : Type 0} (by : Setting S V) where
   taken-merged : (got : Down S V) (xs : List (Down S V)) → 0 < got.lasts → fold (taken by.rule by.tally) got xs ≡ fold (merge by.rule by.tally) got xs
   unfolding taken merge
   taken-merged got [] h = refl
-  taken-merged got (x ∷ xs) h =
-      ap (λ l. fold (taken by.rule by.tally) l xs) (cond-false (eqb got.lasts 0) x (merge by.rule by.tally got x) (ne_eqb got.lasts 0 (omega arith)))
-      ∙ taken-merged (merge by.rule by.tally got x) xs (or_some got.lasts x.lasts h)
+  taken-merged got (x ∷ xs) h = grind (arith, common_steps, nat_tests, taken-merged (merge by.rule by.tally got x) xs (or_some got.lasts x.lasts h))
 
   abbrev Reached : Down S V → Type 0
   Reached x = 0 < x.lasts
