@@ -126,11 +126,9 @@ module _ {S V : Type 0} (by : Setting S V) (self : (s : S) → by.rule.same s s 
       let Y = (parts i xs).1 in
       let t = parts-fresh xs s i lo (omega arith) in
       let ih = layers-words k (suc i) Y t.sound (λ e. t.labelled) (omega arith) (omega arith) in
-      let good = cond_both (parts i xs).0 (Full i, Y) (refinement_from by k (suc i) Y) (λ z. Sound z.1 × Known (ltb 1 (i + suc k)) z.1) (λ _. (t.sound, λ e. t.labelled)) (λ _. (ih.1, λ e. ih.2 (ap (ltb 1) (omega arith) ∙ e))) in (
-        ap (λ (p : Bool × Recs). cond p.0 (Full i, p.1) (some_layers by k (suc i) p.1)) (layer-words xs s i lo (omega arith) h) ∙ ap (λ (z : Refined × Recs). cond (parts i xs).0 (Full i, Y) z) ih.0,
-        good.0,
-        good.1,
-      )
+      let good = cond_both (parts i xs).0 (Full i, Y) (refinement_from by k (suc i) Y) (λ z. Sound z.1 × Known (ltb 1 (i + suc k)) z.1) (λ _. (t.sound, λ e. t.labelled)) (λ _. (ih.1, λ e. ih.2 (ap (ltb 1) (omega arith) ∙ e))) in
+      let same = ap (λ (p : Bool × Recs). cond p.0 (Full i, p.1) (some_layers by k (suc i) p.1)) (layer-words xs s i lo (omega arith) h) ∙ ap (λ (z : Refined × Recs). cond (parts i xs).0 (Full i, Y) z) ih.0 in
+      (same, good.0, good.1)
 
   -- ---- sweeps until nothing goes
   out-words : (known : Bool) (k : ℕ) (xs : Recs) → Sound xs → Known known xs → (k ≡ 0 → IsTimely n by.width xs)
@@ -143,12 +141,8 @@ module _ {S V : Type 0} (by : Setting S V) (self : (s : S) → by.rule.same s s 
       let tY = swept-timely by xs s.fit s.shaped in
       let ih = out-words true k Y f.sound (λ e. f.labelled) (λ e. tY) in
       let good = cond_both (eqb (sweep_answer by xs) 0) Y (after_sweeps by k Y) (λ zs. IsShaped n by.width zs × IsTimely n by.width zs) (λ _. (f.sound.shaped, tY)) (λ _. (ih.1, ih.2)) in
-      let few : arc_count n by.width xs - arc_count n by.width Y ≡ sweep_answer by xs = fewer-words by.round by.width xs Y s.fit f.long s.shaped f.sound.shaped in (
-        ap (λ (ys : Recs). cond (eqb (arc_count n by.width xs - arc_count n by.width ys) 0) ys (sweeps_out by true k ys)) (once-words xs s known h)
-            ∙ ap₂ (λ (m : ℕ) (zs : Recs). cond (eqb m 0) Y zs) few ih.0,
-        good.0,
-        good.1,
-      )
+      let few : arc_count n by.width xs - arc_count n by.width Y ≡ sweep_answer by xs = fewer-words by.round by.width xs Y s.fit f.long s.shaped f.sound.shaped in
+      (rw (once-words xs s known h, few, ih.0) refl, good.0, good.1)
 
   -- ---- refine
   pub refine_done : (xs : Recs) → fits n by.width (length xs) ≡ true → IsShaped n by.width xs → (ys : Recs) (m : Refined) → ys ≡ (refine_steps by xs).1 → m ≡ (refine_steps by xs).0 → Done n by.width (refinement by xs).1 ys (refinement by xs).0 m
