@@ -1,8 +1,8 @@
-use Rattle.std.proofs.Common.{◌≡◌, ℕ, zero, suc, ◌+◌, ◌-◌, ◌<◌, ◌≢◌, List, [], ◌∷◌, ◌++◌, map, length, get_or, take, drop, set, Some, None, fold, sym, refl, ap, ◌∙◌, arith}
+use Rattle.std.proofs.Common.{◌≡◌, ℕ, zero, suc, ◌+◌, ◌-◌, ◌<◌, ◌≤◌, ◌≢◌, List, [], ◌∷◌, ◌++◌, map, length, get_or, take, drop, set, Some, None, fold, sym, refl, ap, ◌∙◌, arith}
 use Rattle.std.specs.List.{range_with_len, flat_map}
 use Rattle.std.proofs.lemmas.Bool.Decides.{nat_tests}
 use Rattle.std.proofs.lemmas.Grind.{common_steps}
-use Rattle.std.proofs.lemmas.List.{flat_map_more}
+use Rattle.std.proofs.lemmas.List.{drop_all, flat_map_more}
 use Rattle.std.proofs.lemmas.List.Sums.{fold-append}
 use Rattle.std.specs.Option.{unwrap_or}
 use Rattle.rules.specs.Rules.{RuleSense}
@@ -52,6 +52,12 @@ module _ {S V : Type 0} (f : Node S V → Node S V) where
   pub renewed_more : (xs : List (Node S V)) (i : ℕ) (d : Node S V) → i < length xs → (get_or xs i d).label.down.lasts ≢ 0
       → take (i + 1) (set xs i (f (get_or xs i d))) ++ renewed f (drop (i + 1) (set xs i (f (get_or xs i d)))) ≡ take i xs ++ renewed f (drop i xs)
   renewed_more xs i d lt ne = grind (arith, common_steps, nat_tests)
+
+  pub renewed_stop : (xs : List (Node S V)) (i : ℕ) (d : Node S V) → i < length xs → (get_or xs i d).label.down.lasts ≡ 0 → set xs i (get_or xs i d) ≡ take i xs ++ renewed f (drop i xs)
+  renewed_stop xs i d lt e = grind (arith, common_steps, nat_tests)
+
+  pub renewed_all : (xs : List (Node S V)) (i : ℕ) → length xs ≤ i → take i xs ++ renewed f (drop i xs) ≡ xs
+  renewed_all xs i le = grind (arith, common_steps, drop_all)
 
 -- ---- from a layer on
 module _ {S V : Type 0} (w : ℕ) where

@@ -14,7 +14,6 @@ use rules::rule::Rule;
 use tallies::tally::Tally;
 
 /// What the arc by door j brings from a node with the label u, `drive` minutes away.
-#[tactic(auto, using(std::proofs::lemmas::Nat::one_shl, crate::proofs::Legs::leg_most), unfolding(layers::specs::Labels::arrival_over))]
 pub(crate) fn arrive<R: Rule, T: Tally>(
     by: &Setting<'_, R, T>,
     u: &Down<R::State, T::Value>,
@@ -82,7 +81,7 @@ fn land<R: Rule, T: Tally>(
 }
 
 /// Over the arc of u by the door k + 1, if there is one; `legs` are those of u.
-#[tactic(auto, using(std::proofs::lemmas::Bool::Decides::nat_tests, std::proofs::lemmas::List::set_past), unfolding(crate::specs::Passes::crossed, crate::specs::Passes::hit, crate::specs::Passes::landed))]
+#[tactic(auto, unfolding(crate::specs::Passes::crossed, crate::specs::Passes::hit, crate::specs::Passes::landed))]
 fn cross<R: Rule, T: Tally>(
     by: &Setting<'_, R, T>,
     u: &Node<R::State, T::Value>,
@@ -105,7 +104,6 @@ fn cross<R: Rule, T: Tally>(
 }
 
 /// Over all arcs of the node u.
-#[tactic(auto, using(crate::proofs::DoorsOut::listed_door, std::proofs::lemmas::List::Sums::fold_more))]
 fn spread_node<R: Rule, T: Tally>(
     by: &Setting<'_, R, T>,
     u: &Node<R::State, T::Value>,
@@ -140,7 +138,6 @@ fn unreached<R: Rule, T: Tally>(rule: &R, tally: &T) -> Down<R::State, T::Value>
 }
 
 /// The nodes of the layer, which stand first, have no label any more.
-#[tactic(auto, using(std::proofs::lemmas::Bool::Decides::nat_tests, std::proofs::lemmas::List::drop_all))]
 fn clear<R: Rule, T: Tally>(rule: &R, tally: &T, vs: &mut [Node<R::State, T::Value>])
     ensures { vs.new ≡ renewed (cleared (R.sense rule.now) (T.sense tally.now)) vs.old }
 {
@@ -164,7 +161,6 @@ fn is_source<S: Copy, V: Copy>(u: &Node<S, V>) -> bool
 }
 
 /// Over all arcs of the nodes of the layer us, which stand first.
-#[tactic(auto, using(std::proofs::lemmas::Bool::Decides::nat_tests, std::proofs::lemmas::List::drop_all), unfolding(crate::specs::Passes::crossed_all))]
 fn spread_layer<R: Rule, T: Tally>(
     by: &Setting<'_, R, T>,
     us: &[Node<R::State, T::Value>],

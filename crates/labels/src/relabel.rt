@@ -50,7 +50,6 @@ pub fn relabel<R: Rule, T: Tally>(by: &Setting<'_, R, T>, nodes: &mut [Node<R::S
 }
 
 /// The same where the places that are not in use are known, and have blank labels: it goes over no other than those in use.
-#[tactic(auto, using(std::proofs::lemmas::Bool::Decides::nat_tests, crate::proofs::Laying::used_read), unfolding(crate::specs::Passes::relabelled_used))]
 pub fn relabel_used<R: Rule, T: Tally>(
     by: &Setting<'_, R, T>,
     nodes: &mut [Node<R::State, T::Value>],

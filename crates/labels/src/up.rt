@@ -56,7 +56,7 @@ fn climb_by<S: Copy, V: Copy>(
 }
 
 /// What u gathers from the layer vs after it; a place that is not in use gathers nothing.
-#[tactic(auto, using(crate::proofs::DoorsOut::listed_door, std::proofs::lemmas::List::Sums::fold_more), unfolding(crate::specs::Passes::ups_of, crate::specs::Passes::gathered_up))]
+#[tactic(auto, unfolding(crate::specs::Passes::ups_of, crate::specs::Passes::gathered_up))]
 fn climb_all<S: Copy, V: Copy>(vs: &[Node<S, V>], u: &Node<S, V>) -> Up
     ensures { result ≡ gathered_up (ups_of vs.now u.now) }
 {
@@ -74,7 +74,6 @@ fn climb_all<S: Copy, V: Copy>(vs: &[Node<S, V>], u: &Node<S, V>) -> Up
 }
 
 /// The nodes of the layer us, which stand first, gather from the layer vs after it.
-#[tactic(auto, using(std::proofs::lemmas::Bool::Decides::nat_tests, std::proofs::lemmas::List::drop_all))]
 fn rise_layer<S: Copy, V: Copy>(us: &mut [Node<S, V>], vs: &[Node<S, V>])
     ensures { us.new ≡ renewed (risen vs.now) us.old }
 {
