@@ -1,7 +1,8 @@
 -- What climbs to a node over its arcs, of the upward sets of the layer after it: the arcs alone decide it.
-use Rattle.std.proofs.Common.{◌≡◌, ℕ, zero, suc, ◌+◌, ◌-◌, ◌<◌, ◌≤◌, Bool, true, false, cond, eqb, List, [], ◌∷◌, ◌++◌, map, length, get_or, take, drop, Some, None, Option, sym, refl, ap, ◌∙◌, ap₂, ⊎_elim, zero-add, add-one, arith}
+use Rattle.std.proofs.Common.{◌≡◌, ℕ, zero, suc, ◌+◌, ◌-◌, ◌<◌, ◌≤◌, Bool, cond, List, [], ◌∷◌, ◌++◌, map, length, get_or, take, drop, Some, None, Option, sym, refl, ap, ◌∙◌, ap₂, ⊎_elim, zero-add, add-one, arith}
 use Rattle.std.specs.List.{range_with_len, flat_map}
-use Rattle.std.proofs.lemmas.List.{get_or_past, get_or-map, length-map, take-map, drop-map}
+use Rattle.std.proofs.lemmas.Grind.{common_steps}
+use Rattle.std.proofs.lemmas.List.{drop_more, get_or_past, get_or-map, length-map, take-map, drop-map}
 use Rattle.std.proofs.lemmas.Simd.{map-map}
 use Rattle.std.proofs.lemmas.Bool.{cases_lt, ne_eqb}
 use Rattle.layers.specs.declared.node.Arcs.{Arcs}
@@ -9,12 +10,13 @@ use Rattle.layers.specs.declared.node.Node.{Node}
 use Rattle.layers.specs.declared.node.Down.{Down}
 use Rattle.layers.specs.declared.node.Up.{Up}
 use Rattle.layers.specs.Net.{Outs, Layer, Net, node, target}
-use Rattle.layers.specs.Flow.{gather, cons_if_some, climbs_of, up}
-use Rattle.layers.specs.Labels.{climb, merge_up, ups}
+use Rattle.layers.specs.Flow.{gather, read, cons_if_some, climbs_of, up}
+use Rattle.layers.specs.Labels.{climb, merge_up, no_up, ups}
 use Rattle.layers.specs.Records.{padded_targets}
 use Rattle.layers.proofs.Flows.{table_at}
 use Rattle.layers.proofs.Model.{or_no_up}
 use Rattle.labels.specs.Passes.{numbered, up_by, gathered_up}
+use Rattle.labels.proofs.Folds.{by-doors}
 
 -- over one door: what climbs from the sets with that number
 abbrev pub climbing : List Up → List ℕ → ℕ → List Up
@@ -24,56 +26,24 @@ climbing V to k = map (λ v. climb v (k + 1)) (numbered (get_or to k 0) V)
 abbrev pub climbed : List Up → List ℕ → Up
 climbed V to = gathered_up (flat_map (climbing V to) (range_with_len 0 16))
 
--- the sets with the number suc b are those that the net gives
-abbrev pub Linked : List (Option Up) → List Up → ℕ → Type 0
-Linked us V b = (x : Up) × (get_or us b None ≡ Some x) × (numbered (suc b) V ≡ x ∷ [])
-
 gathered_up-is : (xs : List Up) → gathered_up xs ≡ or_no_up (gather merge_up xs)
 unfolding gathered_up gather
 gathered_up-is [] = refl
 gathered_up-is (x ∷ xs) = refl
 
-first_of : {X : Type 0} (k : ℕ) (xs : List X) (d : X) → k < length xs → take 1 (drop k xs) ≡ get_or xs k d ∷ []
-first_of k [] d h = absurd (omega arith)
-first_of zero (x ∷ xs) d h = refl
-first_of (suc k) (x ∷ xs) d h = first_of k xs d (omega arith)
-
 pub numbered-at : {X : Type 0} (b : ℕ) (vs : List X) (d : X) → b < length vs → numbered (suc b) vs ≡ get_or vs b d ∷ []
 numbered-at b vs d h =
     let less : suc b - 1 ≡ b = omega arith in
     ap (λ (q : Bool). cond q [] (take 1 (drop (suc b - 1) vs))) (ne_eqb (suc b) 0 (λ e. omega arith))
-    ∙ ap (λ (k : ℕ). take 1 (drop k vs)) less ∙ first_of b vs d h
+    ∙ ap (λ (k : ℕ). take 1 (drop k vs)) less ∙ ap (take 1) (drop_more vs b d h)
 
-pub linked : (us : List (Option Up)) (V : List Up) (b : ℕ) (x d : Up) → b < length V → get_or us b None ≡ Some x → get_or V b d ≡ x → Linked us V b
-linked us V b x d h e q = (x, e, numbered-at b V d h ∙ ap (λ y. y ∷ []) q)
+-- the sets with the number suc b are those that the net gives
+abbrev pub Linked : List (Option Up) → List Up → ℕ → Type 0
+Linked us V b = (b < length V) × (get_or us b None ≡ Some (get_or V b no_up))
 
-climb-link : (us : List (Option Up)) (V : List Up) (b j : ℕ) (rest : List Up) → Linked us V b → map (λ v. climb v j) (numbered (suc b) V) ++ rest ≡ cons_if_some climb j (get_or us b None) rest
-climb-link us V b j rest (x, e, n) = ap (λ ys. map (λ v. climb v j) ys ++ rest) n ∙ ap (λ o. cons_if_some climb j o rest) (sym e)
-
-climb-none : (V : List Up) (to : List ℕ) (k : ℕ) → get_or to k 0 ≡ 0 → climbing V to k ≡ []
-climb-none V to k e = ap (λ (t : ℕ). map (λ v. climb v (k + 1)) (numbered t V)) e
-
-doors-up : (us : List (Option Up)) (V : List Up) (ts to : List ℕ) (a m : ℕ) → length ts ≤ m → ((i : ℕ) → i < m → get_or to (a + i) 0 ≡ get_or ts i 0) → ((i b : ℕ) → get_or ts i 0 ≡ suc b → Linked us V b)
-    → flat_map (climbing V to) (range_with_len a m) ≡ climbs_of climb us (suc a) ts
-unfolding climbs_of
-doors-up us V [] to a zero h e g = refl
-doors-up us V (x ∷ ts) to a zero h e g = absurd (omega arith)
-doors-up us V [] to a (suc m) h e g =
-    let here : get_or to a 0 ≡ 0 = ap (λ (k : ℕ). get_or to k 0) (omega arith) ∙ e 0 (omega arith) in
-    ap (λ ys. ys ++ flat_map (climbing V to) (range_with_len (a + 1) m)) (climb-none V to a here)
-    ∙ doors-up us V [] to (a + 1) m (omega arith) (λ i lt. ap (λ (k : ℕ). get_or to k 0) (omega arith) ∙ e (suc i) (omega arith)) (λ i b q. absurd (omega arith))
-doors-up us V (zero ∷ ts) to a (suc m) h e g =
-    let here : get_or to a 0 ≡ 0 = ap (λ (k : ℕ). get_or to k 0) (omega arith) ∙ e 0 (omega arith) in
-    ap (λ ys. ys ++ flat_map (climbing V to) (range_with_len (a + 1) m)) (climb-none V to a here)
-    ∙ doors-up us V ts to (a + 1) m (omega arith) (λ i lt. ap (λ (k : ℕ). get_or to k 0) (omega arith) ∙ e (suc i) (omega arith)) (λ i b q. g (suc i) b q)
-    ∙ ap (λ (k : ℕ). climbs_of climb us (suc k) ts) (add-one a)
-doors-up us V (suc b ∷ ts) to a (suc m) h e g =
-    let here : get_or to a 0 ≡ suc b = ap (λ (k : ℕ). get_or to k 0) (omega arith) ∙ e 0 (omega arith) in
-    ap (λ (t : ℕ). map (λ v. climb v (a + 1)) (numbered t V) ++ flat_map (climbing V to) (range_with_len (a + 1) m)) here
-    ∙ ap (λ ys. map (λ v. climb v (a + 1)) (numbered (suc b) V) ++ ys)
-    (doors-up us V ts to (a + 1) m (omega arith) (λ i lt. ap (λ (k : ℕ). get_or to k 0) (omega arith) ∙ e (suc i) (omega arith)) (λ i b q. g (suc i) b q) ∙ ap (λ (k : ℕ). climbs_of climb us (suc k) ts) (add-one a))
-    ∙ climb-link us V b (a + 1) (climbs_of climb us (suc (suc a)) ts) (g 0 b refl)
-    ∙ ap (λ (j : ℕ). cons_if_some climb j (get_or us b None) (climbs_of climb us (suc (suc a)) ts)) (add-one a)
+climb-step : (us : List (Option Up)) (V : List Up) (to : List ℕ) (k t : ℕ) (rest : List Up) → get_or to k 0 ≡ t → ((b : ℕ) → t ≡ suc b → Linked us V b) → climbing V to k ++ rest ≡ cons_if_some climb (suc k) (read us t) rest
+climb-step us V to k zero rest e g = rw e refl
+climb-step us V to k (suc b) rest e g = let (lt, is) = g b refl in rw (e, numbered-at b V no_up lt, is, add-one k) refl
 
 -- at a place of a layer, in use or not: what the net says
 pub node-climbed : (L : Layer) (Ls : Net) (V : List Up) (a : ℕ) → length (node L a) ≤ 16 → ((j b : ℕ) → target (node L a) j ≡ suc b → Linked (ups Ls) V b)
@@ -82,10 +52,13 @@ unfolding ups up climbs_of gather gathered_up
 node-climbed L Ls V a h g =
     let nd = node L a in
     let f : Outs → Option Up = λ nd. gather merge_up (climbs_of climb (ups Ls) 1 nd) in
-    ap gathered_up (doors-up (ups Ls) V nd (padded_targets nd) 0 16 h (λ i lt. ap (λ (k : ℕ). get_or (padded_targets nd) k 0) (zero-add i) ∙ table_at 16 i (λ k. get_or nd k 0) 0 lt) (λ i b e. g (suc i) b e))
+    let at : (k i : ℕ) → 0 + i ≡ k → i < 16 → get_or (padded_targets nd) k 0 ≡ get_or nd i 0 = λ k i q lt. rw (← q, zero-add i) (table_at 16 i (λ k. get_or nd k 0) 0 lt) in
+    ap gathered_up (by-doors (climbing V (padded_targets nd)) (climbs_of climb (ups Ls)) nd 0 16 h (λ j. refl)
+    (λ k i q ge lt. rw (at k i q lt ∙ get_or_past nd i 0 ge) refl)
+    (λ k i rest q lt. climb-step (ups Ls) V (padded_targets nd) k (get_or nd i 0) (climbs_of climb (ups Ls) (suc (suc k)) rest) (at k i q (omega arith)) (λ b e. g (suc i) b e)))
     ∙ gathered_up-is (climbs_of climb (ups Ls) 1 nd)
     ∙ ⊎_elim (λ lt. ap or_no_up (sym (get_or-map f L a [] None lt)))
-    (λ ge. ap (λ x. or_no_up (f x)) (get_or_past L a [] ge) ∙ ap or_no_up (sym (get_or_past (map f L) a None (omega (arith, length-map L f)))))
+    (λ ge. rw (get_or_past L a [] ge, get_or_past (map f L) a None (omega (arith, length-map L f))) refl)
     (cases_lt a (length L))
 
 -- ---- of records
@@ -94,12 +67,8 @@ pub doors-same : {X : Type 0} (F G : ℕ → List X) (a m : ℕ) → ((k : ℕ) 
 doors-same F G a zero h = refl
 doors-same F G a (suc m) h = ap₂ (λ xs ys. xs ++ ys) (h a (omega arith)) (doors-same F G (a + 1) m (λ k lt. h k (omega arith)))
 
-map-cond : {X Y : Type 0} (f : X → Y) (q : Bool) (xs : List X) → map f (cond q [] xs) ≡ cond q [] (map f xs)
-map-cond f true xs = refl
-map-cond f false xs = refl
-
 numbered-map : {X Y : Type 0} (f : X → Y) (t : ℕ) (vs : List X) → map f (numbered t vs) ≡ numbered t (map f vs)
-numbered-map f t vs = map-cond f (eqb t 0) (take 1 (drop (t - 1) vs)) ∙ ap (λ ys. cond (eqb t 0) [] ys) (sym (take-map f 1 (drop (t - 1) vs)) ∙ ap (take 1) (sym (drop-map f (t - 1) vs)))
+numbered-map f t vs = grind (arith, common_steps, take-map, drop-map)
 
 module _ {S V : Type 0} where
   abbrev pub arcs_of : Node S V → Arcs

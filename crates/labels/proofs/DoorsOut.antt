@@ -1,28 +1,23 @@
 -- The doors that have an arc, in place of all sixteen
-use Rattle.std.proofs.Common.{◌≡◌, ℕ, ◌+◌, ◌<◌, ◌≤◌, Bool, true, false, cond, not, eqb, List, [], ◌∷◌, ◌++◌, length, get_or, take, set, fold, sym, refl, ap, ◌∙◌, ⊎_elim, append-nil, arith}
+use Rattle.std.proofs.Common.{◌≡◌, ℕ, ◌+◌, ◌<◌, ◌≤◌, Bool, cond, not, eqb, List, [], ◌∷◌, ◌++◌, length, get_or, take, set, fold, refl, arith}
 use mir.Val.{bool_byte}
-use Rattle.std.specs.List.{range_with_len, filter, flat_map}
-use Rattle.std.proofs.lemmas.Bool.{cases_eq, eq-eqb, ne_eqb}
+use Rattle.std.specs.List.{range_with_len, filter}
+use Rattle.std.proofs.lemmas.Bool.Decides.{nat_tests}
 use Rattle.std.proofs.lemmas.Grind.{common_steps}
-use Rattle.std.proofs.lemmas.List.{take-set, take_more_set}
 use Rattle.std.proofs.lemmas.List.Elements.{filter-append}
 use Rattle.labels.specs.Passes.{doors_out}
 use Rattle.labels.proofs.Folds.{counting_more}
 
 pub byte-most : (q : Bool) → bool_byte q ≤ 1
-byte-most true = omega arith
-byte-most false = omega arith
+byte-most q = grind (arith, common_steps)
 
 put-next : (q : Bool) (xs : List ℕ) (m k : ℕ) → m < length xs → take (m + bool_byte q) (set xs m k) ≡ take m xs ++ cond q (k ∷ []) []
-put-next true xs m k lt = take_more_set xs m k lt
-put-next false xs m k lt = ap (λ (i : ℕ). take i (set xs m k)) (omega arith) ∙ take-set xs m k ∙ sym (append-nil (take m xs))
+put-next q xs m k lt = grind (arith, common_steps)
 
 -- of the numbers below k those with a property, and k written behind them, which counts only if it has it
-pub listed-more : (p : ℕ → Bool) (xs : List ℕ) (m k : ℕ) → m < length xs → take m xs ≡ filter p (range_with_len 0 k)
+pub listed_more : (p : ℕ → Bool) (xs : List ℕ) (m k : ℕ) → m < length xs → take m xs ≡ filter p (range_with_len 0 k)
     → take (m + bool_byte (p k)) (set xs m k) ≡ filter p (range_with_len 0 (k + 1))
-listed-more p xs m k lt e =
-    put-next (p k) xs m k lt ∙ ap (λ ys. ys ++ cond (p k) (k ∷ []) []) e
-    ∙ sym (filter-append p (range_with_len 0 k) (k ∷ [])) ∙ ap (filter p) (sym (counting_more k))
+listed_more p xs m k lt e = grind (arith, common_steps, put-next (p k) xs m k lt, filter-append p (range_with_len 0 k) (k ∷ []), counting_more k, e)
 
 -- a fold over all doors that does nothing where there is no arc
 pub folded_out : {B : Type 0} (f : B → ℕ → B) (to : List ℕ) → ((b : B) (k : ℕ) → get_or to k 0 ≡ 0 → f b k ≡ b) → (b : B) → fold f b (range_with_len 0 16) ≡ fold f b (doors_out to)
@@ -30,17 +25,7 @@ folded_out {B} f to none b = go b (range_with_len 0 16)
   where
     go : (b : B) (ks : List ℕ) → fold f b ks ≡ fold f b (filter (λ k. not (eqb (get_or to k 0) 0)) ks)
     go b [] = refl
-    go b (k ∷ ks) =
-        ⊎_elim (λ e. rw (eq-eqb (get_or to k 0) 0 e) (ap (λ c. fold f c ks) (none b k e) ∙ go b ks)) (λ n. rw (ne_eqb (get_or to k 0) 0 n) (go (f b k) ks)) (cases_eq (get_or to k 0) 0)
-
--- and what all doors bring, if one with no arc brings nothing
-pub brought_out : {X : Type 0} (F : ℕ → List X) (to : List ℕ) → ((k : ℕ) → get_or to k 0 ≡ 0 → F k ≡ []) → flat_map F (range_with_len 0 16) ≡ flat_map F (doors_out to)
-brought_out F to none = go (range_with_len 0 16)
-  where
-    go : (ks : List ℕ) → flat_map F ks ≡ flat_map F (filter (λ k. not (eqb (get_or to k 0) 0)) ks)
-    go [] = refl
-    go (k ∷ ks) =
-        ⊎_elim (λ e. rw (eq-eqb (get_or to k 0) 0 e) (ap (λ xs. xs ++ flat_map F ks) (none k e) ∙ go ks)) (λ n. rw (ne_eqb (get_or to k 0) 0 n) (ap (λ xs. F k ++ xs) (go ks))) (cases_eq (get_or to k 0) 0)
+    go b (k ∷ ks) = grind (arith, nat_tests, none b k, go b ks, go (f b k) ks)
 
 -- each is one of the sixteen
 pub listed_door : (xs : List ℕ) (m i : ℕ) → ((a : ℕ) → a < m → get_or xs a 0 < 16) → i < length (take m xs) → get_or (take m xs) i 0 < 16

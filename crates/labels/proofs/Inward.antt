@@ -1,38 +1,23 @@
 -- What the code's pass adds up at a record is what flows in over the arcs.
-use Rattle.std.proofs.Common.{◌≡◌, ℕ, zero, suc, ◌+◌, ◌<◌, ◌≤◌, Bool, true, false, cond, eqb, List, [], ◌∷◌, ◌++◌, length, get_or, Some, None, Option, sym, refl, ap, ◌∙◌, ap₂, zero-add, add-one, arith}
+use Rattle.std.proofs.Common.{◌≡◌, ℕ, zero, suc, ◌+◌, ◌<◌, ◌≤◌, false, cond, eqb, List, [], ◌∷◌, ◌++◌, length, get_or, Some, None, Option, refl, ap, ◌∙◌, ap₂, zero-add, add-one, arith}
 use Rattle.std.specs.List.{range_with_len, flat_map}
-use Rattle.std.proofs.lemmas.Bool.{cond-false, cond_both, ne_eqb}
+use Rattle.std.proofs.lemmas.Grind.{common_steps}
+use Rattle.std.proofs.lemmas.Bool.Decides.{nat_tests}
 use Rattle.std.proofs.lemmas.List.{get_or_past}
 use Rattle.labels.proofs.Folds.{by-doors}
-use Rattle.layers.specs.declared.node.Node.{Node}
 use Rattle.layers.specs.declared.node.Down.{Down}
 use Rattle.layers.specs.Net.{table, Outs, Layer, node}
-use Rattle.layers.specs.Flow.{put, arrivals_by_door, arrivals_at, gather}
+use Rattle.layers.specs.Flow.{arrivals_by_door, arrivals_at, gather}
 use Rattle.layers.specs.Labels.{arrival_over, merge, no_up}
-use Rattle.layers.specs.Records.{is_used, nodes_in, padded_targets, record_of_place}
+use Rattle.layers.specs.Records.{nodes_in, padded_targets, record_of_place}
 use Rattle.layers.proofs.Flows.{table_at}
 use Rattle.labels.specs.Passes.{by_door, from_node, gathered}
 use Rattle.layers.proofs.Model.{or_blank}
 use Rattle.layers.specs.Settings.{Setting}
 
 module _ {S V : Type 0} (by : Setting S V) where
-  -- each node of the layer has a label, with a last place
-  abbrev pub Standing : List (Option (Down S V)) → Layer → Type 0
-  Standing labs L = (a : ℕ) → a < length L → (l : Down S V) × (get_or labs a None ≡ Some l) × (eqb l.lasts 0 ≡ false)
-
-  -- no node has more than 16 doors
-  abbrev pub Narrow : Layer → Type 0
-  Narrow L = (a : ℕ) → length (node L a) ≤ 16
-
   abbrev pub over-door : ℕ → List ℕ → Down S V → ℕ → List (Down S V)
   over-door t to l k = cond (eqb (get_or to k 0) t) (arrival_over by l (k + 1) ∷ []) []
-
-  put-cond : (q : Bool) (x : Down S V) (rest : List (Down S V)) → cond q (x ∷ []) [] ++ rest ≡ put q x rest
-  put-cond true x rest = refl
-  put-cond false x rest = refl
-
-  no-door : (b : ℕ) (to : List ℕ) (l : Down S V) (k : ℕ) → get_or to k 0 ≡ 0 → over-door (suc b) to l k ≡ []
-  no-door b to l k e = cond-false (eqb (get_or to k 0) (suc b)) _ [] (ne_eqb (get_or to k 0) (suc b) (λ h. omega arith))
 
   -- over m doors from a on, of which those past ts have no arc
   pub doors-in : (b : ℕ) (l : Down S V) (ts to : List ℕ) (a m : ℕ) → length ts ≤ m → ((i : ℕ) → i < m → get_or to (a + i) 0 ≡ get_or ts i 0)
@@ -40,53 +25,29 @@ module _ {S V : Type 0} (by : Setting S V) where
   unfolding arrivals_by_door
   doors-in b l ts to a m h e =
       by-doors (over-door (suc b) to l) (arrivals_by_door (arrival_over by) b l) ts a m h (λ j. refl)
-      (λ k i q ge lt. no-door b to l k (ap (λ (k : ℕ). get_or to k 0) (sym q) ∙ e i lt ∙ get_or_past ts i 0 ge))
-      (λ k i rest q lt. rw (← q, e i (omega arith), q, add-one k)
-      (put-cond (eqb (get_or ts i 0) (suc b)) (arrival_over by l (suc k)) (arrivals_by_door (arrival_over by) b l (suc (suc k)) rest)))
+      (λ k i q ge lt. let none : get_or to k 0 ≡ 0 = rw (← q, e i lt) (get_or_past ts i 0 ge) in grind (arith, nat_tests, none))
+      (λ k i rest q lt. rw (← q, e i (omega arith), q, add-one k) (grind (arith, common_steps)))
 
-  -- a record with these targets and this label
-  abbrev made : Outs → Down S V → Node S V
-  made nd l = record { arcs = record { to = padded_targets nd }; label = record { down = l; up = no_up } }
-
-  from-doors : (b : ℕ) (nd : Outs) (l : Down S V) → length nd ≤ 16
-      → flat_map (over-door (suc b) (padded_targets nd) l) (range_with_len 0 16) ≡ arrivals_by_door (arrival_over by) b l 1 nd
-  from-doors b nd l h = doors-in b l nd (padded_targets nd) 0 16 h (λ i g. ap (λ (k : ℕ). get_or (padded_targets nd) k 0) (zero-add i) ∙ table_at 16 i (λ k. get_or nd k 0) 0 g)
-
-  from-used : (b : ℕ) (nd : Outs) (l : Down S V) → length nd ≤ 16 → eqb l.lasts 0 ≡ false → from_node by (suc b) (made nd l) ≡ arrivals_by_door (arrival_over by) b l 1 nd
+  from-used : (b : ℕ) (nd : Outs) (l : Down S V) → length nd ≤ 16 → eqb l.lasts 0 ≡ false
+      → from_node by (suc b) (record { arcs = record { to = padded_targets nd }; label = record { down = l; up = no_up } }) ≡ arrivals_by_door (arrival_over by) b l 1 nd
   unfolding from_node by_door
-  from-used b nd l h e = rw e (from-doors b nd l h)
+  from-used b nd l h e = rw e (doors-in b l nd (padded_targets nd) 0 16 h (λ i g. ap (λ (k : ℕ). get_or (padded_targets nd) k 0) (zero-add i) ∙ table_at 16 i (λ k. get_or nd k 0) 0 g))
 
-  from-bare : (b : ℕ) (l : Down S V) → from_node by (suc b) (made [] l) ≡ []
-  unfolding from_node by_door arrivals_by_door
-  from-bare b l = cond_both (eqb l.lasts 0) [] (flat_map (over-door (suc b) (padded_targets []) l) (range_with_len 0 16)) (λ ys. ys ≡ []) (λ _. refl)
-      (λ _. from-doors b [] l (omega arith))
-
-  -- places without arcs
-  cut-none : (b : ℕ) (q : Bool) (x : Node S V) (us : List (Node S V)) → from_node by (suc b) x ≡ [] → flat_map (from_node by (suc b)) us ≡ []
-      → flat_map (from_node by (suc b)) (cond q (x ∷ us) []) ≡ []
-  cut-none b true x us e f = ap₂ (λ ys zs. ys ++ zs) e f
-  cut-none b false x us e f = refl
-
-  none_in : (b w : ℕ) (labs : List (Option (Down S V))) → flat_map (from_node by (suc b)) (nodes_in (table w (record_of_place by [] labs []))) ≡ []
-  none_in b zero labs = refl
-  none_in b (suc w) [] = refl
-  none_in b (suc w) (o ∷ labs) =
-      let x = made [] (or_blank by.rule by.tally o) in
-      cut-none b (is_used x) x (nodes_in (table w (record_of_place by [] labs []))) (from-bare b x.label.down) (none_in b w labs)
-
-  pub arrivals-in : (b w : ℕ) (labs : List (Option (Down S V))) (L : Layer) → Standing labs L → Narrow L → length L ≤ w
-      → flat_map (from_node by (suc b)) (nodes_in (table w (record_of_place by L labs []))) ≡ arrivals_at (arrival_over by) b labs L
+  -- each node of the layer has a label, with a last place, and at most 16 doors
+  pub arrivals-in : (b w : ℕ) (labs : List (Option (Down S V))) (L : Layer) → length labs ≡ length L → length L ≤ w → ((a : ℕ) → a < length L → (l : Down S V) × (get_or labs a None ≡ Some l) × (eqb l.lasts 0 ≡ false))
+      → ((a : ℕ) → length (node L a) ≤ 16) → flat_map (from_node by (suc b)) (nodes_in (table w (record_of_place by L labs []))) ≡ arrivals_at (arrival_over by) b labs L
   unfolding arrivals_at
-  arrivals-in b w [] [] s n h = none_in b w []
-  arrivals-in b w (o ∷ labs) [] s n h = none_in b w (o ∷ labs)
-  arrivals-in b w [] (nd ∷ L) s n h = let e = (s 0 (omega arith)).1 in absurd cc
-  arrivals-in b w (None ∷ labs) (nd ∷ L) s n h = let e = (s 0 (omega arith)).1 in absurd cc
-  arrivals-in b zero (Some l ∷ labs) (nd ∷ L) s n h = absurd (omega arith)
-  arrivals-in b (suc w) (Some l ∷ labs) (nd ∷ L) s n h =
+  arrivals-in b zero [] [] e h s n = refl
+  arrivals-in b (suc w) [] [] e h s n = refl
+  arrivals-in b w [] (nd ∷ L) e h s n = absurd (omega arith)
+  arrivals-in b w (o ∷ labs) [] e h s n = absurd (omega arith)
+  arrivals-in b zero (o ∷ labs) (nd ∷ L) e h s n = absurd (omega arith)
+  arrivals-in b (suc w) (None ∷ labs) (nd ∷ L) e h s n = let e = (s 0 (omega arith)).1 in absurd cc
+  arrivals-in b (suc w) (Some l ∷ labs) (nd ∷ L) e h s n =
       let here = s 0 (omega arith) in
       let same : l ≡ here.0 = cc in
       let used : eqb l.lasts 0 ≡ false = rw same here.2 in
-      rw used (ap₂ (λ xs ys. xs ++ ys) (from-used b nd l (n 0) used) (arrivals-in b w labs L (λ a lt. s (suc a) (omega arith)) (λ a. n (suc a)) (omega arith)))
+      rw used (ap₂ (λ xs ys. xs ++ ys) (from-used b nd l (n 0) used) (arrivals-in b w labs L (omega arith) (omega arith) (λ a lt. s (suc a) (omega arith)) (λ a. n (suc a))))
 
   pub gathered-is : (xs : List (Down S V)) → gathered by.rule by.tally xs ≡ or_blank by.rule by.tally (gather (merge by.rule by.tally) xs)
   unfolding gathered gather

@@ -1,35 +1,27 @@
 -- What the passes keep: the arcs, and each pass the labels of the other.
-use Rattle.std.proofs.Common.{◌≡◌, ℕ, zero, suc, ◌+◌, ◌-◌, ◌*◌, eqb, List, [], ◌∷◌, ◌++◌, map, get_or, take, drop, fold, sym, refl, ap, ◌∙◌, ap₂}
-use Rattle.std.specs.List.{range_with_len}
-use Rattle.std.proofs.lemmas.Bool.{cond_both}
+use Rattle.std.proofs.Common.{◌≡◌, ℕ, zero, suc, ◌-◌, ◌*◌, List, [], ◌∷◌, ◌++◌, map, take, drop, sym, refl, ap, ◌∙◌, ap₂, arith}
 use Rattle.std.proofs.lemmas.List.{map-append, take-map, take-append-drop}
 use Rattle.std.proofs.Math.Seq.{map-set_same}
 use Rattle.layers.specs.declared.node.Node.{Node}
-use Rattle.layers.specs.declared.node.Arcs.{Arcs}
-use Rattle.layers.specs.declared.node.Label.{Label}
 use Rattle.layers.specs.declared.node.Down.{Down}
 use Rattle.layers.specs.declared.node.Up.{Up}
-use Rattle.layers.specs.Labels.{arrival_over, blank_label, no_up}
-use Rattle.layers.specs.Records.{is_used}
+use Rattle.layers.specs.Labels.{no_up}
 use Rattle.layers.specs.Settings.{Setting}
-use Rattle.labels.specs.Passes.{with_down, with_up, bare, blank_node, cleared, unlabelled, begun, renewed, sources, landed, hit, crossed, spread, crossed_all, next_renewed, end_renewed, renewed_after, risen, risen_from, pass_up, relabelled_used, relabelled}
-use Rattle.labels.proofs.Climbs.{arcs_of, down_of, up_of}
+use Rattle.labels.specs.Passes.{with_down, with_up, bare, blank_node, cleared, unlabelled, begun, renewed, sources, spread, crossed_all, next_renewed, end_renewed, renewed_after, risen, risen_from, pass_up, relabelled_used, relabelled}
+use Rattle.labels.proofs.Climbs.{arcs_of, up_of}
 use Rattle.labels.proofs.Folds.{folded_keeps}
+use Rattle.labels.proofs.Scattered.{spread-has}
 
 module _ {S V : Type 0} where
-  -- records are the same by their arcs and their labels
-  pub same-records : (xs ys : List (Node S V)) → map arcs_of xs ≡ map arcs_of ys → map down_of xs ≡ map down_of ys → map up_of xs ≡ map up_of ys → xs ≡ ys
-  same-records [] [] a d u = refl
-  same-records [] (y ∷ ys) a d u = absurd cc
-  same-records (x ∷ xs) [] a d u = absurd cc
-  same-records (x ∷ xs) (y ∷ ys) a d u =
-      let rest : map arcs_of xs ≡ map arcs_of ys = cc in
-      let ds : map down_of xs ≡ map down_of ys = cc in
-      let us : map up_of xs ≡ map up_of ys = cc in
-      let arcs : x.arcs ≡ y.arcs = cc in
-      let down : x.label.down ≡ y.label.down = cc in
-      let up : x.label.up ≡ y.label.up = cc in
-      ap₂ (λ z zs. z ∷ zs) (ap₂ (λ (o : Arcs) (l : Label S V). record { arcs = o; label = l }) arcs (ap₂ (λ (o : Down S V) (u : Up). record { down = o; up = u }) down up)) (same-records xs ys rest ds us)
+  -- records are the same by their upward sets and by what else they have
+  pub same-records : (xs ys : List (Node S V)) → map bare xs ≡ map bare ys → map up_of xs ≡ map up_of ys → xs ≡ ys
+  same-records [] [] b u = refl
+  same-records [] (y ∷ ys) b u = absurd cc
+  same-records (x ∷ xs) [] b u = absurd cc
+  same-records (x ∷ xs) (y ∷ ys) b u =
+      let one : bare x ≡ bare y = cc in
+      let up : up_of x ≡ up_of y = cc in
+      ap₂ (λ z zs. z ∷ zs) (ap₂ (λ (z : Node S V) (v : Up). with_up z v) one up) (same-records xs ys (cc) (cc))
 
   pub fronts : {X : Type 0} (f : Node S V → X) (k : ℕ) (xs ys : List (Node S V)) → map f xs ≡ map f ys → map f (take k xs) ≡ map f (take k ys)
   fronts f k xs ys e = sym (take-map f k xs) ∙ ap (take k) e ∙ take-map f k ys
@@ -38,13 +30,13 @@ module _ {S V : Type 0} where
   pub in-parts : {X : Type 0} (f : Node S V → X) (k : ℕ) (A B xs : List (Node S V)) → map f A ≡ map f (take k xs) → map f B ≡ map f (drop k xs) → map f (A ++ B) ≡ map f xs
   in-parts f k A B xs a b = map-append f A B ∙ ap₂ (λ ys zs. ys ++ zs) a b ∙ sym (map-append f (take k xs) (drop k xs)) ∙ ap (map f) (take-append-drop k xs)
 
-  each-kept : {X : Type 0} (f : Node S V → X) (g : Node S V → Node S V) → ((x : Node S V) → f (g x) ≡ f x) → (us : List (Node S V)) → map f (map g us) ≡ map f us
+  pub each-kept : {X : Type 0} (f : Node S V → X) (g : Node S V → Node S V) → ((x : Node S V) → f (g x) ≡ f x) → (us : List (Node S V)) → map f (map g us) ≡ map f us
   each-kept f g h [] = refl
-  each-kept f g h (u ∷ us) = ap₂ (λ y ys. y ∷ ys) (h u) (each-kept f g h us)
+  each-kept f g h (u ∷ us) = grind (arith, h u, each-kept f g h us)
 
   renewed-keeps : {X : Type 0} (f : Node S V → X) (g : Node S V → Node S V) → ((x : Node S V) → f (g x) ≡ f x) → (us : List (Node S V)) → map f (renewed g us) ≡ map f us
   renewed-keeps f g h [] = refl
-  renewed-keeps f g h (u ∷ us) = cond_both (is_used u) (g u ∷ renewed g us) (u ∷ us) (λ ys. map f ys ≡ f u ∷ map f us) (λ _. ap₂ (λ y ys. y ∷ ys) (h u) (renewed-keeps f g h us)) (λ _. refl)
+  renewed-keeps f g h (u ∷ us) = grind (arith, h u, renewed-keeps f g h us)
 
   -- ---- the pass up keeps what is not an upward set
   module _ {X : Type 0} (f : Node S V → X) (h : (x : Node S V) (u : Up) → f (with_up x u) ≡ f x) where
@@ -57,31 +49,19 @@ module _ {S V : Type 0} (by : Setting S V) where
   -- ---- the pass down keeps what is not a downward label
   module _ {X : Type 0} (f : Node S V → X) (h : (x : Node S V) (l : Down S V) → f (with_down x l) ≡ f x) where
     crossed-keeps : (us vs : List (Node S V)) → map f (crossed_all by us vs) ≡ map f vs
-    unfolding crossed_all spread crossed hit landed
+    unfolding crossed_all
     crossed-keeps us vs =
         let P : List (Node S V) → Type 0 = λ ys. map f ys ≡ map f vs in
-        folded_keeps P (spread by)
-        (λ ys u e. cond_both (eqb u.label.down.lasts 0) ys (fold (crossed by u) ys (range_with_len 0 16)) P (λ _. e)
-        (λ _. folded_keeps P (crossed by u)
-        (λ ys k e. cond_both (eqb (get_or u.arcs.to k 0) 0) ys (landed by.rule by.tally ys (get_or u.arcs.to k 0 - 1) (arrival_over by u.label.down (k + 1))) P (λ _. e)
-        (λ _. map-set_same f ys (get_or u.arcs.to k 0 - 1) _ (blank_node by.rule by.tally) (h _ _) ∙ e))
-        ys (range_with_len 0 16) e))
-        vs (sources us) refl
-
-    abbrev blank : Down S V
-    blank = blank_label by.rule by.tally
-
-    abbrev clear : Node S V → Node S V
-    clear = cleared by.rule by.tally
+        folded_keeps P (spread by) (spread-has by P (λ ys i l e. map-set_same f ys i _ (blank_node by.rule by.tally) (h _ _) ∙ e)) vs (sources us) refl
 
     pub renewals-keep : (k : ℕ) (xs : List (Node S V)) → map f (renewed_after by k xs) ≡ map f xs
     unfolding renewed_after next_renewed end_renewed
     renewals-keep zero xs =
         let rest = drop by.width xs in
-        in-parts f by.width _ _ xs refl (in-parts f 1 _ _ rest (crossed-keeps (take by.width xs) (map clear (take 1 rest)) ∙ each-kept f clear (λ x. h x blank) (take 1 rest)) refl)
+        in-parts f by.width _ _ xs refl (in-parts f 1 _ _ rest (crossed-keeps (take by.width xs) (map (cleared by.rule by.tally) (take 1 rest)) ∙ each-kept f (cleared by.rule by.tally) (λ x. h x _) (take 1 rest)) refl)
     renewals-keep (suc k) xs =
         let rest = drop by.width xs in
-        in-parts f by.width _ _ xs refl (renewals-keep k _ ∙ in-parts f by.width _ _ rest (crossed-keeps (take by.width xs) (renewed clear (take by.width rest)) ∙ renewed-keeps f clear (λ x. h x blank) (take by.width rest)) refl)
+        in-parts f by.width _ _ xs refl (renewals-keep k _ ∙ in-parts f by.width _ _ rest (crossed-keeps (take by.width xs) (renewed (cleared by.rule by.tally) (take by.width rest)) ∙ renewed-keeps f (cleared by.rule by.tally) (λ x. h x _) (take by.width rest)) refl)
 
     pub begun-keeps : (xs : List (Node S V)) → map f (begun by.rule by.tally xs) ≡ map f xs
     begun-keeps [] = refl

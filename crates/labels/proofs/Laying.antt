@@ -1,14 +1,13 @@
 -- The two passes over records with the arcs of a net leave the net laid out with its labels.
-use Rattle.std.proofs.Common.{◌≡◌, ℕ, zero, suc, ◌+◌, ◌-◌, ◌*◌, ◌<◌, ◌≤◌, Bool, true, false, cond, not, eqb, List, [], ◌∷◌, ◌++◌, map, length, get_or, take, drop, Some, None, fold, Option, sym, refl, ap, ◌∙◌, subst, ap₂, inl, ⊎_elim, append_assoc, suc-mul, zero-mul, zero-add, add-one, arith}
-use Rattle.std.specs.List.{range_with_len, flat_map, AllByRecursion as All}
-use Rattle.std.proofs.ByRecursion.{All-from_get_or}
-use Rattle.std.proofs.Math.Nat.{mul-le-mul_right}
+use Rattle.std.proofs.Common.{◌≡◌, ℕ, zero, suc, ◌+◌, ◌-◌, ◌*◌, ◌<◌, ◌≤◌, Bool, true, false, cond, not, eqb, List, [], ◌∷◌, ◌++◌, map, length, get_or, take, drop, Some, None, Option, sym, refl, ap, ◌∙◌, subst, ap₂, ⊎_elim, append_assoc, suc-mul, zero-mul, add-one, arith}
+use Rattle.std.specs.List.{flat_map}
 use Rattle.round.specs.Clock.{latest_finish}
 use Rattle.std.proofs.lemmas.List.FromFn.{get_or-map-range_with_len, length-map-range_with_len}
 use Rattle.std.proofs.Math.Seq.{take-add}
-use Rattle.std.proofs.lemmas.List.{map-append, same_lists, get_or-map, get_or_past, length-map, drop-drop, drop-map, drop_at, take-map, take_at, length-take, length-take-le, length-drop, get_or-take, get_or-drop, get_or_append_left}
+use Rattle.std.proofs.lemmas.List.{map-append, same_lists, get_or-map, get_or_past, length-map, drop-drop, drop-map, drop-take, drop_at, take-map, take-take, take_at, length-take, length-take-le, length-drop, get_or-take, get_or-drop, get_or_append_left}
 use Rattle.std.proofs.lemmas.Simd.{map-map}
-use Rattle.std.proofs.lemmas.Bool.{cases_lt, cond_both, ne_eqb}
+use Rattle.std.proofs.lemmas.Grind.{common_steps}
+use Rattle.std.proofs.lemmas.Bool.{cases_lt, le-leb}
 use Rattle.layers.specs.declared.node.Arcs.{Arcs}
 use Rattle.layers.specs.declared.node.Node.{Node}
 use Rattle.layers.specs.declared.node.Down.{Down}
@@ -17,22 +16,21 @@ use Rattle.layers.specs.declared.node.Up.{Up}
 use Rattle.layers.specs.Net.{table, Layer, Net, node, target, width}
 use Rattle.layers.specs.Flow.{arrivals_at, gather, next, climbs_of, up}
 use Rattle.layers.specs.Lawful.{IsRanged, IsTied, IsRoomy, IsEven, IsLawful}
-use Rattle.layers.specs.Labels.{arrival_over, merge, first_label, first_labels, labels_next, climb, merge_up, no_up, ups}
+use Rattle.layers.specs.Labels.{leg, arrival_over, merge, first_label, first_labels, labels_next, climb, merge_up, no_up, ups}
 use Rattle.layers.specs.Records.{is_used, nodes_in, arcs_read, laid_arcs, arcs_at, record_of_place, labelled_from, labelled_records}
-use Rattle.layers.proofs.Flows.{table_at, Among, ins-from}
-use Rattle.layers.proofs.Bridge.{table-long, map-table, labels_full, ups-full}
+use Rattle.layers.proofs.Flows.{table_at, ins-from, next-some, gather-all, gather-any}
+use Rattle.layers.proofs.Bridge.{table-long, map-table, ups-full, ups-end, Fit, Full, full-first}
 use Rattle.layers.specs.Calls.{records_with}
 use Rattle.layers.proofs.Proper.{RangedAll, tied-ranged}
-use Rattle.labels.specs.Passes.{with_up, blank_node, by_door, from_node, arrivals, gathered, labelled, next_layer, up_by, ups_of, gathered_up, renewed, begun, renewed_after, Early, HasUps, HasDownsBefore, unused_label, HasPlaces, risen, risen_from, unlabelled, bare, pass_up, relabelled_used, relabelled}
-use Rattle.std.proofs.lemmas.Nat.{pow_pos}
+use Rattle.labels.specs.Passes.{with_up, blank_node, by_door, from_node, arrivals, gathered, labelled, next_layer, up_by, ups_of, gathered_up, renewed, begun, renewed_after, Early, HasUps, HasDownsBefore, fits, below_steps, unused_label, HasPlaces, risen, risen_from, unlabelled, bare, pass_up, relabelled_used, relabelled}
 pub use Rattle.labels.proofs.Climbs.{arcs_of}
-use Rattle.labels.proofs.Climbs.{down_of, Linked, linked, node-climbed, climbed-is, up_of}
-use Rattle.labels.proofs.Folds.{folded_keeps}
-use Rattle.labels.proofs.Scattered.{or_some}
-use Rattle.labels.proofs.Inward.{Standing, Narrow, arrivals-in, gathered-is}
-use Rattle.labels.proofs.Earlies.{early-last, next-early}
-use Rattle.labels.proofs.Keeps.{renewals-keep, begun-keeps, rises_keep, same-records, fronts, in-parts}
-use Rattle.labels.proofs.Places.{next-is, end-is, Stands, Idle, Blank, Ready, renewed-map, idle-stays}
+use Rattle.labels.proofs.Climbs.{down_of, node-climbed, climbed-is, up_of}
+use Rattle.labels.proofs.Inward.{arrivals-in, gathered-is}
+use Rattle.labels.proofs.Legs.{leg_most}
+use Rattle.labels.proofs.Rooms.{room-facts}
+use Rattle.round.proofs.Clocks.{clock-laws}
+use Rattle.labels.proofs.Keeps.{renewals-keep, rises_keep, same-records, fronts, in-parts}
+use Rattle.labels.proofs.Places.{next-is, end-is, Stands, Blank, Ready, renewed-map, idle-stays}
 use Rattle.layers.proofs.Model.{or_blank, or_no_up}
 use Rattle.layers.specs.Settings.{Setting}
 
@@ -76,19 +74,18 @@ good-net n w (L ∷ Ls) h even room t = (few n L h even.0, room.0, t.0, good-net
 pub split : {X Y : Type 0} (f : X → Y) (w m : ℕ) (xs : List X) → map f (take (w + m) xs) ≡ map f (take w xs) ++ map f (take m (drop w xs))
 split f w m xs = ap (map f) (take-add w m xs) ∙ map-append f (take w xs) (take m (drop w xs))
 
+-- what is seen of the front of a list, in two parts
+halves : {X Y : Type 0} (g : X → Y) (n m : ℕ) (xs : List X) (zs : List Y) → map g (take (n + m) xs) ≡ zs → (map g (take n xs) ≡ take n zs) × (map g (take m (drop n xs)) ≡ drop n zs)
+halves g n m xs zs e = (grind (arith, take-take n (n + m) xs, take-map g n (take (n + m) xs), e), grind (arith, drop-take n m xs, drop-map g n (take (n + m) xs), e))
+
 pub arranged-of : {S V : Type 0} (w : ℕ) (Ls : Net) (xs : List (Node S V)) → length Ls * w + 1 ≤ length xs → arcs_read (take (length Ls * w + 1) xs) ≡ laid_arcs w Ls → Arranged w Ls xs
 arranged-of w [] xs h e = let one : 1 ≡ 0 * w + 1 = omega (arith, zero-mul w) in ap (λ (k : ℕ). map arcs_of (take k xs)) one ∙ e
 arranged-of w (L ∷ Ls) xs h e =
     let m = length Ls * w + 1 in
     let both : suc (length Ls) * w + 1 ≡ w + m = omega (arith, suc-mul (length Ls) w) in
-    let A = map arcs_of (take w xs) in
-    let B = map arcs_of (take m (drop w xs)) in
-    let g = arcs_at L in
-    let whole : A ++ B ≡ table w g ++ laid_arcs w Ls = sym (split arcs_of w m xs) ∙ ap (λ (k : ℕ). map arcs_of (take k xs)) (sym both) ∙ e in
-    let long : length A ≡ w = length-map (take w xs) arcs_of ∙ length-take-le w xs (omega (arith, both)) in (
-      sym (take_at A B w long) ∙ ap (take w) whole ∙ take_at (table w g) (laid_arcs w Ls) w (table-long w g),
-      arranged-of w Ls (drop w xs) (omega (arith, both, length-drop w xs)) (sym (drop_at A B w long) ∙ ap (drop w) whole ∙ drop_at (table w g) (laid_arcs w Ls) w (table-long w g)),
-    )
+    let long : length (table w (arcs_at L)) ≡ w = table-long w (arcs_at L) in
+    let parts = halves arcs_of w m xs (table w (arcs_at L) ++ laid_arcs w Ls) (rw both at e) in
+    (parts.0 ∙ take_at (table w (arcs_at L)) (laid_arcs w Ls) w long, arranged-of w Ls (drop w xs) (omega (arith, both, length-drop w xs)) (parts.1 ∙ drop_at (table w (arcs_at L)) (laid_arcs w Ls) w long))
 
 -- so the list has room for them
 arranged-room : {S V : Type 0} (w : ℕ) (Ls : Net) (xs : List (Node S V)) → Arranged w Ls xs → length Ls * w < length xs
@@ -106,299 +103,333 @@ abbrev past : {X : Type 0} → ℕ → ℕ → List X → List X
 past w zero xs = drop 1 xs
 past w (suc k) xs = past w k (drop w xs)
 
+pub one-more : (k w : ℕ) → suc k * w ≡ w + k * w
+one-more k w = omega (arith, suc-mul k w)
+
 past-is : {X : Type 0} (w k : ℕ) (xs : List X) → past w k xs ≡ drop (k * w + 1) xs
-past-is w zero xs = let one : 1 ≡ 0 * w + 1 = omega (arith, zero-mul w) in ap (λ (k : ℕ). drop k xs) one
-past-is w (suc k) xs =
-    let both : w + (k * w + 1) ≡ suc k * w + 1 = omega (arith, suc-mul k w) in
-    past-is w k (drop w xs) ∙ drop-drop (k * w + 1) w xs ∙ ap (λ (i : ℕ). drop i xs) both
+past-is w zero xs = rw (zero-mul w) refl
+past-is w (suc k) xs = past-is w k (drop w xs) ∙ drop-drop (k * w + 1) w xs ∙ ap (λ (i : ℕ). drop i xs) (omega (arith, one-more k w))
 
--- ---- down
+-- how many records the first of these layers has, and the layer
+abbrev pub records : ℕ → Net → ℕ
+records w [] = 1
+records w (L ∷ Ls) = w
+
+abbrev pub first : Net → Layer
+first [] = []
+first (L ∷ Ls) = L
+
+pub ups-long : (L : Layer) (Ls : Net) → length (ups (L ∷ Ls)) ≡ length L
+unfolding ups up
+ups-long L Ls = length-map L (λ nd. gather merge_up (climbs_of climb (ups Ls) 1 nd))
+
 module _ {S V : Type 0} (by : Setting S V) where
-  cut-both : {X Y : Type 0} (F : X → List Y) (q : Bool) (xs ys : List X) → flat_map F xs ≡ flat_map F ys → flat_map F (cond q xs []) ≡ flat_map F (cond q ys [])
-  cut-both F true xs ys e = e
-  cut-both F false xs ys e = refl
+  -- ---- the records of a net
+  pub front-of : (labs : List (Option (Down S V))) (Ls : Net) (later : List (Node S V)) → take (records by.width Ls) (labelled_from by labs Ls ++ later) ≡ table (records by.width Ls) (record_of_place by (first Ls) labs (ups Ls))
+  unfolding labelled_from ups up
+  front-of labs [] later = refl
+  front-of labs (L ∷ Ls) later =
+      let T = record_of_place by L labs (ups (L ∷ Ls)) in
+      rw (append_assoc (table by.width T) (labelled_from by (labels_next by labs L (width Ls)) Ls) later) (take_at (table by.width T) _ by.width (table-long by.width T))
 
+  pub back-of : (labs : List (Option (Down S V))) (L : Layer) (Ls : Net) (later : List (Node S V)) → drop by.width (labelled_from by labs (L ∷ Ls) ++ later) ≡ labelled_from by (labels_next by labs L (width Ls)) Ls ++ later
+  unfolding labelled_from
+  back-of labs L Ls later =
+      let T = record_of_place by L labs (ups (L ∷ Ls)) in
+      rw (append_assoc (table by.width T) (labelled_from by (labels_next by labs L (width Ls)) Ls) later) (drop_at (table by.width T) _ by.width (table-long by.width T))
+
+  -- what g sees of layers in which it sees what it sees of the net's
+  rows : {X : Type 0} (g : Node S V → X) (m : ℕ) (labs : List (Option (Down S V))) (L : Layer) (Ls : Net) (xs later : List (Node S V))
+      → map g (take (suc m * by.width) xs) ≡ map g (take (suc m * by.width) (labelled_from by labs (L ∷ Ls) ++ later))
+      → (map g (take by.width xs) ≡ table by.width (λ a. g (record_of_place by L labs (ups (L ∷ Ls)) a)))
+      × (map g (take (m * by.width) (drop by.width xs)) ≡ map g (take (m * by.width) (labelled_from by (labels_next by labs L (width Ls)) Ls ++ later)))
+  rows g m labs L Ls xs later e =
+      let Y = labelled_from by labs (L ∷ Ls) ++ later in
+      let h = halves g by.width (m * by.width) xs (map g (take (by.width + m * by.width) Y)) (rw (one-more m by.width) at e) in
+      let k = halves g by.width (m * by.width) Y (map g (take (by.width + m * by.width) Y)) refl in (
+        h.0 ∙ sym k.0 ∙ ap (map g) (front-of labs (L ∷ Ls) later) ∙ map-table g by.width (record_of_place by L labs (ups (L ∷ Ls))),
+        h.1 ∙ sym k.1 ∙ ap (λ ys. map g (take (m * by.width) ys)) (back-of labs L Ls later),
+      )
+
+  -- ---- down
   bare-from : (t : ℕ) (us : List (Node S V)) → flat_map (from_node by t) (nodes_in (map bare us)) ≡ flat_map (from_node by t) (nodes_in us)
   unfolding from_node by_door
   bare-from t [] = refl
-  bare-from t (u ∷ us) = cut-both (from_node by t) (is_used u) (bare u ∷ nodes_in (map bare us)) (u ∷ nodes_in us) (ap (λ ys. from_node by t u ++ ys) (bare-from t us))
-
-  in-nothing : (b m : ℕ) (labs : List (Option (Down S V))) (L : Layer) → IsRanged L m → m ≤ b → arrivals_at (arrival_over by) b labs L ≡ []
-  in-nothing b m labs L g h = go (arrivals_at (arrival_over by) b labs L) refl
-    where
-      go : (xs : List (Down S V)) → arrivals_at (arrival_over by) b labs L ≡ xs → arrivals_at (arrival_over by) b labs L ≡ []
-      go [] e = e
-      go (x ∷ xs) e =
-          let f = ins-from (arrival_over by) b labs L x (subst (Among x) (sym e) (inl refl)) in
-          absurd (omega (arith, g f.source f.door b f.arc))
+  bare-from t (u ∷ us) = grind (arith, common_steps, bare-from t us)
 
   next-label : (b m : ℕ) (labs : List (Option (Down S V))) (L : Layer) → IsRanged L m
       → or_blank by.rule by.tally (gather (merge by.rule by.tally) (arrivals_at (arrival_over by) b labs L)) ≡ or_blank by.rule by.tally (get_or (labels_next by labs L m) b None)
-  unfolding labels_next next gather
+  unfolding labels_next next
   next-label b m labs L g =
       let f : ℕ → Option (Down S V) = λ b. gather (merge by.rule by.tally) (arrivals_at (arrival_over by) b labs L) in
-      ⊎_elim
-      (λ h. ap (or_blank by.rule by.tally) (sym (table_at m b f None h)))
-      (λ h. ap (λ xs. or_blank by.rule by.tally (gather (merge by.rule by.tally) xs)) (in-nothing b m labs L g h)
-      ∙ ap (or_blank by.rule by.tally) (sym (get_or_past (table m f) b None (omega (arith, table-long m f)))))
-      (cases_lt b m)
+      ap (or_blank by.rule by.tally)
+      (⊎_elim (λ h. sym (table_at m b f None h)) (λ h. none h (f b) refl ∙ sym (get_or_past (table m f) b None (omega (arith, table-long m f)))) (cases_lt b m))
+    where
+      none : m ≤ b → (o : Option (Down S V)) → gather (merge by.rule by.tally) (arrivals_at (arrival_over by) b labs L) ≡ o → gather (merge by.rule by.tally) (arrivals_at (arrival_over by) b labs L) ≡ None
+      none h None e = e
+      none h (Some x) e =
+          let i = gather-any (merge by.rule by.tally) (arrivals_at (arrival_over by) b labs L) x e in
+          let f = ins-from (arrival_over by) b labs L i.0 i.1 in
+          absurd (omega (arith, g f.source f.door b f.arc))
+
+  -- no label has a finish past what the clock allows after e arcs
+  abbrev Soon : ℕ → List (Option (Down S V)) → Type 0
+  Soon e labs = (a : ℕ) (l : Down S V) → get_or labs a None ≡ Some l → l.finish ≤ latest_finish e
+
+  arrive-soon : (k : ℕ) (u : Down S V) (j : ℕ) → u.finish ≤ latest_finish k → (arrival_over by u j).finish ≤ latest_finish (suc k)
+  unfolding arrival_over
+  arrive-soon k u j h = (clock-laws by.round).bound k u.finish (leg by.round u.lasts j) j h (leg_most by.round u.lasts j)
+
+  soon-next : (e : ℕ) (labs : List (Option (Down S V))) (L : Layer) (m : ℕ) → Soon e labs → Soon (suc e) (labels_next by labs L m)
+  unfolding labels_next merge
+  soon-next e labs L m s a l q =
+      gather-all (merge by.rule by.tally) (λ x. x.finish ≤ latest_finish (suc e)) (λ x y p q. omega arith) (arrivals_at (arrival_over by) a labs L) l
+      (λ x i. let f = ins-from (arrival_over by) a labs L x i in rw f.is (arrive-soon e f.label f.door (s f.source f.label f.labelled)))
+      (next-some (arrival_over by) (merge by.rule by.tally) labs L m a l q)
+
+  soon-all : (e w : ℕ) (labs : List (Option (Down S V))) (L : Layer) (us : List (Node S V)) → e ≤ 15 → Soon e labs → map bare us ≡ table w (record_of_place by L labs [])
+      → (a : ℕ) (d : Node S V) → a < length us → Early (latest_finish 15) (get_or us a d)
+  soon-all e w labs L us le s is a d lt = grind (arith, common_steps, s a, mapped-at bare (record_of_place by L labs []) w us a d is (omega (arith, mapped-long bare (record_of_place by L labs []) w us is)))
+
+-- ---- layers whose nodes have labels
+module _ {S V : Type 0} (by : Setting S V) (wide : 1 ≤ by.width) where
+  -- a layer as the pass down leaves it: the arcs and the labels of the net, and no upward sets past its nodes
+  record Front (w : ℕ) (labs : List (Option (Down S V))) (L : Layer) (us : List (Node S V)) : Type 0 where
+    is : map bare us ≡ table w (record_of_place by L labs [])
+    spare : (a : ℕ) (d : Node S V) → length L ≤ a → a < length us → (get_or us a d).label.up ≡ no_up
+
+  front-long : (w : ℕ) (labs : List (Option (Down S V))) (L : Layer) (us : List (Node S V)) → Front w labs L us → length us ≡ w
+  front-long w labs L us f = mapped-long bare (record_of_place by L labs []) w us f.is
+
+  next-at : (us vs : List (Node S V)) (b : ℕ) (d : Node S V) → b < length vs → get_or (next_layer by us vs) b d ≡ labelled by us vs b
+  unfolding next_layer
+  next-at us vs b d lt = get_or-map-range_with_len (labelled by us vs) 0 (length vs) b b d lt (omega arith)
 
   -- the m records after the layer us
-  next-block : (w m cnt : ℕ) (labs : List (Option (Down S V))) (L M : Layer) (us vs : List (Node S V)) → Standing by labs L → Narrow by L → length L ≤ w → IsRanged L cnt
-      → map bare us ≡ table w (record_of_place by L labs []) → map arcs_of vs ≡ table m (arcs_at M)
-      → map bare (next_layer by us vs) ≡ table m (record_of_place by M (labels_next by labs L cnt) [])
+  next-block : (m : ℕ) (labs : List (Option (Down S V))) (L : Layer) (Ls : Net) (M : Layer) (us vs : List (Node S V)) → Fit by wide labs L Ls → IsTied (L ∷ Ls) → map bare us ≡ table by.width (record_of_place by L labs [])
+      → map arcs_of vs ≡ table m (arcs_at M) → map bare (next_layer by us vs) ≡ table m (record_of_place by M (labels_next by labs L (width Ls)) [])
   unfolding next_layer labelled
-  next-block w m cnt labs L M us vs g n fits ranged eu ev =
-      let f = labelled by us vs in
-      let count = length vs in
-      let z = blank_node by.rule by.tally in
-      let many : count ≡ m = mapped-long arcs_of (arcs_at M) m vs ev in
-      mapped-is bare (record_of_place by M (labels_next by labs L cnt) []) m (map f (range_with_len 0 count)) (length-map-range_with_len f 0 count ∙ many)
-      (λ b d h.
-      ap bare (get_or-map-range_with_len f 0 count b b d (omega (arith, many)) (omega arith))
-      ∙ ap₂ (λ (a : Arcs) (l : Down S V). record { arcs = a; label = record { down = l; up = no_up } }) (mapped-at arcs_of (arcs_at M) m vs b z ev h) (label_same b))
-    where
-      label_same : (b : ℕ) → gathered by.rule by.tally (arrivals by (b + 1) (nodes_in us)) ≡ or_blank by.rule by.tally (get_or (labels_next by labs L cnt) b None)
-      label_same b =
-          ap (λ (t : ℕ). gathered by.rule by.tally (arrivals by t (nodes_in us))) (add-one b)
-          ∙ ap (gathered by.rule by.tally) (sym (bare-from (suc b) us) ∙ ap (λ xs. flat_map (from_node by (suc b)) (nodes_in xs)) eu ∙ arrivals-in by b w labs L g n fits)
-          ∙ gathered-is by (arrivals_at (arrival_over by) b labs L) ∙ next-label b cnt labs L ranged
+  next-block m labs L Ls M us vs fit tied eu ev =
+      let many : length vs ≡ m = mapped-long arcs_of (arcs_at M) m vs ev in
+      mapped-is bare (record_of_place by M (labels_next by labs L (width Ls)) []) m (next_layer by us vs) (length-map-range_with_len (labelled by us vs) 0 (length vs) ∙ many)
+      (λ b d h. ap bare (next-at us vs b d (omega arith))
+      ∙ ap₂ (λ (a : Arcs) (l : Down S V). record { arcs = a; label = record { down = l; up = no_up } }) (mapped-at arcs_of (arcs_at M) m vs b (blank_node by.rule by.tally) ev h)
+      (ap (λ (t : ℕ). gathered by.rule by.tally (arrivals by t (nodes_in us))) (add-one b)
+      ∙ ap (gathered by.rule by.tally) (sym (bare-from by (suc b) us) ∙ ap (λ xs. flat_map (from_node by (suc b)) (nodes_in xs)) eu
+      ∙ arrivals-in by b by.width labs L fit.filled.long fit.room (λ a lt. let l = fit.filled.there a lt in (l.0, l.1, fit.filled.lasting a l.0 l.1)) (few by.round.n L by.round.most fit.even))
+      ∙ gathered-is by (arrivals_at (arrival_over by) b labs L) ∙ next-label by b (width Ls) labs L (tied-ranged (L ∷ Ls) tied).0))
 
-  some-last : (b : ℕ) (labs : List (Option (Down S V))) (L : Layer) (l : Down S V) → gather (merge by.rule by.tally) (arrivals_at (arrival_over by) b labs L) ≡ Some l → 0 < l.lasts
-  unfolding gather merge arrival_over
-  some-last b labs L l e = go (arrivals_at (arrival_over by) b labs L) refl e
-    where
-      go : (xs : List (Down S V)) → arrivals_at (arrival_over by) b labs L ≡ xs → gather (merge by.rule by.tally) xs ≡ Some l → 0 < l.lasts
-      go [] i e = let z : ◌≡◌ {A = ℕ} 0 1 = cc in absurd (omega arith)
-      go (x ∷ xs) i e =
-          let f = ins-from (arrival_over by) b labs L x (subst (Among x) (sym i) (inl refl)) in
-          let first_label : 0 < x.lasts = subst (λ (y : Down S V). 0 < y.lasts) (sym f.is) (pow_pos f.door) in
-          let all : 0 < (fold (merge by.rule by.tally) x xs).lasts = folded_keeps (λ (y : Down S V). 0 < y.lasts) (merge by.rule by.tally) (λ y z h. or_some by y.lasts z.lasts h) x xs first_label in
-          let same : fold (merge by.rule by.tally) x xs ≡ l = cc in
-          subst (λ (y : Down S V). 0 < y.lasts) same all
+  next-front : (labs : List (Option (Down S V))) (L M : Layer) (Ls : Net) (us vs : List (Node S V)) → Fit by wide labs L (M ∷ Ls) → IsTied (L ∷ M ∷ Ls) → Front by.width labs L us
+      → map arcs_of vs ≡ table by.width (arcs_at M) → (m : ℕ) → m ≤ length M → Stands (Blank by) m vs → Front by.width (labels_next by labs L (length M)) M (next_layer by us vs)
+  unfolding labelled
+  next-front labs L M Ls us vs fit tied f arr m le blank =
+      let is = next-block by.width labs L (M ∷ Ls) M us vs fit tied f.is arr in
+      let long = mapped-long bare (record_of_place by M (labels_next by labs L (length M)) []) by.width (next_layer by us vs) is in
+      record {
+        is = is;
+        spare = λ a d ge lt.
+            ap up_of (next-at us vs a d (omega (arith, mapped-long arcs_of (arcs_at M) by.width vs arr))) ∙ ap (λ (l : Label S V). l.up) ((blank a (blank_node by.rule by.tally) (omega (arith, mapped-long arcs_of (arcs_at M) by.width vs arr))).1 (omega arith));
+      }
 
-  standing-next : (labs : List (Option (Down S V))) (L M : Layer) (Ls : Net) → length M ≤ by.width → IsTied (L ∷ M ∷ Ls) → Standing by labs L
-      → Standing by (labels_next by labs L (length M)) M
-  unfolding labels_next next
-  standing-next labs L M Ls room tied s b h =
-      let f : ℕ → Option (Down S V) = λ b. gather (merge by.rule by.tally) (arrivals_at (arrival_over by) b labs L) in
-      let l = labels_full by (omega arith) labs L M Ls tied (λ a lt. ((s a lt).0, (s a lt).1)) b h in
-      (l.0, l.1, ne_eqb l.0.lasts 0 (λ z. omega (arith, some-last b labs L l.0 (sym (table_at (length M) b f None h) ∙ l.1))))
+  -- ---- up
+  -- an arc leads to a node with upward sets
+  leads : (labs : List (Option (Down S V))) (L : Layer) (Ls : Net) → Full by wide labs Ls → IsTied (L ∷ Ls) → (a j b : ℕ) → target (node L a) j ≡ suc b → (b < records by.width Ls) × ((x : Up) × (get_or (ups Ls) b None ≡ Some x))
+  leads labs L [] full tied a j b t = (tied a j b t, (no_up, ups-end b (omega (arith, tied a j b t))))
+  leads labs L (M ∷ Ls) full tied a j b t = (omega (arith, tied.0 a j b t, full.0.room), ups-full M Ls tied.2 tied.3 b (tied.0 a j b t))
 
-  -- the labels of the net, over the records
-  abbrev Half : List (Option (Down S V)) → Net → List (Node S V) → Type 0
-  Half labs [] ys = map bare (take 1 ys) ≡ table 1 (record_of_place by [] labs [])
-  Half labs (L ∷ Ls) ys = (map bare (take by.width ys) ≡ table by.width (record_of_place by L labs [])) × Half (labels_next by labs L (width Ls)) Ls (drop by.width ys)
-
-  down-laid : (k e : ℕ) (labs : List (Option (Down S V))) (L : Layer) (Ls : Net) (xs : List (Node S V)) → length Ls ≡ k → e + k ≤ 15 → All (Early (latest_finish e)) (take by.width xs)
-      → Good by.width (L ∷ Ls) → IsTied (L ∷ Ls) → Standing by labs L
-      → map bare (take by.width xs) ≡ table by.width (record_of_place by L labs []) → Arranged by.width Ls (drop by.width xs) → Ready by Ls (drop by.width xs)
-      → Half labs (L ∷ Ls) (renewed_after by k xs) × (past by.width (suc k) (renewed_after by k xs) ≡ past by.width (suc k) xs)
-  unfolding renewed_after
-  down-laid zero e labs L [] xs k few early good tied last here arr ready =
-      let us = take by.width xs in
-      let N = next_layer by us (take 1 (drop by.width xs)) in
-      let D = drop 1 (drop by.width xs) in
-      let nb = next-block by.width 1 1 labs L [] us (take 1 (drop by.width xs)) last good.0 good.1 good.2 here arr in
-      let us-long = mapped-long bare (record_of_place by L labs []) by.width us here in
-      let n-long = mapped-long bare (record_of_place by [] (labels_next by labs L 1) []) 1 N nb in
-      rw (end-is by us (drop by.width xs) (early-last e us (omega arith) early), take_at us (N ++ D) by.width us-long, drop_at us (N ++ D) by.width us-long, take_at N D 1 n-long, drop_at N D 1 n-long) ((here, nb), refl)
-  down-laid zero e labs L (M ∷ Ls) xs k few early good tied last here arr ready = absurd (omega arith)
-  down-laid (suc k) e labs L [] xs q few early good tied last here arr ready = absurd (omega arith)
-  down-laid (suc k) e labs L (M ∷ Ls) xs q few early good tied last here arr ready =
-      let labs' = labels_next by labs L (length M) in
-      let us = take by.width xs in
-      let vs = take by.width (drop by.width xs) in
-      let N = next_layer by us vs in
-      let D = drop by.width (drop by.width xs) in
-      let nb = next-block by.width by.width (length M) labs L M us vs last good.0 good.1 good.2 here arr.0 in
-      let us-long = mapped-long bare (record_of_place by L labs []) by.width us here in
-      let n-long = mapped-long bare (record_of_place by M labs' []) by.width N nb in
-      let Z = renewed_after by k (N ++ D) in
-      let ih = down-laid k (suc e) labs' M Ls (N ++ D) (omega arith) (omega arith) (rw (take_at N D by.width n-long) (next-early by e us vs early)) good.3 tied.3 (standing-next labs L M Ls good.3.1 tied last)
-      (rw (take_at N D by.width n-long) nb) (rw (drop_at N D by.width n-long) arr.1) (rw (drop_at N D by.width n-long) ready.1) in
-      rw (next-is by ready.0.0 us vs (early-last e us (omega arith) early) ready.0.2, take_at us Z by.width us-long, drop_at us Z by.width us-long) ((here, ih.0), ih.1 ∙ ap (past by.width k) (drop_at N D by.width n-long))
-
--- ---- up
-module _ {S V : Type 0} (by : Setting S V) where
-  node-ups : (L : Layer) (Ls : Net) (labs : List (Option (Down S V))) (vs : List (Node S V)) (a : ℕ) → Standing by labs L → length (node L a) ≤ 16 → ((j b : ℕ) → target (node L a) j ≡ suc b → Linked (ups Ls) (map up_of vs) b)
-      → gathered_up (ups_of vs (record_of_place by L labs [] a)) ≡ or_no_up (get_or (ups (L ∷ Ls)) a None)
-  unfolding ups_of ups up gathered_up
-  node-ups L Ls labs vs a s h g =
-      let u = record_of_place by L labs [] a in
-      let flow = climbed-is vs u ∙ node-climbed L Ls (map up_of vs) a h g in
-      ⊎_elim (λ lt. let l = s a lt in rw (l.1, l.2) flow)
-      (λ ge. cond_both (eqb u.label.down.lasts 0) [] (flat_map (up_by vs u) (range_with_len 0 16)) (λ ys. gathered_up ys ≡ or_no_up (get_or (ups (L ∷ Ls)) a None))
-      (λ _. sym (ap or_no_up (get_or_past (ups (L ∷ Ls)) a None (omega (arith, length-map L (λ nd. gather merge_up (climbs_of climb (ups Ls) 1 nd))))))) (λ _. flow))
+  node-ups : (labs : List (Option (Down S V))) (L : Layer) (Ls : Net) (a : ℕ) → let labs' = labels_next by labs L (width Ls) in Full by wide labs (L ∷ Ls) → IsTied (L ∷ Ls)
+      → gathered_up (ups_of (table (records by.width Ls) (record_of_place by (first Ls) labs' (ups Ls))) (record_of_place by L labs [] a)) ≡ or_no_up (get_or (ups (L ∷ Ls)) a None)
+  unfolding ups_of gathered_up
+  node-ups labs L Ls a full tied =
+      let r = records by.width Ls in
+      let R = record_of_place by (first Ls) (labels_next by labs L (width Ls)) (ups Ls) in
+      let f = full.0.filled in
+      let flow = climbed-is (table r R) (record_of_place by L labs [] a) ∙ node-climbed L Ls (map up_of (table r R)) a (few by.round.n L by.round.most full.0.even a) (λ j b t.
+      let x = leads (labels_next by labs L (width Ls)) L Ls full.1 tied a j b t in
+      (omega (arith, length-map (table r R) up_of, table-long r R, x.0), x.1.1 ∙ ap Some (sym (ap (λ ys. get_or ys b no_up) (map-table up_of r R) ∙ table_at r b (λ k. or_no_up (get_or (ups Ls) k None)) no_up x.0 ∙ ap or_no_up x.1.1)))) in
+      ⊎_elim (λ lt. let l = f.there a lt in rw (l.1, f.lasting a l.0 l.1) flow)
+      (λ ge. rw (get_or_past labs a None (omega (arith, f.long)), get_or_past (ups (L ∷ Ls)) a None (omega (arith, ups-long L Ls))) refl)
       (cases_lt a (length L))
 
-  -- the labels of the first of these layers: one for each of its nodes
-  abbrev StandsFirst : List (Option (Down S V)) → Net → Type 0
-  StandsFirst labs [] = Unit {0}
-  StandsFirst labs (L ∷ Ls) = Standing by labs L × (length labs ≡ length L)
+  -- a layer, and all after it that have their upward sets
+  rise : (labs : List (Option (Down S V))) (L : Layer) (Ls : Net) (us R later : List (Node S V)) → Full by wide labs (L ∷ Ls) → IsTied (L ∷ Ls) → Front by.width labs L us
+      → R ≡ labelled_from by (labels_next by labs L (width Ls)) Ls ++ later → renewed (risen (take (records by.width Ls) R)) us ++ R ≡ labelled_from by labs (L ∷ Ls) ++ later
+  unfolding labelled_from risen ups_of up_by
+  rise labs L Ls us R later full tied front e =
+      let w = by.width in
+      let f = full.0.filled in
+      let B = record_of_place by L labs [] in
+      let T = record_of_place by L labs (ups (L ∷ Ls)) in
+      let vs = table (records w Ls) (record_of_place by (first Ls) (labels_next by labs L (width Ls)) (ups Ls)) in
+      let long = mapped-long bare B w us front.is in
+      let idle : Stands (λ x. (is_used x ≡ false) × (risen vs x ≡ x)) (length L) us = λ a d lt.
+      let at = mapped-at bare B w us a d front.is (omega (arith, long)) in (
+        λ h. ap is_used at ∙ (let l = f.there a h in rw (l.1, f.lasting a l.0 l.1) refl),
+        λ h. unfold risen in idle-stays vs (get_or us a d) (ap (λ (x : Node S V). x.label.down.lasts) at ∙ ap (λ o. (or_blank by.rule by.tally o).lasts) (get_or_past labs a None (omega (arith, f.long)))) (front.spare a d h lt),
+      ) in
+      let risen-us : renewed (risen vs) us ≡ table w T = renewed-map (risen vs) (length L) us idle
+      ∙ mapped-is (risen vs) T w us long (λ a d h. ap (λ (y : Node S V). with_up y (gathered_up (ups_of vs y))) (mapped-at bare B w us a d front.is h) ∙ ap (with_up (B a)) (node-ups labs L Ls a full tied)) in
+      rw (e, front-of by (labels_next by labs L (width Ls)) Ls later, risen-us) (sym (append_assoc (table w T) (labelled_from by (labels_next by labs L (width Ls)) Ls) later))
 
-  ups-long : (L : Layer) (Ls : Net) → length (ups (L ∷ Ls)) ≡ length L
-  unfolding ups up
-  ups-long L Ls = length-map L (λ nd. gather merge_up (climbs_of climb (ups Ls) 1 nd))
+  -- ---- both
+  laid : (e : ℕ) (labs : List (Option (Down S V))) (L : Layer) (Ls : Net) (xs : List (Node S V)) → e + length Ls ≤ 15 → Full by wide labs (L ∷ Ls) → IsTied (L ∷ Ls) → Soon by e labs
+      → Front by.width labs L (take by.width xs) → Arranged by.width Ls (drop by.width xs) → Ready by Ls (drop by.width xs)
+      → risen_from by.width (length Ls) (renewed_after by (length Ls) xs) ≡ labelled_from by labs (L ∷ Ls) ++ past by.width (suc (length Ls)) xs
+  unfolding renewed_after risen_from labelled_from
+  laid e labs L [] xs few full tied soon front arr ready =
+      let w = by.width in
+      let us = take w xs in
+      let vs = take 1 (drop w xs) in
+      let N = next_layer by us vs in
+      let D = drop 1 (drop w xs) in
+      let nb = next-block 1 labs L [] [] us vs full.0 tied front.is arr in
+      let n-long = mapped-long bare (record_of_place by [] (labels_next by labs L 1) []) 1 N nb in
+      rw (end-is by us (drop w xs) (soon-all by e w labs L us (omega arith) soon front.is), take_at us (N ++ D) w (front-long w labs L us front), drop_at us (N ++ D) w (front-long w labs L us front), take_at N D 1 n-long, drop_at N D 1 n-long, nb)
+      (rise labs L [] us (table 1 (record_of_place by [] (labels_next by labs L 1) []) ++ D) D full tied front refl)
+  laid e labs L (M ∷ Ls) xs few full tied soon front arr ready =
+      let w = by.width in
+      let us = take w xs in
+      let vs = take w (drop w xs) in
+      let N = next_layer by us vs in
+      let D = drop w (drop w xs) in
+      let next = next-front labs L M Ls us vs full.0 tied front arr.0 ready.0.0 ready.0.1 ready.0.2 in
+      let n-long = front-long w (labels_next by labs L (length M)) M N next in
+      let k = length Ls in
+      let Z = renewed_after by k (N ++ D) in
+      let ih = laid (suc e) (labels_next by labs L (length M)) M Ls (N ++ D) (omega arith) full.1 tied.3 (soon-next by e labs L (length M) soon)
+      (rw (take_at N D w n-long) next) (rw (drop_at N D w n-long) arr.1) (rw (drop_at N D w n-long) ready.1) in
+      rw (next-is by ready.0.0 us vs (soon-all by e w labs L us (omega arith) soon front.is) ready.0.2, take_at us Z w (front-long w labs L us front), drop_at us Z w (front-long w labs L us front))
+      (rise labs L (M ∷ Ls) us (risen_from w k Z) (past w k D) full tied front (ih ∙ ap (λ ys. labelled_from by (labels_next by labs L (length M)) (M ∷ Ls) ++ past w k ys) (drop_at N D w n-long)))
 
-  tied-on : (L : Layer) (Ls : Net) → IsTied (L ∷ Ls) → IsTied Ls
-  tied-on L [] t = tt
-  tied-on L (M ∷ Ls) t = t.3
+  -- from a layer on, where the labels of the d layers in front of it stand as they should, and k more are between it and the end
+  abbrev below : ℕ → ℕ → List (Node S V) → List (Node S V)
+  below zero k xs = renewed_after by k xs
+  below (suc d) k xs = take by.width xs ++ below d k (drop by.width xs)
 
-  -- past the nodes of its layer a net gives no upward sets, and none stand in the records
-  abbrev pub Spare : Net → List Up → Type 0
-  Spare [] us = Unit {0}
-  Spare (L ∷ Ls) us = ((a : ℕ) → length L ≤ a → a < by.width → get_or (take by.width us) a no_up ≡ no_up) × Spare Ls (drop by.width us)
+  below-is : (d k : ℕ) (xs : List (Node S V)) → below d k xs ≡ take (d * by.width) xs ++ renewed_after by k (drop (d * by.width) xs)
+  below-is zero k xs = rw (zero-mul by.width) refl
+  below-is (suc d) k xs =
+      let w = by.width in
+      rw (one-more d w, take-add w (d * w) xs, ← drop-drop (d * w) w xs, append_assoc (take w xs) (take (d * w) (drop w xs)) (renewed_after by k (drop (d * w) (drop w xs)))) (ap (λ ys. take w xs ++ ys) (below-is d k (drop w xs)))
 
-  -- nodes are in use and other places idle
-  idle-block : (L : Layer) (labs : List (Option (Down S V))) (us : List (Node S V)) → Standing by labs L → length labs ≡ length L → map bare us ≡ table by.width (record_of_place by L labs [])
-      → ((a : ℕ) → length L ≤ a → a < by.width → get_or (map up_of us) a no_up ≡ no_up) → Stands Idle (length L) us
-  idle-block L labs us s deep e spare a d lt =
-      let R = record_of_place by L labs [] in
-      let in_layer : a < by.width = omega (arith, mapped-long bare R by.width us e) in
-      let at : bare (get_or us a d) ≡ R a = mapped-at bare R by.width us a d e in_layer in (
-        λ h. ap is_used at ∙ (let l = s a h in rw (l.1, l.2) refl),
-        λ h. (
-          ap (λ (x : Node S V). x.label.down.lasts) at ∙ ap (λ o. (or_blank by.rule by.tally o).lasts) (get_or_past labs a None (omega arith)),
-          sym (get_or-map up_of us a d no_up lt) ∙ spare a h in_layer,
-        ),
-      )
+  front-laid : (L : Layer) (Ls : Net) (labs : List (Option (Down S V))) (us : List (Node S V)) → map arcs_of us ≡ table by.width (arcs_at L)
+      → map down_of us ≡ table by.width (λ a. down_of (record_of_place by L labs (ups (L ∷ Ls)) a)) → (m : ℕ) → m ≤ length L → Stands (Blank by) m us → Front by.width labs L us
+  front-laid L Ls labs us arr downs m le blank =
+      let w = by.width in
+      record {
+        is = mapped-is bare (record_of_place by L labs []) w us (mapped-long arcs_of (arcs_at L) w us arr)
+            (λ a d lt. ap₂ (λ (o : Arcs) (l : Down S V). record { arcs = o; label = record { down = l; up = no_up } }) (mapped-at arcs_of (arcs_at L) w us a d arr lt)
+            (mapped-at down_of (λ a. down_of (record_of_place by L labs (ups (L ∷ Ls)) a)) w us a d downs lt));
+        spare = λ a d ge lt. ap (λ (l : Label S V). l.up) ((blank a d lt).1 (omega arith));
+      }
 
-  risen-block : (L : Layer) (labs : List (Option (Down S V))) (U : List (Option Up)) (us vs : List (Node S V)) → map bare us ≡ table by.width (record_of_place by L labs [])
-      → Stands Idle (length L) us
-      → ((a : ℕ) → gathered_up (ups_of vs (record_of_place by L labs [] a)) ≡ or_no_up (get_or U a None)) → renewed (risen vs) us ≡ table by.width (record_of_place by L labs U)
-  unfolding risen ups_of up_by
-  risen-block L labs U us vs e idle g =
-      let R = record_of_place by L labs [] in
-      renewed-map Idle (risen vs) (unfold risen in idle-stays vs) (length L) us idle
-      ∙ mapped-is (risen vs) (record_of_place by L labs U) by.width us (mapped-long bare R by.width us e)
-      (λ a d h. ap (λ (y : Node S V). with_up y (gathered_up (ups_of vs y))) (mapped-at bare R by.width us a d e h) ∙ ap (with_up (R a)) (g a))
+  below-laid : (d k e : ℕ) (labs : List (Option (Down S V))) (L : Layer) (Ls : Net) (xs later : List (Node S V)) → length Ls ≡ d + k → e + (d + k) ≤ 15 → Full by wide labs (L ∷ Ls) → IsTied (L ∷ Ls) → Soon by e labs
+      → Arranged by.width (L ∷ Ls) xs → Ready by (L ∷ Ls) xs → map down_of (take (suc d * by.width) xs) ≡ map down_of (take (suc d * by.width) (labelled_from by labs (L ∷ Ls) ++ later))
+      → risen_from by.width (d + k) (below d k xs) ≡ labelled_from by labs (L ∷ Ls) ++ past by.width (suc (d + k)) xs
+  unfolding risen_from
+  below-laid (suc d) k e labs L [] xs later q few full tied soon arr ready downs = absurd (omega arith)
+  below-laid zero k e labs L Ls xs later q few full tied soon arr ready downs =
+      let same : 0 + k ≡ length Ls = sym q in
+      let less : k ≡ length Ls = omega arith in
+      rw (same, less) (laid e labs L Ls xs (omega arith) full tied soon (front-laid L Ls labs (take by.width xs) arr.0 (rows by down_of 0 labs L Ls xs later downs).0 ready.0.0 ready.0.1 ready.0.2) arr.1 ready.1)
+  below-laid (suc d) k e labs L (M ∷ Ls) xs later q few full tied soon arr ready downs =
+      let w = by.width in
+      let us = take w xs in
+      let h = rows by down_of (suc d) labs L (M ∷ Ls) xs later downs in
+      let front = front-laid L (M ∷ Ls) labs us arr.0 h.0 ready.0.0 ready.0.1 ready.0.2 in
+      let Z = below d k (drop w xs) in
+      let one : suc d + k ≡ suc (d + k) = omega arith in
+      rw (one, take_at us Z w (front-long w labs L us front), drop_at us Z w (front-long w labs L us front))
+      (rise labs L (M ∷ Ls) us (risen_from w (d + k) Z) (past w (suc (d + k)) (drop w xs)) full tied front
+      (below-laid d k (suc e) (labels_next by labs L (length M)) M Ls (drop w xs) later (omega arith) (omega arith) full.1 tied.3 (soon-next by e labs L (length M) soon) arr.1 ready.1 h.1))
 
-  next-deep : (labs : List (Option (Down S V))) (L : Layer) (m : ℕ) → length (labels_next by labs L m) ≡ m
-  unfolding labels_next next
-  next-deep labs L m = table-long m _
-
-  stands-on : (labs : List (Option (Down S V))) (L : Layer) (Ls : Net) → IsRoomy by.width (L ∷ Ls) → IsTied (L ∷ Ls) → StandsFirst labs (L ∷ Ls) → StandsFirst (labels_next by labs L (width Ls)) Ls
-  stands-on labs L [] room tied s = tt
-  stands-on labs L (M ∷ Ls) room tied s = (standing-next by labs L M Ls room.1.0 tied s.0, next-deep labs L (length M))
-
-  up-laid : (k : ℕ) (labs : List (Option (Down S V))) (L : Layer) (Ls : Net) (ys : List (Node S V)) → length Ls ≡ k → Good by.width (L ∷ Ls)
-      → IsTied (L ∷ Ls) → Standing by labs L → length labs ≡ length L → Half by labs (L ∷ Ls) ys → Spare (L ∷ Ls) (map up_of ys)
-      → risen_from by.width k ys ≡ labelled_from by labs (L ∷ Ls) ++ past by.width (suc k) ys
-  unfolding labelled_from ups up risen_from
-  up-laid zero labs L [] ys e good tied s deep half spare =
-      let us = take by.width ys in
-      let E = table 1 (record_of_place by [] (labels_next by labs L 1) []) in
-      let D = drop 1 (drop by.width ys) in
-      let idle = idle-block L labs us s deep half.0 (rw (take-map up_of by.width ys) at spare.0) in
-      rw half.1
-      (ap (λ xs. xs ++ (E ++ D)) (risen-block L labs (ups (L ∷ [])) us E half.0 idle (λ a. node-ups L [] labs E a s (good.0 a) (λ j b t. let z : b ≡ 0 = omega (arith, tied a j b t) in
-      linked (ups []) (map up_of E) b no_up no_up (omega (arith, z)) (ap (λ (i : ℕ). get_or {A = Option Up} (Some no_up ∷ []) i None) z) (ap (λ (i : ℕ). get_or (map up_of E) i no_up) z))))
-      ∙ sym (append_assoc (table by.width (record_of_place by L labs (ups (L ∷ [])))) E D))
-  up-laid zero labs L (M ∷ Ls) ys e good tied s deep half spare = absurd (omega arith)
-  up-laid (suc k) labs L [] ys e good tied s deep half spare = absurd (omega arith)
-  up-laid (suc k) labs L (M ∷ Ls) ys e good tied s deep half spare =
-      let labs' = labels_next by labs L (length M) in
-      let us = take by.width ys in
-      let U = ups (M ∷ Ls) in
-      let VS = table by.width (record_of_place by M labs' U) in
-      let X = labelled_from by (labels_next by labs' M (width Ls)) Ls in
-      let later = past by.width (suc k) (drop by.width ys) in
-      let idle = idle-block L labs us s deep half.0 (rw (take-map up_of by.width ys) at spare.0) in
-      let ih : risen_from by.width k (drop by.width ys) ≡ (VS ++ X) ++ later = up-laid k labs' M Ls (drop by.width ys) (omega arith) good.3 tied.3
-      (standing-next by labs L M Ls good.3.1 tied s) (next-deep labs L (length M)) half.1 (rw (drop-map up_of by.width ys) at spare.1) in
-      let front : take by.width ((VS ++ X) ++ later) ≡ VS = ap (take by.width) (append_assoc VS X later) ∙ take_at VS (X ++ later) by.width (table-long by.width (record_of_place by M labs' U)) in
-      rw (ih, front)
-      (ap (λ x. x ++ ((VS ++ X) ++ later)) (risen-block L labs (ups (L ∷ M ∷ Ls)) us VS half.0 idle (λ a. node-ups L (M ∷ Ls) labs VS a s (good.0 a) (λ j b t.
-      let lt : b < length M = tied.0 a j b t in
-      let room : b < by.width = omega (arith, good.3.1) in
-      let x = ups-full M Ls tied.2 tied.3 b lt in
-      linked U (map up_of VS) b x.0 no_up (omega (arith, length-map VS up_of, table-long by.width (record_of_place by M labs' U))) x.1
-      (ap (λ ys. get_or ys b no_up) (map-table up_of by.width (record_of_place by M labs' U)) ∙ table_at by.width b (λ k. or_no_up (get_or U k None)) no_up room ∙ ap or_no_up x.1))))
-      ∙ sym (append_assoc (table by.width (record_of_place by L labs (ups (L ∷ M ∷ Ls)))) (VS ++ X) later))
-
-  -- ---- both passes
-  first_row : Layer → ℕ → Node S V
-  first_row L = record_of_place by L (first_labels by.rule by.tally) []
+  soon-first : Soon by 0 (first_labels by.rule by.tally)
+  soon-first zero l e = let x : first_label by.rule by.tally ≡ l = cc in rw (← x) (omega arith)
+  soon-first (suc a) l e = absurd cc
 
   -- the layer of the first node, begun
-  front-begun : (w m : ℕ) (L : Layer) (xs : List (Node S V)) → 1 ≤ w → m ≤ 1 → Stands (Blank by) m (take w xs) → map arcs_of (take w xs) ≡ table w (arcs_at L)
-      → (map bare (take w (begun by.rule by.tally xs)) ≡ table w (first_row L)) × (drop w (begun by.rule by.tally xs) ≡ drop w xs)
-  unfolding first_row
-  front-begun zero m L xs low few s arr = absurd (omega arith)
-  front-begun (suc w) m L [] low few s arr = absurd cc
-  front-begun (suc w) m L (x ∷ xs) low few s arr =
+  front-begun : (w m : ℕ) (L : Layer) (xs : List (Node S V)) → 1 ≤ w → length L ≡ 1 → m ≤ 1 → Stands (Blank by) m (take w xs) → map arcs_of (take w xs) ≡ table w (arcs_at L)
+      → Front w (first_labels by.rule by.tally) L (take w (begun by.rule by.tally xs)) × (drop w (begun by.rule by.tally xs) ≡ drop w xs)
+  front-begun zero m L xs low one few s arr = absurd (omega arith)
+  front-begun (suc w) m L [] low one few s arr = absurd cc
+  front-begun (suc w) m L (x ∷ xs) low one few s arr =
       let here : x.arcs ≡ arcs_at L 0 = cc in
       let others : map arcs_of (take w xs) ≡ table w (λ k. arcs_at L (suc k)) = cc in
+      let long = mapped-long arcs_of (λ k. arcs_at L (suc k)) w (take w xs) others in
       let made : Arcs → Down S V → Node S V = λ o l. record { arcs = o; label = record { down = l; up = no_up } } in (
-        ap₂ (λ y ys. y ∷ ys) (ap (λ (o : Arcs). made o (first_label by.rule by.tally)) here)
-            (mapped-is bare (λ k. first_row L (suc k)) w (take w xs) (mapped-long arcs_of (λ k. arcs_at L (suc k)) w (take w xs) others)
-            (λ a d lt. ap₂ made (mapped-at arcs_of (λ k. arcs_at L (suc k)) w (take w xs) a d others lt)
-            (ap (λ (l : Label S V). l.down) ((s (suc a) d (omega (arith, mapped-long arcs_of (λ k. arcs_at L (suc k)) w (take w xs) others))).1 (omega arith))))),
+        record {
+          is = ap₂ (λ y ys. y ∷ ys) (ap (λ (o : Arcs). made o (first_label by.rule by.tally)) here)
+              (mapped-is bare (λ k. record_of_place by L (first_labels by.rule by.tally) [] (suc k)) w (take w xs) long
+              (λ a d lt. ap₂ made (mapped-at arcs_of (λ k. arcs_at L (suc k)) w (take w xs) a d others lt) (ap (λ (l : Label S V). l.down) ((s (suc a) d (omega (arith, long))).1 (omega arith)))));
+          spare = spare;
+        },
         refl,
       )
-
-  front-early : (L : Layer) (us : List (Node S V)) → map bare us ≡ table by.width (first_row L) → All (Early (latest_finish 0)) us
-  unfolding first_row
-  front-early L us e =
-      let z = blank_node by.rule by.tally in
-      All-from_get_or (Early (latest_finish 0)) us z
-      (λ b lt. subst (λ (x : Node S V). x.label.down.finish ≤ latest_finish 0) (sym (mapped-at bare (first_row L) by.width us b z e (omega (arith, mapped-long bare (first_row L) by.width us e)))) (soon b))
     where
-      soon : (b : ℕ) → (first_row L b).label.down.finish ≤ latest_finish 0
-      soon zero = omega arith
-      soon (suc b) = omega arith
+      spare : (a : ℕ) (d : Node S V) → length L ≤ a → a < length (take (suc w) (begun by.rule by.tally (x ∷ xs))) → (get_or (take (suc w) (begun by.rule by.tally (x ∷ xs))) a d).label.up ≡ no_up
+      spare zero d ge lt = absurd (omega arith)
+      spare (suc a) d ge lt = ap (λ (l : Label S V). l.up) ((s (suc a) d lt).1 (omega arith))
 
-  standing-first : (L : Layer) → length L ≡ 1 → Standing by (first_labels by.rule by.tally) L
-  standing-first L e zero lt = (first_label by.rule by.tally, refl, refl)
-  standing-first L e (suc a) lt = absurd (omega arith)
+  full-net : (L : Layer) (Ls : Net) → IsLawful by.round.n by.width (L ∷ Ls) → Full by wide (first_labels by.rule by.tally) (L ∷ Ls)
+  full-net L Ls p = full-first by wide L Ls p.one_first p.tied p.roomy p.even
 
-  -- where the places that are not in use have blank labels, a net's places have none but its own upward sets
-  pub ready-spare : (Ls : Net) (xs : List (Node S V)) → Ready by Ls xs → Spare Ls (map up_of xs)
-  ready-spare [] xs r = tt
-  ready-spare (L ∷ Ls) xs r = (
-    λ a le lt.
-        let us = take by.width xs in
-        ap (λ ys. get_or ys a no_up) (take-map up_of by.width xs)
-        ∙ ⊎_elim (λ in_list. let d = record_of_place by [] [] [] 0 in get_or-map up_of us a d no_up in_list ∙ ap (λ (l : Label S V). l.up) ((r.0.2 a d in_list).1 (omega (arith, r.0.1))))
-        (λ ge. get_or_past (map up_of us) a no_up (omega (arith, length-map us up_of)))
-        (cases_lt a (length us)),
-    subst (Spare Ls) (sym (drop-map up_of by.width xs)) (ready-spare Ls (drop by.width xs) r.1),
-  )
+  -- places that are known
+  used-if : {X : Type 0} (q : Bool) (l : X) → cond q (Some l) None ≡ None → not q ≡ true
+  used-if q l e = grind (arith, common_steps)
+
+  blank-if : {X : Type 0} (q : Bool) (l m : X) → cond q (Some l) None ≡ Some m → l ≡ m
+  blank-if q l m e = grind (arith, common_steps)
+
+  places-ready : (labs : List (Option (Down S V))) (Ls : Net) (xs later : List (Node S V)) → Full by wide labs Ls
+      → map (unused_label by) (take (length Ls * by.width) xs) ≡ map (unused_label by) (take (length Ls * by.width) (labelled_from by labs Ls ++ later)) → Ready by Ls xs
+  places-ready labs [] xs later full e = tt
+  places-ready labs (L ∷ Ls) xs later full e =
+      let us = take by.width xs in
+      let g = unused_label by in
+      let R = record_of_place by L labs (ups (L ∷ Ls)) in
+      let f = full.0.filled in
+      let h = rows by g (length Ls) labs L Ls xs later e in (
+        (
+          length L,
+          omega arith,
+          λ a d lt.
+              let at : g (get_or us a d) ≡ g (R a) = mapped-at g (λ a. g (R a)) by.width us a d h.0 (omega (arith, mapped-long g (λ a. g (R a)) by.width us h.0)) in (
+                λ h. used-if (eqb (get_or us a d).label.down.lasts 0) (get_or us a d).label (at ∙ (let l = f.there a h in rw (l.1, f.lasting a l.0 l.1) refl)),
+                λ h.
+                    blank-if (eqb (get_or us a d).label.down.lasts 0) (get_or us a d).label _
+                    (at ∙ rw (get_or_past labs a None (omega (arith, f.long)), get_or_past (ups (L ∷ Ls)) a None (omega (arith, ups-long L Ls))) refl),
+              ),
+        ),
+        places-ready (labels_next by labs L (width Ls)) Ls (drop by.width xs) later full.1 h.1,
+      )
+
+-- ---- the calls, of arcs that a diagram may have
+module _ {S V : Type 0} (by : Setting S V) where
+  wide-of : (L : Layer) (Ls : Net) → IsLawful by.round.n by.width (L ∷ Ls) → 1 ≤ by.width
+  wide-of L Ls p = let one : length L ≡ 1 = p.one_first in omega (arith, p.roomy.0)
 
   pub used-lawful : (Ls : Net) (xs : List (Node S V)) → IsLawful by.round.n by.width Ls → Arranged by.width Ls xs → Ready by Ls xs → relabelled_used by xs ≡ records_with by xs Ls
-  unfolding records_with labelled_records relabelled_used pass_up first_row
+  unfolding records_with labelled_records relabelled_used pass_up
   used-lawful [] xs p arr ready = let none : 0 ≡ by.round.n = p.deep in absurd (omega (arith, by.round.one))
   used-lawful (L ∷ Ls) xs p arr ready =
       let w = by.width in
+      let wide = wide-of L Ls p in
       let k = length Ls in
-      let labs = first_labels by.rule by.tally in
       let B = begun by.rule by.tally xs in
       let deep : suc k ≡ by.round.n = p.deep in
-      let first : length L ≡ 1 = p.one_first in
-      let good = good-net by.round.n w (L ∷ Ls) by.round.most p.even p.roomy (tied-ranged (L ∷ Ls) p.tied) in
-      let room : length L ≤ w = good.1 in
-      let f = front-begun w ready.0.0 L xs (omega arith) (omega (arith, ready.0.1)) ready.0.2 arr.0 in
-      let d = down-laid by k 0 labs L Ls B refl (omega (arith, by.round.most)) (front-early L (take w B) f.0) good p.tied (standing-first L first) f.0 (rw f.1 arr.1) (rw f.1 ready.1) in
-      let kept : map up_of (renewed_after by k B) ≡ map up_of xs = renewals-keep by up_of (λ x l. refl) k B ∙ begun-keeps by up_of (λ x l. refl) xs in
+      let one : length L ≡ 1 = p.one_first in
+      let f = front-begun by wide w ready.0.0 L xs wide one (omega (arith, ready.0.1)) ready.0.2 arr.0 in
       let less : by.round.n - 1 ≡ k = omega arith in
       rw less
-      (up-laid k labs L Ls (renewed_after by k B) refl good p.tied (standing-first L first) (sym first) d.0 (rw kept (ready-spare (L ∷ Ls) xs ready))
-      ∙ ap (λ ys. labelled_from by labs (L ∷ Ls) ++ ys) (d.1 ∙ ap (past w k) f.1 ∙ past-is w (suc k) xs ∙ ap (λ (n : ℕ). drop (n * w + 1) xs) deep))
+      (laid by wide 0 (first_labels by.rule by.tally) L Ls B (omega (arith, by.round.most)) (full-net by wide L Ls p) p.tied (soon-first by wide) f.0 (rw f.1 arr.1) (rw f.1 ready.1)
+      ∙ ap (λ ys. labelled_from by (first_labels by.rule by.tally) (L ∷ Ls) ++ ys) (ap (past w k) f.1 ∙ past-is w (suc k) xs ∙ ap (λ (n : ℕ). drop (n * w + 1) xs) deep))
 
   blank-ready : (Ls : Net) (xs : List (Node S V)) → ((a : ℕ) (d : Node S V) → a < length Ls * by.width → a < length xs → Blank by (get_or xs a d)) → Ready by Ls xs
   blank-ready [] xs h = tt
   blank-ready (L ∷ Ls) xs h =
-      let w = by.width in
-      let more : suc (length Ls) * w ≡ w + length Ls * w = omega (arith, suc-mul (length Ls) w) in (
-        (
-          0,
-          omega arith,
-          λ a d lt.
-              let in_layer : a < w = omega (arith, length-take w xs) in
-              (λ l. absurd (omega arith), λ l. rw (get_or-take w xs a d in_layer) (h a d (omega (arith, more)) (omega (arith, length-take w xs)))),
-        ),
-        blank-ready Ls (drop w xs) (λ a d lt in_list. rw (get_or-drop w xs a d) (h (w + a) d (omega (arith, more)) (omega (arith, length-drop w xs)))),
+      let more = one-more (length Ls) by.width in (
+        (0, omega arith, λ a d lt. (λ l. absurd (omega arith), λ l. rw (get_or-take by.width xs a d (omega (arith, length-take by.width xs))) (h a d (omega (arith, more, length-take by.width xs)) (omega (arith, length-take by.width xs))))),
+        blank-ready Ls (drop by.width xs) (λ a d lt in_list. rw (get_or-drop by.width xs a d) (h (by.width + a) d (omega (arith, more)) (omega (arith, length-drop by.width xs)))),
       )
 
   -- of arcs that a diagram may have
@@ -417,155 +448,54 @@ module _ {S V : Type 0} (by : Setting S V) where
       ∙ ap (λ ys. labelled_records by Ls ++ ys) (sym (drop-drop 1 at (A ++ D)) ∙ ap (drop 1) (drop_at A D at long) ∙ drop-drop 1 at xs)
 
   -- the same, of the flat list of arcs
-  pub read-arranged : (Ls : Net) (xs : List (Node S V)) → IsLawful by.round.n by.width Ls → by.round.n * by.width + 1 ≤ length xs → arcs_read (take (by.round.n * by.width + 1) xs) ≡ laid_arcs by.width Ls → Arranged by.width Ls xs
+  read-arranged : (Ls : Net) (xs : List (Node S V)) → IsLawful by.round.n by.width Ls → by.round.n * by.width + 1 ≤ length xs → arcs_read (take (by.round.n * by.width + 1) xs) ≡ laid_arcs by.width Ls → Arranged by.width Ls xs
   read-arranged Ls xs p h e =
       let n : length Ls * by.width + 1 ≡ by.round.n * by.width + 1 = ap (λ (k : ℕ). k * by.width + 1) p.deep in
       arranged-of by.width Ls xs (omega (arith, n)) (ap (λ (k : ℕ). arcs_read (take k xs)) n ∙ e)
 
-  -- ---- places that are known
-  used-if : {X : Type 0} (q : Bool) (l : X) → cond q (Some l) None ≡ None → not q ≡ true
-  used-if true l e = absurd cc
-  used-if false l e = refl
-
-  blank-if : {X : Type 0} (q : Bool) (l m : X) → cond q (Some l) None ≡ Some m → l ≡ m
-  blank-if true l m e = cc
-  blank-if false l m e = absurd cc
-
-  -- what g sees of the first m of these layers is what it sees of those of the net
-  abbrev Rows : {X : Type 0} → (Node S V → X) → ℕ → List (Option (Down S V)) → Net → List (Node S V) → Type 0
-  Rows g zero labs Ls xs = Unit {0}
-  Rows g (suc m) labs [] xs = Unit {0}
-  Rows g (suc m) labs (L ∷ Ls) xs = (map g (take by.width xs) ≡ table by.width (λ a. g (record_of_place by L labs (ups (L ∷ Ls)) a))) × Rows g m (labels_next by labs L (width Ls)) Ls (drop by.width xs)
-
-  rows-of : {X : Type 0} (g : Node S V → X) (m : ℕ) (labs : List (Option (Down S V))) (Ls : Net) (xs later : List (Node S V)) → m * by.width ≤ length xs
-      → map g (take (m * by.width) xs) ≡ map g (take (m * by.width) (labelled_from by labs Ls ++ later)) → Rows g m labs Ls xs
-  unfolding labelled_from
-  rows-of g zero labs Ls xs later room e = tt
-  rows-of g (suc m) labs [] xs later room e = tt
-  rows-of g (suc m) labs (L ∷ Ls) xs later room e =
-      let w = by.width in
-      let more : suc m * w ≡ w + m * w = omega (arith, suc-mul m w) in
-      let R = record_of_place by L labs (ups (L ∷ Ls)) in
-      let X = labelled_from by (labels_next by labs L (width Ls)) Ls in
-      let A = map g (take w xs) in
-      let B = map g (take (m * w) (drop w xs)) in
-      let T = table w (λ a. g (R a)) in
-      let C = map g (take (m * w) (X ++ later)) in
-      let whole : A ++ B ≡ T ++ C =
-      sym (split g w (m * w) xs) ∙ ap (λ (k : ℕ). map g (take k xs)) (sym more) ∙ e ∙ ap (λ (k : ℕ). map g (take k ((table w R ++ X) ++ later))) more
-      ∙ ap (λ ys. map g (take (w + m * w) ys)) (append_assoc (table w R) X later) ∙ split g w (m * w) (table w R ++ (X ++ later))
-      ∙ ap₂ (λ ys zs. map g ys ++ map g (take (m * w) zs)) (take_at (table w R) (X ++ later) w (table-long w R)) (drop_at (table w R) (X ++ later) w (table-long w R))
-      ∙ ap (λ ys. ys ++ C) (map-table g w R) in
-      let A-long : length A ≡ w = length-map (take w xs) g ∙ length-take-le w xs (omega (arith, more)) in
-      let T-long : length T ≡ w = table-long w (λ a. g (R a)) in (
-        sym (take_at A B w A-long) ∙ ap (take w) whole ∙ take_at T C w T-long,
-        rows-of g m (labels_next by labs L (width Ls)) Ls (drop w xs) later (omega (arith, more, length-drop w xs)) (sym (drop_at A B w A-long) ∙ ap (drop w) whole ∙ drop_at T C w T-long),
-      )
-
-  places-ready : (labs : List (Option (Down S V))) (Ls : Net) (xs : List (Node S V)) → IsTied Ls → IsRoomy by.width Ls → StandsFirst labs Ls → Rows (unused_label by) (length Ls) labs Ls xs → Ready by Ls xs
-  places-ready labs [] xs tied roomy s e = tt
-  places-ready labs (L ∷ Ls) xs tied roomy s e =
-      let w = by.width in
-      let g = unused_label by in
-      let R = record_of_place by L labs (ups (L ∷ Ls)) in
-      let us = take w xs in (
-        (
-          length L,
-          omega arith,
-          λ a d lt.
-              let at : g (get_or us a d) ≡ g (R a) = mapped-at g (λ a. g (R a)) w us a d e.0 (omega (arith, mapped-long g (λ a. g (R a)) w us e.0)) in (
-                λ h. used-if (eqb (get_or us a d).label.down.lasts 0) (get_or us a d).label (at ∙ (let l = s.0 a h in rw (l.1, l.2) refl)),
-                λ h.
-                    blank-if (eqb (get_or us a d).label.down.lasts 0) (get_or us a d).label _
-                    (at ∙ rw (get_or_past labs a None (omega (arith, s.1)), get_or_past (ups (L ∷ Ls)) a None (omega (arith, ups-long L Ls))) refl),
-              ),
-        ),
-        places-ready (labels_next by labs L (width Ls)) Ls (drop w xs) (tied-on L Ls tied) roomy.1 (stands-on labs L Ls roomy tied s) e.1,
-      )
-
-  first-stands : (Ls : Net) → IsLawful by.round.n by.width Ls → StandsFirst (first_labels by.rule by.tally) Ls
-  first-stands [] p = tt
-  first-stands (L ∷ Ls) p = let one : length L ≡ 1 = p.one_first in (standing-first L one, sym one)
-
   pub has-ready : (Ls : Net) (xs : List (Node S V)) → IsLawful by.round.n by.width Ls → by.round.n * by.width + 1 ≤ length xs → HasPlaces by Ls xs → Ready by Ls xs
   unfolding records_with labelled_records
-  has-ready Ls xs p room has =
-      let n : by.round.n ≡ length Ls = sym p.deep in
-      places-ready (first_labels by.rule by.tally) Ls xs p.tied p.roomy (first-stands Ls p)
-      (subst (λ (k : ℕ). Rows (unused_label by) k (first_labels by.rule by.tally) Ls xs) n (rows-of (unused_label by) by.round.n (first_labels by.rule by.tally) Ls xs (drop (by.round.n * by.width + 1) xs) (omega arith) has))
+  has-ready [] xs p room has = tt
+  has-ready (L ∷ Ls) xs p room has =
+      let wide = wide-of L Ls p in
+      let deep : by.round.n ≡ suc (length Ls) = sym p.deep in
+      places-ready by wide (first_labels by.rule by.tally) (L ∷ Ls) xs (drop (by.round.n * by.width + 1) xs) (full-net by wide L Ls p)
+      (subst (λ (k : ℕ). map (unused_label by) (take (k * by.width) xs) ≡ map (unused_label by) (take (k * by.width) (labelled_from by (first_labels by.rule by.tally) (L ∷ Ls) ++ drop (by.round.n * by.width + 1) xs))) deep has)
 
-  -- ---- from a layer on: the labels of the layers up to it stand
-  front-laid : (L : Layer) (labs : List (Option (Down S V))) (U : List (Option Up)) (us : List (Node S V)) → map arcs_of us ≡ table by.width (arcs_at L)
-      → map down_of us ≡ table by.width (λ a. down_of (record_of_place by L labs U a)) → map bare us ≡ table by.width (record_of_place by L labs [])
-  front-laid L labs U us arr downs =
-      let w = by.width in
-      mapped-is bare (record_of_place by L labs []) w us (mapped-long arcs_of (arcs_at L) w us arr)
-      (λ a d lt. ap₂ (λ (o : Arcs) (l : Down S V). record { arcs = o; label = record { down = l; up = no_up } }) (mapped-at arcs_of (arcs_at L) w us a d arr lt)
-      (mapped-at down_of (λ a. down_of (record_of_place by L labs U a)) w us a d downs lt))
-
-  early-same : (m : ℕ) (us vs : List (Node S V)) → map bare us ≡ map bare vs → All (Early m) us → All (Early m) vs
-  early-same m us [] e h = tt
-  early-same m [] (v ∷ vs) e h = absurd cc
-  early-same m (u ∷ us) (v ∷ vs) e h =
-      let here : bare u ≡ bare v = cc in
-      let rest : map bare us ≡ map bare vs = cc in
-      (subst (λ (x : Node S V). x.label.down.finish ≤ m) here h.0, early-same m us vs rest h.1)
-
-  -- layer d, and k more before the end
-  abbrev below : ℕ → ℕ → List (Node S V) → List (Node S V)
-  below d k xs = take (d * by.width) xs ++ renewed_after by k (drop (d * by.width) xs)
-
-  below-from : (d k e : ℕ) (labs : List (Option (Down S V))) (L : Layer) (Ls : Net) (xs : List (Node S V)) → length Ls ≡ d + k → e + (d + k) ≤ 15 → All (Early (latest_finish e)) (take by.width xs)
-      → Good by.width (L ∷ Ls) → IsTied (L ∷ Ls) → Standing by labs L → Arranged by.width (L ∷ Ls) xs → Ready by (L ∷ Ls) xs → Rows down_of (suc d) labs (L ∷ Ls) xs
-      → Half by labs (L ∷ Ls) (below d k xs) × (past by.width (suc (d + k)) (below d k xs) ≡ past by.width (suc (d + k)) xs)
-  below-from zero k e labs L Ls xs q few early good tied s arr ready rows =
-      let none : 0 * by.width ≡ 0 = zero-mul by.width in
-      rw (none, zero-add k) (down-laid by k e labs L Ls xs (q ∙ zero-add k) (omega arith) early good tied s (front-laid L labs (ups (L ∷ Ls)) (take by.width xs) arr.0 rows.0) arr.1 ready.1)
-  below-from (suc d) k e labs L [] xs q few early good tied s arr ready rows = absurd (omega arith)
-  below-from (suc d) k e labs L (M ∷ Ls) xs q few early good tied s arr ready rows =
-      let w = by.width in
-      let labs' = labels_next by labs L (length M) in
-      let us = take w xs in
-      let rest = drop w xs in
-      let vs = take w rest in
-      let here = front-laid L labs (ups (L ∷ M ∷ Ls)) us arr.0 rows.0 in
-      let next = front-laid M labs' (ups (M ∷ Ls)) vs arr.1.0 rows.1.0 in
-      let nb = next-block by w w (length M) labs L M us vs s good.0 good.1 good.2 here arr.1.0 in
-      let long = mapped-long bare (record_of_place by L labs []) w us here in
-      let ih = below-from d k (suc e) labs' M Ls rest (omega arith) (omega arith) (early-same (latest_finish (suc e)) (next_layer by us vs) vs (nb ∙ sym next) (next-early by e us vs early))
-      good.3 tied.3 (standing-next by labs L M Ls good.3.1 tied s) arr.1 ready.1 rows.1 in
-      let less : suc d * w ≡ w + d * w = omega (arith, suc-mul d w) in
-      let one : suc d + k ≡ suc (d + k) = omega arith in
-      let is : below (suc d) k xs ≡ us ++ below d k rest =
-      ap (λ (i : ℕ). take i xs ++ renewed_after by k (drop i xs)) less ∙ ap₂ (λ ys zs. ys ++ renewed_after by k zs) (take-add w (d * w) xs) (sym (drop-drop (d * w) w xs))
-      ∙ append_assoc us (take (d * w) rest) (renewed_after by k (drop (d * w) rest)) in
-      rw (is, one, take_at us (below d k rest) w long, drop_at us (below d k rest) w long) ((here, ih.0), ap (past w (suc (d + k))) (drop_at us (below d k rest) w long) ∙ ih.1)
-
-  pub below-lawful : (i : ℕ) (Ls : Net) (xs : List (Node S V)) → 1 ≤ i → i ≤ by.round.n → by.round.n * by.width + 1 ≤ length xs → IsLawful by.round.n by.width Ls → Arranged by.width Ls xs → HasUps by Ls xs → HasDownsBefore by i Ls xs → Ready by Ls xs
-      → below (i - 1) (by.round.n - i) xs ≡ records_with by xs Ls
-  unfolding records_with labelled_records first_row
-  below-lawful i [] xs low high room p arr up down ready = let none : 0 ≡ by.round.n = p.deep in absurd (omega (arith, by.round.one))
-  below-lawful i (L ∷ Ls) xs low high room p arr up down ready =
+  below-lawful : (i : ℕ) (Ls : Net) (xs : List (Node S V)) → 1 ≤ i → i ≤ by.round.n → IsLawful by.round.n by.width Ls → Arranged by.width Ls xs → HasUps by Ls xs → HasDownsBefore by i Ls xs → Ready by Ls xs
+      → take ((i - 1) * by.width) xs ++ renewed_after by (by.round.n - i) (drop ((i - 1) * by.width) xs) ≡ records_with by xs Ls
+  unfolding records_with labelled_records
+  below-lawful i [] xs low high p arr up down ready = let none : 0 ≡ by.round.n = p.deep in absurd (omega (arith, by.round.one))
+  below-lawful i (L ∷ Ls) xs low high p arr up down ready =
       let w = by.width in
       let n = by.round.n in
       let d = i - 1 in
       let k = n - i in
       let deep : suc (length Ls) ≡ n = p.deep in
-      let same : length Ls ≡ d + k = omega arith in
-      let first : length L ≡ 1 = p.one_first in
-      let labs = first_labels by.rule by.tally in
-      let good = good-net n w (L ∷ Ls) by.round.most p.even p.roomy (tied-ranged (L ∷ Ls) p.tied) in
+      let wide = wide-of L Ls p in
       let back : i ≡ suc d = omega arith in
-      let rows : Rows down_of (suc d) labs (L ∷ Ls) xs = subst (λ (j : ℕ). Rows down_of j labs (L ∷ Ls) xs) back
-      (rows-of down_of i labs (L ∷ Ls) xs (drop (n * w + 1) xs) (omega (arith, mul-le-mul_right w high)) down) in
-      let us = take w xs in
-      let here = front-laid L labs (ups (L ∷ Ls)) us arr.0 rows.0 in
-      let early = front-early L us here in
-      let Y = below d k xs in
-      let b = below-from d k 0 labs L Ls xs same (omega (arith, by.round.most)) early good p.tied (standing-first L first) arr ready rows in
+      let Y = take (d * w) xs ++ renewed_after by k (drop (d * w) xs) in
+      let end : suc (d + k) ≡ n = omega arith in
+      let U : risen_from w (d + k) Y ≡ labelled_from by (first_labels by.rule by.tally) (L ∷ Ls) ++ drop (n * w + 1) xs = rw (← below-is by wide d k xs)
+      (below-laid by wide d k 0 (first_labels by.rule by.tally) L Ls xs (drop (n * w + 1) xs) (omega arith) (omega (arith, by.round.most)) (full-net by wide L Ls p) p.tied (soon-first by wide) arr ready (rw (← back) down)
+      ∙ ap (λ ys. labelled_from by (first_labels by.rule by.tally) (L ∷ Ls) ++ ys) (past-is w (suc (d + k)) xs ∙ ap (λ (m : ℕ). drop (m * w + 1) xs) end)) in
       let kept : map up_of Y ≡ map up_of xs = in-parts up_of (d * w) (take (d * w) xs) (renewed_after by k (drop (d * w) xs)) xs refl (renewals-keep by up_of (λ x l. refl) k (drop (d * w) xs)) in
-      let end : n * w + 1 ≡ suc (d + k) * w + 1 = ap (λ (m : ℕ). m * w + 1) (omega arith) in
-      let U : risen_from w (d + k) Y ≡ labelled_from by labs (L ∷ Ls) ++ drop (n * w + 1) xs =
-      up-laid (d + k) labs L Ls Y same good p.tied (standing-first L first) (sym first) b.0 (rw kept (ready-spare (L ∷ Ls) xs ready))
-      ∙ ap (λ ys. labelled_from by labs (L ∷ Ls) ++ ys) (b.1 ∙ past-is w (suc (d + k)) xs ∙ ap (λ (m : ℕ). drop m xs) (sym end)) in
-      same-records Y (risen_from w (d + k) Y) (sym (rises_keep arcs_of (λ x u. refl) w (d + k) Y)) (sym (rises_keep down_of (λ x u. refl) w (d + k) Y)) (kept ∙ up ∙ ap (map up_of) (sym U)) ∙ U
+      same-records Y (risen_from w (d + k) Y) (sym (rises_keep bare (λ x u. refl) w (d + k) Y)) (kept ∙ up ∙ ap (map up_of) (sym U)) ∙ U
+
+  -- ---- of the list that is lent
+  pub below_laid : (i : ℕ) (Ls : Net) (xs : List (Node S V)) → fits by.round.n by.width (length xs) ≡ true → 1 ≤ i → i ≤ by.round.n → IsLawful by.round.n by.width Ls
+      → arcs_read (take (by.round.n * by.width + 1) xs) ≡ laid_arcs by.width Ls → HasUps by Ls xs → HasDownsBefore by i Ls xs → HasPlaces by Ls xs → below_steps by i xs ≡ records_with by xs Ls
+  unfolding below_steps
+  below_laid i Ls xs fit low high p e ups downs has =
+      let room = (room-facts by.round.n by.width (length xs) fit).enough in
+      rw (fit, le-leb 1 i low, le-leb i by.round.n high) (below-lawful i Ls xs low high p (read-arranged Ls xs p room e) ups downs (has-ready Ls xs p room has))
+
+  pub used_read : (Ls : Net) (xs : List (Node S V)) → fits by.round.n by.width (length xs) ≡ true → IsLawful by.round.n by.width Ls
+      → arcs_read (take (by.round.n * by.width + 1) xs) ≡ laid_arcs by.width Ls → HasPlaces by Ls xs → relabelled_used by xs ≡ records_with by xs Ls
+  used_read Ls xs fit p e has =
+      let room = (room-facts by.round.n by.width (length xs) fit).enough in
+      used-lawful Ls xs p (read-arranged Ls xs p room e) (has-ready Ls xs p room has)
+
+  pub relabelled_read : (Ls : Net) (xs : List (Node S V)) → fits by.round.n by.width (length xs) ≡ true → IsLawful by.round.n by.width Ls
+      → arcs_read (take (by.round.n * by.width + 1) xs) ≡ laid_arcs by.width Ls → relabelled by xs ≡ records_with by xs Ls
+  relabelled_read Ls xs fit p e = relabelled-lawful Ls xs p (read-arranged Ls xs p (room-facts by.round.n by.width (length xs) fit).enough e)

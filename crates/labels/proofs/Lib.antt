@@ -1,7 +1,5 @@
-pub mod Below
 pub mod Climbs
 pub mod DoorsOut
-pub mod Earlies
 pub mod Folds
 pub mod Inward
 pub mod Keeps

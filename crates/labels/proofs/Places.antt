@@ -1,7 +1,7 @@
 -- Where the places that are not in use have blank labels, a pass over those in use is a pass over all.
-use Rattle.std.proofs.Common.{◌≡◌, ℕ, zero, suc, ◌<◌, ◌≤◌, Bool, true, false, cond, not, ◌&&◌, eqb, leb, List, [], ◌∷◌, ◌++◌, map, length, get_or, take, drop, fold, sym, refl, ap, ◌∙◌, ap₂, arith}
-use Rattle.std.specs.List.{AllByRecursion as All}
-use Rattle.std.proofs.lemmas.Bool.{le-leb, eq-eqb}
+use Rattle.std.proofs.Common.{◌≡◌, ℕ, zero, suc, ◌<◌, ◌≤◌, true, false, not, eqb, List, [], ◌∷◌, ◌++◌, map, length, get_or, take, drop, fold, sym, refl, ap, ◌∙◌, ap₂, arith}
+use Rattle.std.proofs.lemmas.Bool.Decides.{nat_tests}
+use Rattle.std.proofs.lemmas.Bool.{eq-eqb}
 use Rattle.round.specs.Clock.{latest_finish}
 use Rattle.layers.specs.declared.node.Label.{Label}
 use Rattle.layers.specs.declared.node.Node.{Node}
@@ -12,39 +12,31 @@ use Rattle.layers.specs.Settings.{Setting}
 use Rattle.labels.specs.Passes.{Early, cleared, with_up, renewed, sources, spread, crossed_all, next_layer, next_renewed, end_renewed, ups_of, gathered_up, risen}
 use Rattle.labels.proofs.Scattered.{spreads-layer}
 
-and-true : (q r : Bool) → r ≡ true → q && r ≡ q
-and-true true r e = e
-and-true false r e = refl
-
 module _ {S V : Type 0} where
   -- the first m of these places are in use, and the others are as Q says
   abbrev pub Stands : (Node S V → Type 0) → ℕ → List (Node S V) → Type 0
   Stands Q m us = (a : ℕ) (d : Node S V) → a < length us → (a < m → is_used (get_or us a d) ≡ true) × (m ≤ a → Q (get_or us a d))
 
-  pub all-same : (f : Node S V → Node S V) (us : List (Node S V)) → ((a : ℕ) (d : Node S V) → a < length us → f (get_or us a d) ≡ get_or us a d) → map f us ≡ us
+  all-same : (f : Node S V → Node S V) (us : List (Node S V)) → ((a : ℕ) (d : Node S V) → a < length us → f (get_or us a d) ≡ get_or us a d) → map f us ≡ us
   all-same f [] g = refl
-  all-same f (u ∷ us) g = ap₂ (λ x xs. x ∷ xs) (g 0 u (omega arith)) (all-same f us (λ a d lt. g (suc a) d (omega arith)))
+  all-same f (u ∷ us) g = grind (arith, g 0 u, all-same f us (λ a d lt. g (suc a) d (omega arith)))
 
   -- so what alters none of the others may go over all
-  pub renewed-map : (Q : Node S V → Type 0) (f : Node S V → Node S V) → ((x : Node S V) → Q x → (is_used x ≡ false) × (f x ≡ x)) → (m : ℕ) (us : List (Node S V)) → Stands Q m us → renewed f us ≡ map f us
-  renewed-map Q f h m [] s = refl
-  renewed-map Q f h zero (u ∷ us) s =
-      rw (h u ((s 0 u (omega arith)).1 (omega arith))).0 (sym (all-same f (u ∷ us) (λ a d lt. (h (get_or (u ∷ us) a d) ((s a d lt).1 (omega arith))).1)))
-  renewed-map Q f h (suc m) (u ∷ us) s =
-      rw ((s 0 u (omega arith)).0 (omega arith))
-      (ap (λ xs. f u ∷ xs) (renewed-map Q f h m us (λ a d lt. let r = s (suc a) d (omega arith) in ((λ l. r.0 (omega arith)), (λ l. r.1 (omega arith))))))
+  pub renewed-map : (f : Node S V → Node S V) (m : ℕ) (us : List (Node S V)) → Stands (λ x. (is_used x ≡ false) × (f x ≡ x)) m us → renewed f us ≡ map f us
+  renewed-map f m [] s = refl
+  renewed-map f zero (u ∷ us) s = grind (arith, ((s 0 u (omega arith)).1 (omega arith)), all-same f us (λ a d lt. ((s (suc a) d (omega arith)).1 (omega arith)).1))
+  renewed-map f (suc m) (u ∷ us) s =
+      let here = s 0 u (omega arith) in
+      grind (arith, here.0, renewed-map f m us (λ a d lt. let r = s (suc a) d (omega arith) in ((λ l. r.0 (omega arith)), (λ l. r.1 (omega arith)))))
 
-  -- not in use, with no upward sets
-  abbrev pub Idle : Node S V → Type 0
-  Idle x = (x.label.down.lasts ≡ 0) × (x.label.up ≡ no_up)
-
-  pub idle-stays : (vs : List (Node S V)) (x : Node S V) → Idle x → (is_used x ≡ false) × (risen vs x ≡ x)
+  -- a place that is not in use and has no upward sets gathers none
+  pub idle-stays : (vs : List (Node S V)) (x : Node S V) → x.label.down.lasts ≡ 0 → x.label.up ≡ no_up → (is_used x ≡ false) × (risen vs x ≡ x)
   unfolding risen ups_of gathered_up
-  idle-stays vs x (e, n) = let q = eq-eqb x.label.down.lasts 0 e in rw q (refl, ap (with_up x) (sym n))
+  idle-stays vs x e n = let q = eq-eqb x.label.down.lasts 0 e in rw q (refl, ap (with_up x) (sym n))
 
-  sources-are : (us : List (Node S V)) → All (Early (latest_finish 15)) us → sources us ≡ nodes_in us
+  sources-are : (us : List (Node S V)) → ((a : ℕ) (d : Node S V) → a < length us → Early (latest_finish 15) (get_or us a d)) → sources us ≡ nodes_in us
   sources-are [] h = refl
-  sources-are (u ∷ us) h = ap₂ (λ (q : Bool) (ys : List (Node S V)). cond q (u ∷ ys) []) (and-true (is_used u) (leb u.label.down.finish (latest_finish 15)) (le-leb u.label.down.finish (latest_finish 15) h.0)) (sources-are us h.1)
+  sources-are (u ∷ us) h = grind (arith, nat_tests, h 0 u, sources-are us (λ a d lt. h (suc a) d (omega arith)))
 
 module _ {S V : Type 0} (by : Setting S V) where
   abbrev pub Blank : Node S V → Type 0
@@ -56,11 +48,11 @@ module _ {S V : Type 0} (by : Setting S V) where
     ap (λ (l : Label S V). record { arcs = x.arcs; label = l }) (ap (λ (l : Label S V). record { down = blank_label by.rule by.tally; up = l.up }) e ∙ sym e),
   )
 
-  pub next-is : (m : ℕ) (us vs : List (Node S V)) → All (Early (latest_finish 15)) us → Stands Blank m vs → next_renewed by us vs ≡ next_layer by us vs
+  pub next-is : (m : ℕ) (us vs : List (Node S V)) → ((a : ℕ) (d : Node S V) → a < length us → Early (latest_finish 15) (get_or us a d)) → Stands Blank m vs → next_renewed by us vs ≡ next_layer by us vs
   unfolding next_renewed crossed_all
-  next-is m us vs h s = ap₂ (λ ys zs. fold (spread by) ys zs) (renewed-map Blank (cleared by.rule by.tally) blank-stays m vs s) (sources-are us h) ∙ spreads-layer by us vs
+  next-is m us vs h s = ap₂ (λ ys zs. fold (spread by) ys zs) (renewed-map (cleared by.rule by.tally) m vs (λ a d lt. let r = s a d lt in (r.0, λ le. blank-stays (get_or vs a d) (r.1 le)))) (sources-are us h) ∙ spreads-layer by us vs
 
-  pub end-is : (us vs : List (Node S V)) → All (Early (latest_finish 15)) us → end_renewed by us vs ≡ next_layer by us (take 1 vs) ++ drop 1 vs
+  pub end-is : (us vs : List (Node S V)) → ((a : ℕ) (d : Node S V) → a < length us → Early (latest_finish 15) (get_or us a d)) → end_renewed by us vs ≡ next_layer by us (take 1 vs) ++ drop 1 vs
   unfolding end_renewed crossed_all
   end-is us vs h = ap (λ ys. ys ++ drop 1 vs) (ap (fold (spread by) (map (cleared by.rule by.tally) (take 1 vs))) (sources-are us h) ∙ spreads-layer by us (take 1 vs))
 

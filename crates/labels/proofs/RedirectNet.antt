@@ -1,12 +1,12 @@
 -- Records with the arcs of a layer, and the same after each arc is redirected
-use Rattle.std.proofs.Common.{◌≡◌, ℕ, zero, suc, ◌+◌, ◌<◌, ◌≤◌, List, [], ◌∷◌, map, length, get_or, sym, refl, ap, ◌∙◌, zero-add, arith}
+use Rattle.std.proofs.Common.{◌≡◌, ℕ, zero, suc, ◌<◌, ◌≤◌, List, [], ◌∷◌, map, length, get_or, sym, refl, ap, ◌∙◌, arith}
 use Rattle.std.specs.List.{range_with_len}
 use Rattle.std.proofs.lemmas.List.{get_or-map, get_or_default, length-map}
 use Rattle.layers.specs.declared.node.Arcs.{Arcs}
 use Rattle.layers.specs.declared.node.Node.{Node}
 use Rattle.layers.specs.Net.{table, Outs, Layer, node, target, each_door, each_node, redirect}
 use Rattle.layers.specs.Records.{padded_targets, arcs_at}
-use Rattle.layers.proofs.Flows.{table_at, has-arc}
+use Rattle.layers.proofs.Flows.{table_at, has-arc, redirect-get}
 use Rattle.labels.proofs.Laying.{arcs_of, mapped-long, mapped-at, mapped-is}
 pub use Rattle.labels.proofs.Laying.{table-list}
 use Rattle.layers.proofs.Tied.{each_door-length}
@@ -21,33 +21,13 @@ pub padded-at : (nd : Outs) (k : ℕ) → k < 16 → get_or (padded_targets nd) 
 padded-at nd k lt = table_at 16 k (λ i. get_or nd i 0) 0 lt
 
 -- ---- redirecting
-pub each_at : (f : ℕ → ℕ → ℕ) (j : ℕ) (ts : Outs) (k m : ℕ) → j + k ≡ m → get_or (each_door f j ts) k 0 ≡ at_door f m (get_or ts k 0)
-unfolding each_door
-each_at f j [] k m e = refl
-each_at f j (zero ∷ ts) zero m e = refl
-each_at f j (zero ∷ ts) (suc k) m e = each_at f (suc j) ts k m (omega arith)
-each_at f j (suc b ∷ ts) zero m e = ap (λ (i : ℕ). f i b) (omega arith)
-each_at f j (suc b ∷ ts) (suc k) m e = each_at f (suc j) ts k m (omega arith)
+each_at : (f : ℕ → ℕ → ℕ) (ts : Outs) (k : ℕ) → get_or (each_door f 1 ts) k 0 ≡ at_door f (suc k) (get_or ts k 0)
+unfolding redirect each_node
+each_at f ts k = redirect-get (λ a. f) (ts ∷ []) 0 (suc k)
 
 at_same : (g h : ℕ → ℕ → ℕ) (j t : ℕ) → ((b : ℕ) → t ≡ suc b → g j b ≡ h j b) → at_door g j t ≡ at_door h j t
 at_same g h j zero s = refl
 at_same g h j (suc b) s = s b refl
-
--- two ways that agree on the arcs of a node give the same sixteen targets
-pub each-padded : (g h : ℕ → ℕ → ℕ) (nd : Outs) → ((j b : ℕ) → target nd j ≡ suc b → g j b ≡ h j b) → each_door g 1 (padded_targets nd) ≡ padded_targets (each_door h 1 nd)
-each-padded g h nd s = padded-is (each_door g 1 (padded_targets nd)) (each_door h 1 nd) (each_door-length g 1 (padded_targets nd)) (λ k lt.
-    each_at g 1 (padded_targets nd) k (suc k) (omega arith) ∙ ap (at_door g (suc k)) (padded-at nd k lt)
-    ∙ at_same g h (suc k) (get_or nd k 0) (s (suc k)) ∙ sym (each_at h 1 nd k (suc k) (omega arith)))
-
-each_node-at : (f : ℕ → ℕ → ℕ → ℕ) (c : ℕ) (L : Layer) (a m : ℕ) → c + a ≡ m → node (each_node f c L) a ≡ each_door (f m) 1 (node L a)
-unfolding each_node each_door
-each_node-at f c [] a m e = refl
-each_node-at f c (nd ∷ L) zero m e = ap (λ (i : ℕ). each_door (f i) 1 nd) (omega arith)
-each_node-at f c (nd ∷ L) (suc a) m e = each_node-at f (suc c) L a m (omega arith)
-
-pub redirect-node : (f : ℕ → ℕ → ℕ → ℕ) (L : Layer) (a : ℕ) → node (redirect f L) a ≡ each_door (f a) 1 (node L a)
-unfolding redirect
-redirect-node f L a = each_node-at f 0 L a a (zero-add a)
 
 -- ---- records
 module _ {S V : Type 0} where
@@ -82,5 +62,7 @@ module _ {S V : Type 0} where
       ap (λ (x : Node S V). x.arcs) (get_or-map r us a d d (omega (arith, many)))
       ∙ redirected-arcs (F u) u
       ∙ ap (λ (ts : List ℕ). record { to = each_door (F u) 1 ts }) (targets-arranged w L us a d e lt)
-      ∙ ap (λ (ts : List ℕ). record { to = ts }) (each-padded (F u) (f a) (node L a) (λ j b t. s d a j b (has-arc L a j b t) t))
-      ∙ ap (λ (nd : Outs). record { to = padded_targets nd }) (sym (redirect-node f L a)))
+      ∙ ap (λ (ts : List ℕ). record { to = ts })
+      (padded-is (each_door (F u) 1 (padded_targets (node L a))) (node (redirect f L) a) (each_door-length (F u) 1 (padded_targets (node L a))) (λ k h.
+      each_at (F u) (padded_targets (node L a)) k ∙ ap (at_door (F u) (suc k)) (padded-at (node L a) k h)
+      ∙ at_same (F u) (f a) (suc k) (get_or (node L a) k 0) (λ b t. s d a (suc k) b (has-arc L a (suc k) b t) t) ∙ sym (redirect-get f L a (suc k)))))

@@ -1,5 +1,5 @@
 -- A record whose arcs are redirected, door by door
-use Rattle.std.proofs.Common.{◌≡◌, ℕ, zero, suc, ◌+◌, List, ◌∷◌, ◌++◌, map, get_or, drop, replicate, sym, refl, ap, ◌∙◌, add-one}
+use Rattle.std.proofs.Common.{◌≡◌, ℕ, zero, suc, ◌+◌, List, ◌∷◌, ◌++◌, map, get_or, drop, replicate, sym, refl, ap}
 use Rattle.std.specs.List.{range_with_len}
 use Rattle.layers.specs.declared.node.Node.{Node}
 use Rattle.layers.specs.Net.{each_door}
@@ -9,13 +9,6 @@ each-cons : (f : ℕ → ℕ → ℕ) (j t : ℕ) (ts : List ℕ) → each_door 
 unfolding each_door
 each-cons f j zero ts = refl
 each-cons f j (suc b) ts = refl
-
-each-counting : (f : ℕ → ℕ → ℕ) (g : ℕ → ℕ) (a n : ℕ) → each_door f (a + 1) (map g (range_with_len a n)) ≡ map (λ k. at_door f (k + 1) (g k)) (range_with_len a n)
-unfolding each_door
-each-counting f g a zero = refl
-each-counting f g a (suc n) =
-    each-cons f (a + 1) (g a) (map g (range_with_len (a + 1) n))
-    ∙ ap (λ ts. at_door f (a + 1) (g a) ∷ ts) (ap (λ j. each_door f j (map g (range_with_len (a + 1) n))) (sym (add-one (a + 1))) ∙ each-counting f g (a + 1) n)
 
 -- the target by the door k + 1
 abbrev pub by_door : {S V : Type 0} → (ℕ → ℕ → ℕ) → Node S V → ℕ → ℕ
@@ -27,4 +20,4 @@ written f k = map f (range_with_len 0 k) ++ drop k (replicate {A = ℕ} 16 0)
 
 pub redirect-made : {S V : Type 0} (f : ℕ → ℕ → ℕ) (x : Node S V) → with_targets x (written (by_door f x) 16) ≡ redirected f x
 unfolding redirected targets
-redirect-made f x = ap (with_targets x) (sym (each-counting f (λ k. get_or x.arcs.to k 0) 0 16))
+redirect-made f x = ap (with_targets x) (sym (simp each-cons))

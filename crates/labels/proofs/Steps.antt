@@ -1,16 +1,18 @@
-use Rattle.std.proofs.Common.{◌≡◌, ℕ, zero, suc, ◌+◌, ◌-◌, ◌<◌, ◌≤◌, ◌≢◌, Bool, cond, not, List, [], ◌∷◌, ◌++◌, map, length, get_or, take, drop, set, Some, None, fold, sym, refl, ap, ◌∙◌, append_assoc, append-nil, arith}
+use Rattle.std.proofs.Common.{◌≡◌, ℕ, zero, suc, ◌+◌, ◌-◌, ◌<◌, ◌≤◌, ◌≢◌, List, [], ◌∷◌, ◌++◌, map, length, get_or, take, drop, set, Some, None, fold, sym, refl, ap, ◌∙◌, arith}
 use Rattle.std.specs.List.{range_with_len, flat_map}
-use Rattle.std.proofs.lemmas.Bool.{eq-eqb, ne_eqb}
-use Rattle.std.proofs.lemmas.List.{drop_all, drop_more, drop-set-lt, set-get_or, flat_map_more, take_all, take_more_set, take-append-drop}
+use Rattle.std.proofs.lemmas.Bool.Decides.{nat_tests}
+use Rattle.std.proofs.lemmas.Grind.{common_steps}
+use Rattle.std.proofs.lemmas.List.{drop_all, flat_map_more}
 use Rattle.std.proofs.lemmas.List.Sums.{fold-append}
 use Rattle.std.specs.Option.{unwrap_or}
 use Rattle.rules.specs.Rules.{RuleSense}
 use Rattle.tallies.specs.Tallies.{TallySense}
 use Rattle.layers.specs.declared.node.Node.{Node}
 use Rattle.layers.specs.declared.node.Up.{Up}
+use Rattle.layers.specs.Settings.{Setting}
 use Rattle.layers.specs.Labels.{first_label, climb, merge_up, no_up}
-use Rattle.labels.specs.Passes.{gathered_up, taken_up, with_down, begun, renewed, bare, risen, risen_from}
-use Rattle.labels.proofs.Folds.{counting_more}
+use Rattle.labels.specs.Passes.{gathered_up, taken_up, with_down, begun, renewed, bare, risen, risen_from, next_renewed, renewed_after}
+use Rattle.labels.proofs.Folds.{counting_more, folded-view}
 
 -- one more of sixteen
 pub folded-counting-more : {A B : Type 0} (f : B → A → B) (F : ℕ → List A) (a : B) (k : ℕ) → fold f a (flat_map F (range_with_len 0 (k + 1))) ≡ fold f (fold f a (flat_map F (range_with_len 0 k))) (F k)
@@ -21,8 +23,7 @@ folded-counting-more f F a k =
 
 -- a fold over what each brings, one by one
 pub fold_joined : {X A B : Type 0} (f : B → A → B) (F : X → List A) (a : B) (xs : List X) → fold (λ b x. fold f b (F x)) a xs ≡ fold f a (flat_map F xs)
-fold_joined f F a [] = refl
-fold_joined f F a (x ∷ xs) = fold_joined f F (fold f a (F x)) xs ∙ sym (fold-append f a (F x) (flat_map F xs))
+fold_joined f F a xs = folded-view (λ _. Unit {0}) (λ b. b) (λ b x. fold f b (F x)) f F (λ b x h. h) (λ b x h. refl) a xs tt
 
 taken-some : (a : Up) (xs : List Up) → fold taken_up (Some a) xs ≡ Some (fold merge_up a xs)
 taken-some a [] = refl
@@ -41,31 +42,22 @@ climb_one (v ∷ vs) (suc b) j x lt h = climb_one vs b j x (omega arith) h
 
 -- ---- the first of a list
 pub first_set : {X : Type 0} (f : X → X) (ys : List X) (d : X) → 0 < length ys → set ys 0 (f (get_or ys 0 d)) ≡ map f (take 1 ys) ++ drop 1 ys
-first_set f [] d h = absurd (omega arith)
-first_set f (y ∷ ys) d h = refl
+first_set f ys d h = grind (arith, common_steps)
 
 pub begun_set : {S V : Type 0} (R : RuleSense S) (T : TallySense V) (ys : List (Node S V)) (d : Node S V) → 0 < length ys → set ys 0 (with_down (get_or ys 0 d) (first_label R T)) ≡ begun R T ys
-begun_set R T [] d h = absurd (omega arith)
-begun_set R T (y ∷ ys) d h = refl
+begun_set R T ys d h = grind (arith, common_steps)
 
 -- ---- a loop over the nodes of a layer: what it leaves, so far and to come
 module _ {S V : Type 0} (f : Node S V → Node S V) where
   pub renewed_more : (xs : List (Node S V)) (i : ℕ) (d : Node S V) → i < length xs → (get_or xs i d).label.down.lasts ≢ 0
       → take (i + 1) (set xs i (f (get_or xs i d))) ++ renewed f (drop (i + 1) (set xs i (f (get_or xs i d)))) ≡ take i xs ++ renewed f (drop i xs)
-  renewed_more xs i d lt ne =
-      let x = get_or xs i d in
-      rw (drop_more xs i d lt, ne_eqb x.label.down.lasts 0 ne, take_more_set xs i (f x) lt, drop-set-lt (i + 1) xs i (f x) (omega arith))
-      (append_assoc (take i xs) (f x ∷ []) (renewed f (drop (i + 1) xs)))
+  renewed_more xs i d lt ne = grind (arith, common_steps, nat_tests)
 
   pub renewed_stop : (xs : List (Node S V)) (i : ℕ) (d : Node S V) → i < length xs → (get_or xs i d).label.down.lasts ≡ 0 → set xs i (get_or xs i d) ≡ take i xs ++ renewed f (drop i xs)
-  renewed_stop xs i d lt e =
-      let x = get_or xs i d in
-      let rest = drop (i + 1) xs in
-      set-get_or xs i d ∙ sym (take-append-drop i xs)
-      ∙ ap (λ ys. take i xs ++ ys) (drop_more xs i d lt ∙ ap (λ (q : Bool). cond (not q) (f x ∷ renewed f rest) (x ∷ rest)) (sym (eq-eqb x.label.down.lasts 0 e)) ∙ ap (renewed f) (sym (drop_more xs i d lt)))
+  renewed_stop xs i d lt e = grind (arith, common_steps, nat_tests)
 
   pub renewed_all : (xs : List (Node S V)) (i : ℕ) → length xs ≤ i → take i xs ++ renewed f (drop i xs) ≡ xs
-  renewed_all xs i le = rw (drop_all i xs le) (append-nil (take i xs) ∙ take_all i xs le)
+  renewed_all xs i le = grind (arith, common_steps, drop_all)
 
 -- ---- from a layer on
 module _ {S V : Type 0} (w : ℕ) where
@@ -79,3 +71,10 @@ module _ {S V : Type 0} (w : ℕ) where
   unfolding risen_from
   risen_more zero xs ne = absurd (ne refl)
   risen_more (suc k) xs ne = let e : suc k - 1 ≡ k = omega arith in rw e
+
+-- ---- a pass down with a layer more to go
+pub after_more : {S V : Type 0} (by : Setting S V) (k : ℕ) (xs : List (Node S V)) → k ≢ 0
+    → renewed_after by k xs ≡ take by.width xs ++ renewed_after by (k - 1) (next_renewed by (take by.width xs) (take by.width (drop by.width xs)) ++ drop by.width (drop by.width xs))
+unfolding renewed_after
+after_more by zero xs ne = absurd (ne refl)
+after_more by (suc k) xs ne = let e : suc k - 1 ≡ k = omega arith in rw e

@@ -221,7 +221,7 @@ fn at_first<R: Rule, T: Tally>(rule: &R, tally: &T) -> Down<R::State, T::Value>
 }
 
 /// Works out anew the labels after a layer, which has its own, with `later` layers between it and the end.
-#[tactic(auto, using(crate::proofs::Rests::one_more, crate::proofs::Rests::front_long))]
+#[tactic(auto, using(crate::proofs::Rests::one_more, crate::proofs::Rests::front_long, crate::proofs::Steps::after_more), unfolding(crate::specs::Passes::renewed_after))]
 pub(crate) fn label_after<R: Rule, T: Tally>(
     by: &Setting<'_, R, T>,
     nodes: &mut [Node<R::State, T::Value>],

@@ -87,7 +87,7 @@ fn rise_layer<S: Copy, V: Copy>(us: &mut [Node<S, V>], vs: &[Node<S, V>])
 }
 
 /// A layer and all after it, with `later` layers between it and the end, which has no door after it.
-#[tactic(auto, using(crate::proofs::Rests::one_more, crate::proofs::Rests::front_long))]
+#[tactic(auto, using(crate::proofs::Rests::one_more, crate::proofs::Rests::front_long, crate::proofs::Steps::risen_last, crate::proofs::Steps::risen_more))]
 fn rise_from<S: Copy, V: Copy>(nodes: &mut [Node<S, V>], width: usize, later: usize)
     requires { later * width + width < length nodes.old }
     ensures { nodes.new ≡ risen_from width later nodes.old }

@@ -23,7 +23,8 @@ use Rattle.layers.proofs.Standing.{full}
 use Rattle.layers.proofs.Tied.{redirect-length}
 use Rattle.labels.specs.Passes.{part, arrivals, blank_node, unused_label}
 use Rattle.labels.proofs.Climbs.{down_of, up_of}
-use Rattle.labels.proofs.Laying.{arcs_of, Arranged, split}
+use Rattle.labels.proofs.Keeps.{each-kept}
+use Rattle.labels.proofs.Laying.{arcs_of, Arranged, split, one-more, front-of, back-of, ups-long}
 use Rattle.split.specs.Parted.{parted_node, parted_second}
 use Rattle.split.specs.Steps.{kept_first, parted_one}
 use Rattle.split.proofs.DepthNet.{two-fit}
@@ -55,12 +56,6 @@ push-row zero us u f lt = absurd (omega arith)
 push-row (suc w) [] u f lt = refl
 push-row (suc w) (x ∷ us) u f lt = ap (λ ys. f (Some x) ∷ ys) (push-row w us u f (omega arith))
 
--- w places to a layer
-first-row : {X : Type 0} (w n : ℕ) (f : ℕ → X) (xs later : List X) → take (suc n * w) ((table w f ++ xs) ++ later) ≡ table w f ++ take (n * w) (xs ++ later)
-first-row w n f xs later =
-    let e : suc n * w ≡ length (table w f) + n * w = omega (arith, suc-mul n w, table-long w f) in
-    ap₂ (λ (k : ℕ) ys. take k ys) e (append_assoc (table w f) xs later) ∙ take-append-add (table w f) (xs ++ later) (n * w)
-
 -- ---- upward sets
 abbrev climbing_from : List (Option Up) → Outs → Option Up
 climbing_from us nd = gather merge_up (climbs_of climb us 1 nd)
@@ -76,10 +71,6 @@ module _ (us vs : List (Option Up)) (m : ℕ) where
   unfolding each_node
   nodes-same f h u [] r = refl
   nodes-same f h u (nd ∷ L) r = ap₂ (λ x xs. x ∷ xs) (ap (gather merge_up) (doors-same (f u) (h u) 1 nd (λ k. r 0 (suc k)))) (nodes-same f h (suc u) L (λ c. r (suc c)))
-
-ups-long : (L : Layer) (Ls : Net) → length (ups (L ∷ Ls)) ≡ length L
-unfolding ups up
-ups-long L Ls = length-map L (climbing_from (ups Ls))
 
 ups-more : (a : ℕ) (M : Layer) (Ls : Net) → a < length M → ups ((M ++ (node M a ∷ [])) ∷ Ls) ≡ ups (M ∷ Ls) ++ (get_or (ups (M ∷ Ls)) a None ∷ [])
 unfolding ups up
@@ -177,11 +168,9 @@ module _ {S V : Type 0} (by : Setting S V) where
   -- ---- records that are laid out
   front-row : {Y : Type 0} (g : Node S V → Y) (k : ℕ) (labs : List (Option (Down S V))) (L : Layer) (Ls : Net) (later : List (Node S V)) → map g (take (suc k * w) (labelled_from by labs (L ∷ Ls) ++ later))
       ≡ table w (λ b. g (record_of_place by L labs (ups (L ∷ Ls)) b)) ++ map g (take (k * w) (labelled_from by (labels_next by labs L (width Ls)) Ls ++ later))
-  unfolding labelled_from
   front-row g k labs L Ls later =
-      let f = record_of_place by L labs (ups (L ∷ Ls)) in
-      let xs = labelled_from by (labels_next by labs L (width Ls)) Ls in
-      ap (map g) (first-row w k f xs later) ∙ map-append g (table w f) (take (k * w) (xs ++ later)) ∙ ap (λ ys. ys ++ map g (take (k * w) (xs ++ later))) (map-table g w f)
+      rw (one-more k w, split g w (k * w) (labelled_from by labs (L ∷ Ls) ++ later), front-of by labs (L ∷ Ls) later, back-of by labs L Ls later)
+      (ap (λ ys. ys ++ map g (take (k * w) (labelled_from by (labels_next by labs L (width Ls)) Ls ++ later))) (map-table g w (record_of_place by L labs (ups (L ∷ Ls)))))
 
   module _ (later : List (Node S V)) where
     ups-laid : (labs : List (Option (Down S V))) (Ls : Net) → map up_of (labelled_from by labs Ls ++ later) ≡ rows up_at (no_up ∷ map up_of later) Ls
@@ -223,14 +212,10 @@ module _ {S V : Type 0} (by : Setting S V) where
       let q : k ≡ d * w + (w + m) = omega (arith, suc-mul d w) in
       rw (p, q)
       (map-append h front _ ∙ ap (λ zs. map h front ++ zs)
-      (map-append h (map (parted_node stays a m) us) _ ∙ ap₂ (λ vs zs. vs ++ zs) (same us) (map-set h rest m (get_or rest a z) ∙ ap (set (map h rest) m) (sym (get_or-mapped h rest a z)))
+      (map-append h (map (parted_node stays a m) us) _ ∙ ap₂ (λ vs zs. vs ++ zs) (each-kept h (parted_node stays a m) (λ u. e u _) us) (map-set h rest m (get_or rest a z) ∙ ap (set (map h rest) m) (sym (get_or-mapped h rest a z)))
       ∙ sym (copied-after (h z) w a m A (map h rest) (length-map us h ∙ length-take-le w ys (omega (arith, length-drop (d * w) xs)))))
       ∙ sym (copied-after (h z) (d * w) (w + a) (w + m) (map h front) (A ++ map h rest) (length-map front h ∙ length-take-le (d * w) xs (omega arith)))
       ∙ ap (copied (h z) (d * w + (w + a)) (d * w + (w + m))) (ap (λ zs. map h front ++ zs) (sym (map-append h us rest) ∙ ap (map h) (take-append-drop w ys)) ∙ sym (map-append h front ys) ∙ ap (map h) (take-append-drop (d * w) xs)))
-    where
-      same : (us : List (Node S V)) → map h (map (parted_node stays a m) us) ≡ map h us
-      same [] = refl
-      same (u ∷ us) = ap₂ (λ y ys. y ∷ ys) (e u _) (same us)
 
   module _ (one : 1 ≤ w) (later : List (Node S V)) where
     -- the labels stand that are those of the net Ls, when layer d + 1 is parted: upward sets, downward labels before it, and what places are not in use

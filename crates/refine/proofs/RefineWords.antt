@@ -18,7 +18,7 @@ use Rattle.layers.proofs.Standing.{arcs-X}
 use Rattle.layers.proofs.Proper.{proper-kept}
 use Rattle.layers.proofs.Shaped.{relaid-shaped}
 use Rattle.labels.specs.Passes.{fits, below_steps, HasDownsBefore, unused_label}
-use Rattle.labels.proofs.Below.{below-laid}
+use Rattle.labels.proofs.Laying.{below_laid}
 use Rattle.labels.proofs.Climbs.{down_of, up_of}
 use Rattle.labels.proofs.Rooms.{Roomed, room-facts}
 use Rattle.filter.specs.Steps.{Done, IsLabelled, arc_count, sweep_labelled_steps}
@@ -107,7 +107,7 @@ module _ {S V : Type 0} (by : Setting S V) (self : (s : S) → by.rule.same s s 
           let back : suc (i - 1) ≡ i = omega arith in
           let is : labelled_records by Ls ++ later xs ≡ records_with by zs Ls = ap (λ (ys : Recs). labelled_records by Ls ++ ys) (sym (q.tail ∙ swept-fresh.tail)) in
           let below : below_steps by i zs ≡ records_with by zs Ls =
-          below-laid by i Ls zs (ap (fits n by.width) q.long ∙ swept-fresh.sound.fit) lo (omega arith) q.left.well
+          below_laid by i Ls zs (ap (fits n by.width) q.long ∙ swept-fresh.sound.fit) lo (omega arith) q.left.well
           (ap (λ (k : ℕ). arcs_read (take k zs)) (sym deep) ∙ arcs-laid by.width Ls zs q.left.holds.0) (st.ups ∙ ap (map up_of) is)
           (subst (λ (k : ℕ). HasDownsBefore by k Ls zs) back (st.downs ∙ ap (λ ys. map down_of (take (suc (i - 1) * by.width) ys)) is)) (st.places ∙ ap (λ ys. map (unused_label by) (take (n * by.width) ys)) is) in
           ap (λ (ys : Recs). ((layer_steps by i ys).0, below_steps by i (layer_steps by i ys).1)) (once-words (ltb 1 i) h)
@@ -126,11 +126,9 @@ module _ {S V : Type 0} (by : Setting S V) (self : (s : S) → by.rule.same s s 
       let Y = (parts i xs).1 in
       let t = parts-fresh xs s i lo (omega arith) in
       let ih = layers-words k (suc i) Y t.sound (λ e. t.labelled) (omega arith) (omega arith) in
-      let good = cond_both (parts i xs).0 (Full i, Y) (refinement_from by k (suc i) Y) (λ z. Sound z.1 × Known (ltb 1 (i + suc k)) z.1) (λ _. (t.sound, λ e. t.labelled)) (λ _. (ih.1, λ e. ih.2 (ap (ltb 1) (omega arith) ∙ e))) in (
-        ap (λ (p : Bool × Recs). cond p.0 (Full i, p.1) (some_layers by k (suc i) p.1)) (layer-words xs s i lo (omega arith) h) ∙ ap (λ (z : Refined × Recs). cond (parts i xs).0 (Full i, Y) z) ih.0,
-        good.0,
-        good.1,
-      )
+      let good = cond_both (parts i xs).0 (Full i, Y) (refinement_from by k (suc i) Y) (λ z. Sound z.1 × Known (ltb 1 (i + suc k)) z.1) (λ _. (t.sound, λ e. t.labelled)) (λ _. (ih.1, λ e. ih.2 (ap (ltb 1) (omega arith) ∙ e))) in
+      let same = ap (λ (p : Bool × Recs). cond p.0 (Full i, p.1) (some_layers by k (suc i) p.1)) (layer-words xs s i lo (omega arith) h) ∙ ap (λ (z : Refined × Recs). cond (parts i xs).0 (Full i, Y) z) ih.0 in
+      (same, good.0, good.1)
 
   -- ---- sweeps until nothing goes
   out-words : (known : Bool) (k : ℕ) (xs : Recs) → Sound xs → Known known xs → (k ≡ 0 → IsTimely n by.width xs)
@@ -143,12 +141,8 @@ module _ {S V : Type 0} (by : Setting S V) (self : (s : S) → by.rule.same s s 
       let tY = swept-timely by xs s.fit s.shaped in
       let ih = out-words true k Y f.sound (λ e. f.labelled) (λ e. tY) in
       let good = cond_both (eqb (sweep_answer by xs) 0) Y (after_sweeps by k Y) (λ zs. IsShaped n by.width zs × IsTimely n by.width zs) (λ _. (f.sound.shaped, tY)) (λ _. (ih.1, ih.2)) in
-      let few : arc_count n by.width xs - arc_count n by.width Y ≡ sweep_answer by xs = fewer-words by.round by.width xs Y s.fit f.long s.shaped f.sound.shaped in (
-        ap (λ (ys : Recs). cond (eqb (arc_count n by.width xs - arc_count n by.width ys) 0) ys (sweeps_out by true k ys)) (once-words xs s known h)
-            ∙ ap₂ (λ (m : ℕ) (zs : Recs). cond (eqb m 0) Y zs) few ih.0,
-        good.0,
-        good.1,
-      )
+      let few : arc_count n by.width xs - arc_count n by.width Y ≡ sweep_answer by xs = fewer-words by.round by.width xs Y s.fit f.long s.shaped f.sound.shaped in
+      (rw (once-words xs s known h, few, ih.0) refl, good.0, good.1)
 
   -- ---- refine
   pub refine_done : (xs : Recs) → fits n by.width (length xs) ≡ true → IsShaped n by.width xs → (ys : Recs) (m : Refined) → ys ≡ (refine_steps by xs).1 → m ≡ (refine_steps by xs).0 → Done n by.width (refinement by xs).1 ys (refinement by xs).0 m

@@ -9,9 +9,7 @@ use Rattle.layers.specs.Settings.{Setting}
 module _ {S V : Type 0} (by : Setting S V) where
   pub layers_more : (n i : ℕ) (xs : List (Node S V)) → i < n → some_layers by (n - i) i xs ≡ cond (one_layer by i xs).0 (Full i, (one_layer by i xs).1) (some_layers by (n - (i + 1)) (i + 1) (one_layer by i xs).1)
   unfolding some_layers
-  layers_more n i xs lt =
-      let e : n - i ≡ suc (n - (i + 1)) = omega arith in
-      ap (λ (m : ℕ). some_layers by m i xs) e ∙ ap (λ (j : ℕ). cond (one_layer by i xs).0 (Full i, (one_layer by i xs).1) (some_layers by (n - (i + 1)) j (one_layer by i xs).1)) (sym (add-one i))
+  layers_more n i xs lt = let e : n - i ≡ suc (n - (i + 1)) = omega arith in rw (e, add-one i)
 
   pub layers_none : (n i : ℕ) (xs : List (Node S V)) → n ≤ i → some_layers by (n - i) i xs ≡ (Whole, xs)
   unfolding some_layers

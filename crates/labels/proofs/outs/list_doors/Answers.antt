@@ -1,6 +1,6 @@
 use Rattle.std.proofs.Common.{ℕ, ◌≤◌, not, eqb, get_or, arith}
 use Rattle.std.proofs.lemmas.Grind.{common_steps}
-use Rattle.labels.proofs.DoorsOut.{byte-most, listed-more}
+use Rattle.labels.proofs.DoorsOut.{byte-most, listed_more}
 use Rattle.labels.proofs.outs.list_doors.Goals as goal
 
 pub loop-k-preserved : goal.loop-k-preserved
@@ -12,5 +12,5 @@ loop-k-preserved c =
       long = grind (arith, common_steps, l.invariant.long);
       few = omega arith;
       in_range = λ i lt. grind (arith, common_steps, l.invariant.in_range i);
-      listed = rw c.from-many.ensures (listed-more p l.doors l.many l.k (omega arith) l.invariant.listed);
+      listed = rw c.from-many.ensures (listed_more p l.doors l.many l.k (omega arith) l.invariant.listed);
     }

@@ -2,7 +2,7 @@ use Rattle.std.proofs.Common.{◌≡◌, false, length, sym, ap, ◌∙◌, arit
 use Rattle.layers.specs.Settings.{lent_setting}
 use Rattle.std.proofs.lemmas.Bool.{cond-true, cond-false}
 use Rattle.labels.specs.Passes.{fits, pass_up, relabelled_used}
-use Rattle.labels.proofs.Below.{used-read}
+use Rattle.labels.proofs.Laying.{used_read}
 use Rattle.labels.proofs.Rooms.{room-facts}
 use Rattle.labels.proofs.relabel.relabel_used.Goals as goal
 
@@ -20,7 +20,7 @@ returns-then-has_room g c =
     let xs = c.args.nodes.now in
     let by = lent_setting c.args.by.now (g.R.Rule.sense c.args.by.now.rule.now) (g.T.Tally.sense c.args.by.now.tally.now) in
     let is : c.label_up.new.nodes ≡ relabelled_used by xs = c.label_up.ensures ∙ ap (pass_up by.round.n by.width) c.label_down.ensures in
-    record { passes = is ∙ sym (cond-true (fits by.round.n by.width (length xs)) _ _ (sym c.if-has_room.ensures)); labelled = λ Ls f p e has. is ∙ used-read by Ls xs f p e has }
+    record { passes = is ∙ sym (cond-true (fits by.round.n by.width (length xs)) _ _ (sym c.if-has_room.ensures)); labelled = λ Ls f p e has. is ∙ used_read by Ls xs f p e has }
 
 pub returns-else-has_room : goal.returns-else-has_room
 returns-else-has_room g c =

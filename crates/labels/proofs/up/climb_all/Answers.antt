@@ -6,8 +6,8 @@ use Rattle.std.proofs.lemmas.List.{take_all}
 use Rattle.std.proofs.lemmas.List.Sums.{fold_more}
 use Rattle.layers.specs.declared.node.Up.{Up}
 use Rattle.layers.specs.Labels.{no_up}
-use Rattle.labels.specs.Passes.{up_by, ups_of, taken_up, doors_out}
-use Rattle.labels.proofs.DoorsOut.{brought_out, listed_door}
+use Rattle.labels.specs.Passes.{up_by, ups_of, taken_up}
+use Rattle.labels.proofs.DoorsOut.{folded_out, listed_door}
 use Rattle.labels.proofs.Steps.{fold_joined, taken_gathered}
 use Rattle.labels.proofs.up.climb_all.Goals as goal
 
@@ -25,8 +25,9 @@ returns g c =
     let o = c.list_doors-many in
     let to = c.args.u.now.arcs.to in
     let F = up_by c.args.vs.now c.args.u.now in
+    let f : Option Up → ℕ → Option Up = λ got k. fold taken_up got (F k) in
     let all : c.loop-k.got ≡ fold taken_up None (flat_map F (range_with_len 0 16)) =
-    c.loop-k.invariant ∙ ap (fold (λ (got : Option Up) (k : ℕ). fold taken_up got (F k)) None) (take_all c.loop-k.k-index (take o.result o.new.doors) (omega arith) ∙ o.ensures.listed)
-    ∙ fold_joined taken_up F None (doors_out to) ∙ ap (fold taken_up None) (sym (brought_out F to (λ k e. rw e refl))) in
+    c.loop-k.invariant ∙ ap (fold f None) (take_all c.loop-k.k-index (take o.result o.new.doors) (omega arith) ∙ o.ensures.listed)
+    ∙ sym (folded_out f to (λ b k e. rw e refl) None) ∙ fold_joined taken_up F None (range_with_len 0 16) in
     rw (ne_eqb c.args.u.now.label.down.lasts 0 c.if-u-eq0.false)
     (c.unwrap_or.ensures ∙ ap (λ o. unwrap_or o no_up) all ∙ taken_gathered (flat_map F (range_with_len 0 16)))
