@@ -57,9 +57,8 @@ has-arc (nd ∷ L) (suc a) j b e = let h : a < length L = has-arc L a j b e in o
 
 pub inside : (Ls : Net) (a : ℕ) (w : List ℕ) → PathFrom Ls a w → a < width Ls
 inside [] a [] p = omega arith
-inside [] a (j ∷ w) p = absurd p
-inside (L ∷ Ls) a [] p = absurd p
 inside (L ∷ Ls) a (j ∷ w) p = has-arc L a j p.0 p.1
+inside Ls a w p = absurd p
 
 -- ---- downward
 pub among-left : {A : Type 0} (x : A) (l m : List A) → Among x l → Among x (l ++ m)
@@ -79,15 +78,13 @@ module _ {A : Type 0} (arrival_over : A → ℕ → A) (merge : A → A → A) w
 
   pub ins-in : (b : ℕ) (labs : List (Option A)) (L : Layer) (a j : ℕ) (l : A) → target (node L a) j ≡ suc b → get_or labs a None ≡ Some l → Among (arrival_over l j) (arrivals_at arrival_over b labs L)
   unfolding arrivals_at
-  ins-in b labs L a zero l e g = absurd (omega arith)
-  ins-in b [] L a (suc k) l e g = absurd cc
-  ins-in b (o ∷ labs) [] a (suc k) l e g = absurd (omega arith)
-  ins-in b (None ∷ labs) (nd ∷ L) zero (suc k) l e g = absurd cc
   ins-in b (None ∷ labs) (nd ∷ L) (suc a) (suc k) l e g = ins-in b labs L a (suc k) l e g
   ins-in b (Some l' ∷ labs) (nd ∷ L) zero (suc k) l e g =
       let x : l' ≡ l = cc in
       among-left (arrival_over l (suc k)) (arrivals_by_door arrival_over b l' 1 nd) (arrivals_at arrival_over b labs L) (rw (← x) (ins_door-in b l' 1 nd k (suc k) (omega arith) e))
   ins-in b (Some l' ∷ labs) (nd ∷ L) (suc a) (suc k) l e g = among-right _ (arrivals_by_door arrival_over b l' 1 nd) _ (ins-in b labs L a (suc k) l e g)
+  ins-in b labs L a zero l e g = absurd (omega arith)
+  ins-in b labs L a (suc k) l e g = absurd cc
 
 module _ {A : Type 0} (merge : A → A → A) (R : A → A → Type 0) (R-refl : (x : A) → R x x) (R-trans : (x y z : A) → R x y → R y z → R x z)
     (left : (x y : A) → R x (merge x y)) (right : (x y : A) → R y (merge x y)) where
@@ -132,36 +129,30 @@ module _ {A : Type 0} (merge : A → A → A) (R : A → A → Type 0) (R-refl :
 -- ---- tidying
 pub mark-next : (fr : List (Option Mark)) (L : Layer) (count a j b : ℕ) → target (node L a) j ≡ suc b → get_or fr a None ≡ Some tt → b < count → get_or (marks_next fr L count) b None ≡ Some tt
 unfolding marks_next
-mark-next fr L count a j b e g h =
-    let q = next-at {A = Mark} (λ x y. tt) (λ x y. Unit {0}) (λ x. tt) (λ x y z p q. tt) (λ x y. tt) (λ x y. tt) (λ m k. tt) fr L count a j b tt e g h in q.1
+mark-next fr L count a j b e g h = (next-at {A = Mark} (λ x y. tt) (λ x y. Unit {0}) (λ x. tt) (λ x y z p q. tt) (λ x y. tt) (λ x y. tt) (λ m k. tt) fr L count a j b tt e g h).1
 
 pub mark-up : (Ls : Net) (a : ℕ) (w : List ℕ) → PathFrom Ls a w → get_or (marks_up Ls) a None ≡ Some tt
 unfolding marks_up
 mark-up [] a [] p = unfold up in ap (λ (x : ℕ). get_or {A = Option Mark} (Some tt ∷ []) x None) p
-mark-up [] a (j ∷ w) p = absurd p
-mark-up (L ∷ Ls) a [] p = absurd p
-mark-up (L ∷ Ls) a (j ∷ w) p =
-    let q = up_at {A = Mark} (λ x y. tt) (λ x y. Unit {0}) (λ x. tt) (λ x y z p q. tt) (λ x y. tt) (λ x y. tt) (λ m k. tt) tt L Ls a j p.0 tt p.1 (mark-up Ls p.0 w p.2) in q.1
+mark-up (L ∷ Ls) a (j ∷ w) p = (up_at {A = Mark} (λ x y. tt) (λ x y. Unit {0}) (λ x. tt) (λ x y z p q. tt) (λ x y. tt) (λ x y. tt) (λ m k. tt) tt L Ls a j p.0 tt p.1 (mark-up Ls p.0 w p.2)).1
+mark-up Ls a w p = absurd p
 
 pub flags-at : (fr us : List (Option Mark)) (a : ℕ) → get_or fr a None ≡ Some tt → get_or us a None ≡ Some tt → get_or (flags fr us) a false ≡ true
 unfolding flags
-flags-at [] us a e f = absurd cc
-flags-at (x ∷ xs) [] a e f = absurd cc
 flags-at (x ∷ xs) (u ∷ us) zero e f = rw (e, f)
 flags-at (x ∷ xs) (u ∷ us) (suc a) e f = flags-at xs us a e f
+flags-at xs us a e f = absurd cc
 
 pub compress-at : (fs : List Bool) (L : Layer) (a : ℕ) → get_or fs a false ≡ true → node (compress fs L) (rank fs a) ≡ node L a
 unfolding compress rank
 compress-at [] L a e = absurd cc
 compress-at (f ∷ fs) [] a e = refl
-compress-at (f ∷ fs) (x ∷ xs) zero e = grind (arith, e)
-compress-at (f ∷ fs) (x ∷ xs) (suc a) e = grind (arith, e, compress-at fs xs a)
+compress-at (f ∷ fs) (x ∷ xs) a e = grind (arith, e, compress-at fs xs)
 
 pub rank-zero : (fs : List Bool) → rank fs 0 ≡ 0
 unfolding rank
 rank-zero [] = refl
-rank-zero (true ∷ fs) = refl
-rank-zero (false ∷ fs) = refl
+rank-zero (f ∷ fs) = grind arith
 
 pub renumber-at : (fs : List Bool) (b : ℕ) → get_or fs b false ≡ true → renumber fs b ≡ suc (rank fs b)
 unfolding renumber
@@ -170,8 +161,6 @@ renumber-at fs b e = rw e
 tidy-from : (fr : List (Option Mark)) (Ls : Net) (a : ℕ) (w : List ℕ) → get_or fr a None ≡ Some tt → PathFrom Ls a w → PathFrom (tidy fr Ls) (rank (flags fr (marks_up Ls)) a) w
 unfolding tidy
 tidy-from fr [] a [] g p = ap (rank (flags fr (marks_up []))) p ∙ rank-zero (flags fr (marks_up []))
-tidy-from fr [] a (j ∷ w) g p = absurd p
-tidy-from fr (L ∷ Ls) a [] g p = absurd p
 tidy-from fr (L ∷ Ls) a (j ∷ w) g p =
     let b = p.0 in
     let fr' = marks_next fr L (width Ls) in
@@ -183,11 +172,11 @@ tidy-from fr (L ∷ Ls) a (j ∷ w) g p =
       rw (compress-at (flags fr (marks_up (L ∷ Ls))) (redirect (λ x y c. renumber fs c) L) a here) (redirect-arc (λ x y c. renumber fs c) L a j b p.1 ∙ renumber-at fs b there),
       tidy-from fr' Ls b w g' p.2,
     )
+tidy-from fr Ls a w g p = absurd p
 
 pub tidy-keeps : (Ls : Net) (w : List ℕ) → PathFrom Ls 0 w → PathFrom (tidied_arcs Ls) 0 w
 unfolding tidied_arcs
 tidy-keeps [] w p = p
-tidy-keeps (L ∷ Ls) [] p = absurd p
 tidy-keeps (L ∷ Ls) (j ∷ w) p =
     let b = p.0 in
     let fr = marks_next (Some tt ∷ []) L (width Ls) in
@@ -195,6 +184,7 @@ tidy-keeps (L ∷ Ls) (j ∷ w) p =
     let g = mark-next (Some tt ∷ []) L (width Ls) 0 j b p.1 refl (inside Ls b w p.2) in
     let there = flags-at fr (marks_up Ls) b g (mark-up Ls b w p.2) in
     (rank fs b, redirect-arc (λ x y c. renumber fs c) L 0 j b p.1 ∙ renumber-at fs b there, tidy-from fr Ls b w g p.2)
+tidy-keeps Ls w p = absurd p
 
 -- ---- where an arrival comes from
 pub among-split : {A : Type 0} (x : A) (l m : List A) → Among x (l ++ m) → Among x l ⊎ Among x m
@@ -216,26 +206,22 @@ module _ {A : Type 0} (arrival_over : A → ℕ → A) where
   ins_door-from : (b : ℕ) (l x : A) (j : ℕ) (ts : Outs) → Among x (arrivals_by_door arrival_over b l j ts) → (k : ℕ) × (get_or ts k 0 ≡ suc b) × (x ≡ arrival_over l (j + k))
   unfolding arrivals_by_door
   ins_door-from b l x j [] i = absurd i
-  ins_door-from b l x j (t ∷ ts) i = go (put-from (eqb t (suc b)) x (arrival_over l j) (arrivals_by_door arrival_over b l (suc j) ts) i) (λ h. ins_door-from b l x (suc j) ts h)
-    where
-      go : ((eqb t (suc b) ≡ true) × (x ≡ arrival_over l j)) ⊎ Among x (arrivals_by_door arrival_over b l (suc j) ts)
-          → (Among x (arrivals_by_door arrival_over b l (suc j) ts) → (k : ℕ) × (get_or ts k 0 ≡ suc b) × (x ≡ arrival_over l (suc j + k)))
-          → (k : ℕ) × (get_or (t ∷ ts) k 0 ≡ suc b) × (x ≡ arrival_over l (j + k))
-      go (inl h) f = (0, eqb-true t (suc b) h.0, h.1 ∙ ap (arrival_over l) (omega arith))
-      go (inr h) f = let q = f h in (suc q.0, q.1, q.2 ∙ ap (arrival_over l) (omega arith))
+  ins_door-from b l x j (t ∷ ts) i = elim (put-from (eqb t (suc b)) x (arrival_over l j) (arrivals_by_door arrival_over b l (suc j) ts) i) [
+    | inl h ↦ (0, eqb-true t (suc b) h.0, h.1 ∙ ap (arrival_over l) (omega arith))
+    | inr h ↦ (let q = ins_door-from b l x (suc j) ts h in (suc q.0, q.1, q.2 ∙ ap (arrival_over l) (omega arith)))
+  ]
+
+  from-later : (b : ℕ) (o : Option A) (nd : Outs) (labs : List (Option A)) (L : Layer) (x : A) → From arrival_over b labs L x → From arrival_over b (o ∷ labs) (nd ∷ L) x
+  from-later b o nd labs L x q = record { source = suc q.source; door = q.door; label = q.label; arc = q.arc; labelled = q.labelled; is = q.is }
 
   pub ins-from : (b : ℕ) (labs : List (Option A)) (L : Layer) (x : A) → Among x (arrivals_at arrival_over b labs L) → From arrival_over b labs L x
   unfolding arrivals_at
-  ins-from b [] L x i = absurd i
-  ins-from b (o ∷ labs) [] x i = absurd i
-  ins-from b (None ∷ labs) (nd ∷ L) x i =
-      let q = ins-from b labs L x i in record { source = suc q.source; door = q.door; label = q.label; arc = q.arc; labelled = q.labelled; is = q.is }
-  ins-from b (Some l ∷ labs) (nd ∷ L) x i = go (among-split x (arrivals_by_door arrival_over b l 1 nd) (arrivals_at arrival_over b labs L) i) (λ h. ins-from b labs L x h)
-    where
-      go : Among x (arrivals_by_door arrival_over b l 1 nd) ⊎ Among x (arrivals_at arrival_over b labs L) → (Among x (arrivals_at arrival_over b labs L) → From arrival_over b labs L x) → From arrival_over b (Some l ∷ labs) (nd ∷ L) x
-      go (inl h) f = let q = ins_door-from b l x 1 nd h in
-          record { source = 0; door = suc q.0; label = l; arc = q.1; labelled = refl; is = q.2 ∙ ap (arrival_over l) (omega arith) }
-      go (inr h) f = let q = f h in record { source = suc q.source; door = q.door; label = q.label; arc = q.arc; labelled = q.labelled; is = q.is }
+  ins-from b (None ∷ labs) (nd ∷ L) x i = from-later b None nd labs L x (ins-from b labs L x i)
+  ins-from b (Some l ∷ labs) (nd ∷ L) x i = elim (among-split x (arrivals_by_door arrival_over b l 1 nd) (arrivals_at arrival_over b labs L) i) [
+    | inl h ↦ (let q = ins_door-from b l x 1 nd h in record { source = 0; door = suc q.0; label = l; arc = q.1; labelled = refl; is = q.2 ∙ ap (arrival_over l) (omega arith) })
+    | inr h ↦ from-later b (Some l) nd labs L x (ins-from b labs L x h)
+  ]
+  ins-from b labs L x i = absurd i
 
 table-get : {A : Type 0} (n k : ℕ) (f : ℕ → Option A) (x : A) → get_or (table n f) k None ≡ Some x → (k < n) × (f k ≡ Some x)
 table-get zero k f x e = absurd cc
@@ -280,16 +266,16 @@ pub record Climbs {A : Type 0} (climb : A → ℕ → A) (us : List (Option A)) 
 pub outs-from : {A : Type 0} (climb : A → ℕ → A) (us : List (Option A)) (x : A) (j : ℕ) (ts : Outs) → Among x (climbs_of climb us j ts) → Climbs climb us j ts x
 unfolding climbs_of
 outs-from climb us x j [] i = absurd i
-outs-from {A} climb us x j (t ∷ ts) i = go t (read us t) refl i (λ h. outs-from climb us x (suc j) ts h)
+outs-from {A} climb us x j (t ∷ ts) i = elim (go t (read us t) refl i) [
+  | inl c ↦ c
+  | inr h ↦ (let c = outs-from climb us x (suc j) ts h in record { skip = suc c.skip; to = c.to; label = c.label; arc = c.arc; labelled = c.labelled; is = c.is ∙ ap (climb c.label) (omega arith) })
+]
   where
-    later : (t : ℕ) → Climbs climb us (suc j) ts x → Climbs climb us j (t ∷ ts) x
-    later t c = record { skip = suc c.skip; to = c.to; label = c.label; arc = c.arc; labelled = c.labelled; is = c.is ∙ ap (climb c.label) (omega arith) }
-
-    go : (t : ℕ) (o : Option A) → read us t ≡ o → Among x (cons_if_some climb j o (climbs_of climb us (suc j) ts)) → (Among x (climbs_of climb us (suc j) ts) → Climbs climb us (suc j) ts x) → Climbs climb us j (t ∷ ts) x
-    go t None e i f = later t (f i)
-    go zero (Some u) e i f = absurd cc
-    go (suc b) (Some u) e (inl h) f = record { skip = 0; to = b; label = u; arc = refl; labelled = e; is = h ∙ ap (climb u) (omega arith) }
-    go (suc b) (Some u) e (inr h) f = later (suc b) (f h)
+    go : (t : ℕ) (o : Option A) → read us t ≡ o → Among x (cons_if_some climb j o (climbs_of climb us (suc j) ts)) → Climbs climb us j (t ∷ ts) x ⊎ Among x (climbs_of climb us (suc j) ts)
+    go t None e i = inr i
+    go zero (Some u) e i = absurd cc
+    go (suc b) (Some u) e (inl h) = inl (record { skip = 0; to = b; label = u; arc = refl; labelled = e; is = h ∙ ap (climb u) (omega arith) })
+    go (suc b) (Some u) e (inr h) = inr h
 
 pub map-some : {A : Type 0} (f : Outs → Option A) (L : Layer) (a : ℕ) (x : A) → get_or (map f L) a None ≡ Some x → f (node L a) ≡ Some x
 map-some f [] a x e = absurd cc
