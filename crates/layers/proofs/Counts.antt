@@ -17,8 +17,7 @@ use Rattle.layers.specs.declared.node.Up.{Up}
 doors-fewer : (f : ℕ → ℕ → ℕ) (j : ℕ) (ts : Outs) → count_doors (each_door f j ts) ≤ count_doors ts
 unfolding count_doors each_door
 doors-fewer f j [] = omega arith
-doors-fewer f j (zero ∷ ts) = doors-fewer f (suc j) ts
-doors-fewer f j (suc b ∷ ts) = grind (arith, doors-fewer f (suc j) ts)
+doors-fewer f j (t ∷ ts) = grind (arith, doors-fewer f (suc j) ts)
 
 pub nodes-fewer : (f : ℕ → ℕ → ℕ → ℕ) (a : ℕ) (L : Layer) → count_layer (each_node f a L) ≤ count_layer L
 unfolding count_layer each_node
@@ -53,8 +52,7 @@ tidied-fewer (L ∷ Ls) =
 doors-quiet : (t : ℕ → ℕ → Bool) (j : ℕ) (ts : Outs) → count_doors (each_door (λ j b. cond (t j b) 0 (suc b)) j ts) ≡ count_doors ts → every_door (λ j b. not (t j b)) j ts ≡ true
 unfolding count_doors each_door every_door
 doors-quiet t j [] e = refl
-doors-quiet t j (zero ∷ ts) e = doors-quiet t (suc j) ts e
-doors-quiet t j (suc b ∷ ts) e = let x = doors-fewer (λ j b. cond (t j b) 0 (suc b)) (suc j) ts in grind (arith, e, x, doors-quiet t (suc j) ts)
+doors-quiet t j (s ∷ ts) e = let x = doors-fewer (λ j b. cond (t j b) 0 (suc b)) (suc j) ts in grind (arith, e, x, doors-quiet t (suc j) ts)
 
 pub layer-quiet : (t : ℕ → ℕ → ℕ → Bool) (i : ℕ) (L : Layer) → count_layer (each_node (λ a j b. cond (t a j b) 0 (suc b)) i L) ≡ count_layer L → every_arc (λ a j b. not (t a j b)) i L ≡ true
 unfolding count_layer each_node every_arc

@@ -106,17 +106,12 @@ module _ {S V : Type 0} {Keeps : List ℕ → Type 0} {Stands : S → List ℕ �
 every_door-at : (f : ℕ → ℕ → Bool) (j : ℕ) (ts : Outs) (k m b : ℕ) → j + k ≡ m → every_door f j ts ≡ true → get_or ts k 0 ≡ suc b → f m b ≡ true
 unfolding every_door
 every_door-at f j [] k m b h t e = absurd (omega arith)
-every_door-at f j (zero ∷ ts) zero m b h t e = absurd (omega arith)
-every_door-at f j (zero ∷ ts) (suc k) m b h t e = every_door-at f (suc j) ts k m b (omega arith) t e
-every_door-at f j (suc c ∷ ts) zero m b h t e = let x : m ≡ j = omega arith in let y : b ≡ c = omega arith in grind (arith, t, x, y)
-every_door-at f j (suc c ∷ ts) (suc k) m b h t e = grind (arith, t, every_door-at f (suc j) ts k m b (omega arith), e)
+every_door-at f j (s ∷ ts) k m b h t e = grind (arith, t, e, every_door-at f (suc j) ts)
 
 pub every_arc-at : (f : ℕ → ℕ → ℕ → Bool) (c : ℕ) (L : Layer) (a m j b : ℕ) → c + a ≡ m → every_arc f c L ≡ true → target (node L a) j ≡ suc b → f m j b ≡ true
 unfolding every_arc
-every_arc-at f c L a m zero b h t e = absurd (omega arith)
-every_arc-at f c [] a m (suc k) b h t e = absurd (omega arith)
-every_arc-at f c (nd ∷ L) zero m (suc k) b h t e = let x : m ≡ c = omega arith in grind (arith, t, x, every_door-at (f c) 1 nd k (suc k) b (omega arith), e)
-every_arc-at f c (nd ∷ L) (suc a) m (suc k) b h t e = grind (arith, t, every_arc-at f (suc c) L a m (suc k) b (omega arith), e)
+every_arc-at f c [] a m j b h t e = absurd (grind (arith, e))
+every_arc-at f c (nd ∷ L) a m j b h t e = grind (arith, t, e, every_door-at (f c) 1 nd, every_arc-at f (suc c) L)
 
 module _ {S V : Type 0} {Keeps : List ℕ → Type 0} {Stands : S → List ℕ → Type 0} {Allows : ℕ → V → Type 0} (by : Setting S V) (ruled : RuleLaws by.round.n by.rule Keeps Stands) (tallied : TallyLaws by.round.n by.tally Allows) where
   -- ---- what is gathered from arrivals that agree agrees with each

@@ -30,10 +30,7 @@ table-long (suc k) f = ap suc (table-long k (λ m. f (suc m)))
 each_door-get : (f : ℕ → ℕ → ℕ) (j : ℕ) (ts : Outs) (k m : ℕ) → j + k ≡ m → get_or (each_door f j ts) k 0 ≡ at_door f m (get_or ts k 0)
 unfolding each_door
 each_door-get f j [] k m h = refl
-each_door-get f j (zero ∷ ts) zero m h = refl
-each_door-get f j (suc c ∷ ts) zero m h = ap (λ (x : ℕ). f x c) (omega arith)
-each_door-get f j (zero ∷ ts) (suc k) m h = each_door-get f (suc j) ts k m (omega arith)
-each_door-get f j (suc c ∷ ts) (suc k) m h = each_door-get f (suc j) ts k m (omega arith)
+each_door-get f j (t ∷ ts) k m h = grind (arith, each_door-get f (suc j) ts)
 
 each_node-get : (f : ℕ → ℕ → ℕ → ℕ) (c : ℕ) (L : Layer) (a m j : ℕ) → c + a ≡ m → target (node (each_node f c L) a) j ≡ at_door (f m) j (target (node L a) j)
 unfolding each_node
@@ -139,8 +136,7 @@ mark-up Ls a w p = absurd p
 
 pub flags-at : (fr us : List (Option Mark)) (a : ℕ) → get_or fr a None ≡ Some tt → get_or us a None ≡ Some tt → get_or (flags fr us) a false ≡ true
 unfolding flags
-flags-at (x ∷ xs) (u ∷ us) zero e f = rw (e, f)
-flags-at (x ∷ xs) (u ∷ us) (suc a) e f = flags-at xs us a e f
+flags-at (x ∷ xs) (u ∷ us) a e f = grind (arith, e, f, flags-at xs us)
 flags-at xs us a e f = absurd cc
 
 pub compress-at : (fs : List Bool) (L : Layer) (a : ℕ) → get_or fs a false ≡ true → node (compress fs L) (rank fs a) ≡ node L a
@@ -279,5 +275,4 @@ outs-from {A} climb us x j (t ∷ ts) i = elim (go t (read us t) refl i) [
 
 pub map-some : {A : Type 0} (f : Outs → Option A) (L : Layer) (a : ℕ) (x : A) → get_or (map f L) a None ≡ Some x → f (node L a) ≡ Some x
 map-some f [] a x e = absurd cc
-map-some f (nd ∷ L) zero x e = e
-map-some f (nd ∷ L) (suc a) x e = map-some f L a x e
+map-some f (nd ∷ L) a x e = grind (arith, e, map-some f L)

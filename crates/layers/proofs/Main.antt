@@ -31,21 +31,16 @@ use Rattle.doors.proofs.Sets.{part_length}
 any-in : (f : ℕ → ℕ → Bool) (j : ℕ) (ts : Outs) (k m b : ℕ) → j + k ≡ m → get_or ts k 0 ≡ suc b → f m b ≡ true → any_door f j ts ≡ true
 unfolding any_door
 any-in f j [] k m b h e t = absurd (omega arith)
-any-in f j (zero ∷ ts) zero m b h e t = absurd (omega arith)
-any-in f j (zero ∷ ts) (suc k) m b h e t = any-in f (suc j) ts k m b (omega arith) e t
-any-in f j (suc c ∷ ts) zero m b h e t = grind (arith, t)
-any-in f j (suc c ∷ ts) (suc k) m b h e t = grind (arith, any-in f (suc j) ts k m b (omega arith) e t)
+any-in f j (s ∷ ts) k m b h e t = grind (arith, e, t, any-in f (suc j) ts)
 
 any-from : (f : ℕ → ℕ → Bool) (j : ℕ) (ts : Outs) → any_door f j ts ≡ true → (k : ℕ) × (b : ℕ) × (get_or ts k 0 ≡ suc b) × (f (j + k) b ≡ true)
 unfolding any_door
 any-from f j [] e = absurd (false≢true e)
 any-from f j (zero ∷ ts) e = let q = any-from f (suc j) ts e in (suc q.0, q.1, q.2, ap (λ (x : ℕ). f x q.1) (omega arith) ∙ q.3)
-any-from f j (suc c ∷ ts) e = go (or_cases (f j c) (any_door f (suc j) ts) e) (λ h. any-from f (suc j) ts h)
-  where
-    go : (f j c ≡ true) ⊎ (any_door f (suc j) ts ≡ true) → (any_door f (suc j) ts ≡ true → (k : ℕ) × (b : ℕ) × (get_or ts k 0 ≡ suc b) × (f (suc j + k) b ≡ true))
-        → (k : ℕ) × (b : ℕ) × (get_or (suc c ∷ ts) k 0 ≡ suc b) × (f (j + k) b ≡ true)
-    go (inl h) g = (0, c, refl, ap (λ (x : ℕ). f x c) (omega arith) ∙ h)
-    go (inr h) g = let q = g h in (suc q.0, q.1, q.2, ap (λ (x : ℕ). f x q.1) (omega arith) ∙ q.3)
+any-from f j (suc c ∷ ts) e = elim (or_cases (f j c) (any_door f (suc j) ts) e) [
+  | inl h ↦ (0, c, refl, ap (λ (x : ℕ). f x c) (omega arith) ∙ h)
+  | inr h ↦ (let q = any-from f (suc j) ts h in (suc q.0, q.1, q.2, ap (λ (x : ℕ). f x q.1) (omega arith) ∙ q.3))
+]
 
 nil_is : (gs : List ℕ) → is_nil gs ≡ true → gs ≡ []
 nil_is [] e = refl
@@ -54,10 +49,9 @@ nil_is (g ∷ gs) e = absurd (false≢true e)
 seeks-in : (Ls : Net) (a : ℕ) (gs w : List ℕ) → PathFrom Ls a w → fold still_sought gs w ≡ [] → has_path_with Ls a gs ≡ true
 unfolding has_path_with
 seeks-in [] a gs [] p e = rw (eq-eqb a 0 p, e) refl
-seeks-in [] a gs (j ∷ w) p e = absurd p
-seeks-in (L ∷ Ls) a gs [] p e = absurd p
 seeks-in (L ∷ Ls) a gs (zero ∷ w) p e = absurd (omega (arith, p.1))
 seeks-in (L ∷ Ls) a gs (suc k ∷ w) p e = any-in (λ j b. has_path_with Ls b (still_sought gs j)) 1 (node L a) k (suc k) p.0 (omega arith) p.1 (seeks-in Ls p.0 (still_sought gs (suc k)) w p.2 e)
+seeks-in Ls a gs w p e = absurd p
 
 seeks-from : (Ls : Net) (a : ℕ) (gs : List ℕ) → has_path_with Ls a gs ≡ true → (w : List ℕ) × PathFrom Ls a w × (fold still_sought gs w ≡ [])
 unfolding has_path_with
@@ -106,11 +100,7 @@ in-or-not i [] = inr (λ h. h)
 in-or-not i (k ∷ w) = grind (arith, nat_tests, in-or-not i w)
 
 pub all_there : (n : ℕ) (w : List ℕ) → length w ≡ n → IsPartOrder n w → (i : ℕ) → IsDoor n i → StandsIn i w
-all_there n w e p i h = go (in-or-not i w)
-  where
-    go : StandsIn i w ⊎ (¬ StandsIn i w) → StandsIn i w
-    go (inl x) = x
-    go (inr f) = absurd (omega (arith, part_length n (i ∷ w) (h, f, p)))
+all_there n w e p i h = elim (in-or-not i w) [ inl x ↦ x | inr f ↦ absurd (omega (arith, part_length n (i ∷ w) (h, f, p))) ]
 
 pub one-ahead : (i j : ℕ) (w : List ℕ) → ¬ (i ≡ j) → StandsIn i w → StandsIn j w → StandsAhead i j w ⊎ StandsAhead j i w
 one-ahead i j [] n a b = absurd a
@@ -134,8 +124,6 @@ module _ {S V : Type 0} {Keeps : List ℕ → Type 0} {Stands : S → List ℕ �
       → At by ruled tallied labs a p → Good by ruled tallied (length p) labs → IsEven by.round.n Ls → PathFrom Ls a w → PathFrom (cuts by c i labs Ls) a w
   unfolding kept_arcs At arrival_over
   cuts-keep c i p [] labs [] a u g t at good even q = q
-  cuts-keep c i p (j ∷ w) labs [] a u g t at good even q = absurd q
-  cuts-keep c i p [] labs (L ∷ Ls) a u g t at good even q = absurd q
   cuts-keep c i p (j ∷ w) labs (L ∷ Ls) a u g t at good even q =
       let b = q.0 in
       let facts = going-facts by ruled tallied p w j g in
@@ -153,6 +141,7 @@ module _ {S V : Type 0} {Keeps : List ℕ → Type 0} {Stands : S → List ℕ �
         cuts-keep c (suc i) (p ++ (j ∷ [])) w (labels_next by labs L (width Ls)) Ls b u' g' t' next'
             (rw (length-snoc p j) good') even.1 q.2,
       )
+  cuts-keep c i p w labs Ls a u g t at good even q = absurd q
 
   cut_keeps : (c : V) (w : List ℕ) (Ls : Net) → IsAllowed by.round Keeps w → by.tally.not_above (cost by.round by.tally w) c ≡ true → IsEven by.round.n Ls → PathFrom Ls 0 w → PathFrom (cut by c Ls) 0 w
   unfolding cut
@@ -166,8 +155,6 @@ module _ {S V : Type 0} {Keeps : List ℕ → Type 0} {Stands : S → List ℕ �
   unfolding end_label At labels_next
   final-fits p [] labs [] a g t at good even q =
       (at.0, rw (← q) at.1, tallied.order_chain _ (cost by.round by.tally p) _ at.2.value (cost-rises p [] g t))
-  final-fits p (j ∷ w) labs [] a g t at good even q = absurd q
-  final-fits p [] labs (L ∷ Ls) a g t at good even q = absurd q
   final-fits p (j ∷ w) labs (L ∷ Ls) a g t at good even q =
       let b = q.0 in
       let facts = going-facts by ruled tallied p w j g in
@@ -178,6 +165,7 @@ module _ {S V : Type 0} {Keeps : List ℕ → Type 0} {Stands : S → List ℕ �
       let x = final-fits (p ++ (j ∷ [])) w (labels_next by labs L (width Ls)) Ls b g' t' next'
       (rw (length-snoc p j) good') even.1 q.2 in
       (x.0, x.1, rw (← (snoc-assoc p w j)) x.2)
+  final-fits p w labs Ls a g t at good even q = absurd q
 
   pub bound-below : (w : List ℕ) (Ls : Net) → IsAllowed by.round Keeps w → IsEven by.round.n Ls → PathFrom Ls 0 w → (v : V) × (boundOf by Ls ≡ Some v) × (by.tally.not_above v (cost by.round by.tally w) ≡ true)
   unfolding boundOf

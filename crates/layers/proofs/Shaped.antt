@@ -57,8 +57,7 @@ module _ {S V : Type 0} (n W : ℕ) (xs : List (Node S V)) (x : Node S V) (h : n
 -- ---- the nodes that stand are the first of their places
 pub standing-at : {S V : Type 0} (us : List (Node S V)) (a : ℕ) (d : Node S V) → a < length (nodes_in us) → get_or (nodes_in us) a d ≡ get_or us a d
 standing-at [] a d h = refl
-standing-at (u ∷ us) zero d h = grind (arith, h)
-standing-at (u ∷ us) (suc a) d h = grind (arith, h, standing-at us a d)
+standing-at (u ∷ us) a d h = grind (arith, h, standing-at us)
 
 -- ---- depth and room
 pub standing-short : {S V : Type 0} (us : List (Node S V)) → length (nodes_in us) ≤ length us
@@ -67,9 +66,9 @@ standing-short (u ∷ us) = grind (arith, standing-short us)
 
 take-among : {A : Type 0} (m k : ℕ) (xs : List A) (x : A) → m ≤ k → Among x (take m xs) → Among x (take k xs)
 take-among zero k xs x h i = absurd i
-take-among (suc m) zero xs x h i = absurd (omega arith)
-take-among (suc m) (suc k) [] x h i = i
 take-among (suc m) (suc k) (y ∷ xs) x h i = grind (arith, h, i, take-among m k xs x)
+take-among (suc m) (suc k) [] x h i = i
+take-among (suc m) zero xs x h i = absurd (omega arith)
 
 drop-among : {A : Type 0} (w m : ℕ) (xs : List A) (x : A) → Among x (take m (drop w xs)) → Among x (take (w + m) xs)
 drop-among zero m xs x i = rw (zero-add m) i
@@ -151,8 +150,7 @@ doors-count (suc t ∷ ts) k b e = omega arith
 
 arc-counts : (L : Layer) (a j b : ℕ) → target (node L a) j ≡ suc b → 1 ≤ count_layer L
 unfolding count_layer
-arc-counts [] a zero b e = absurd (omega arith)
-arc-counts [] a (suc k) b e = absurd (omega arith)
+arc-counts [] a j b e = absurd (grind (arith, e))
 arc-counts (nd ∷ L) zero zero b e = absurd (omega arith)
 arc-counts (nd ∷ L) zero (suc k) b e = let h = doors-count nd k b e in omega arith
 arc-counts (nd ∷ L) (suc a) j b e = let h = arc-counts L a j b e in omega arith

@@ -35,14 +35,12 @@ redirect-length f L = each_node-length f 0 L
 pub each_door-length : (f : ℕ → ℕ → ℕ) (j : ℕ) (ts : Outs) → length (each_door f j ts) ≡ length ts
 unfolding each_door
 each_door-length f j [] = refl
-each_door-length f j (zero ∷ ts) = ap suc (each_door-length f (suc j) ts)
-each_door-length f j (suc b ∷ ts) = ap suc (each_door-length f (suc j) ts)
+each_door-length f j (t ∷ ts) = grind (arith, each_door-length f (suc j) ts)
 
 each_node-long : (f : ℕ → ℕ → ℕ → ℕ) (c : ℕ) (L : Layer) (a : ℕ) → length (node (each_node f c L) a) ≡ length (node L a)
 unfolding each_node
 each_node-long f c [] a = refl
-each_node-long f c (nd ∷ L) zero = each_door-length (f c) 1 nd
-each_node-long f c (nd ∷ L) (suc a) = each_node-long f (suc c) L a
+each_node-long f c (nd ∷ L) a = grind (arith, each_door-length (f c) 1 nd, each_node-long f (suc c) L)
 
 pub redirect-long : (f : ℕ → ℕ → ℕ → ℕ) (L : Layer) (a : ℕ) → length (node (redirect f L) a) ≡ length (node L a)
 unfolding redirect
@@ -69,15 +67,12 @@ redirect-same f L h = ext_get_or [] (redirect f L) L (redirect-length f L) (λ a
 -- ---- flags
 pub flags-back : (fr us : List (Option Mark)) (a : ℕ) → get_or (flags fr us) a false ≡ true → (get_or fr a None ≡ Some tt) × (get_or us a None ≡ Some tt)
 unfolding flags
-flags-back [] us a e = absurd (false≢true e)
-flags-back (x ∷ fr) [] a e = absurd (false≢true e)
-flags-back (x ∷ fr) (u ∷ us) zero e = grind (arith, e)
-flags-back (x ∷ fr) (u ∷ us) (suc a) e = flags-back fr us a e
+flags-back (x ∷ fr) (u ∷ us) a e = grind (arith, e, flags-back fr us)
+flags-back fr us a e = absurd (false≢true e)
 
 within : (us : List (Option Mark)) (a : ℕ) → get_or us a None ≡ Some tt → a < length us
 within [] a e = absurd (none-some tt e)
-within (u ∷ us) zero e = omega arith
-within (u ∷ us) (suc a) e = let h = within us a e in omega arith
+within (u ∷ us) a e = grind (arith, e, within us)
 
 ups-length : (Ls : Net) → length (marks_up Ls) ≡ width Ls
 unfolding marks_up up
@@ -88,8 +83,7 @@ rank_lt : (fs : List Bool) (X : Layer) (b : ℕ) → get_or fs b false ≡ true 
 unfolding rank compress
 rank_lt [] X b e h = absurd (false≢true e)
 rank_lt (f ∷ fs) [] b e h = absurd (not-suc-le-zero h)
-rank_lt (f ∷ fs) (x ∷ X) zero e h = grind (arith, e)
-rank_lt (f ∷ fs) (x ∷ X) (suc b) e h = grind (arith, e, rank_lt fs X b)
+rank_lt (f ∷ fs) (x ∷ X) b e h = grind (arith, e, rank_lt fs X)
 
 pub compress-back : (fs : List Bool) (X : Layer) (c : ℕ) → c < length (compress fs X) → (b : ℕ) × (get_or fs b false ≡ true) × (rank fs b ≡ c) × (b < length X)
 unfolding rank compress

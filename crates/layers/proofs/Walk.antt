@@ -218,18 +218,16 @@ up_right x y w f = record { all = λ i h. f.all i (and_right x.allup y.allup i h
 pub path-up : (Ls : Net) (a : ℕ) (w : List ℕ) → PathFrom Ls a w → (u : Up) × (get_or (ups Ls) a None ≡ Some u) × FitsUp u w
 unfolding ups
 path-up [] a [] p = unfold up in (no_up, ap (λ (x : ℕ). get_or {A = Option Up} (Some no_up ∷ []) x None) p, record { all = λ j h. absurd (none_has j h); some = λ j i. absurd i })
-path-up [] a (j ∷ w) p = absurd p
-path-up (L ∷ Ls) a [] p = absurd p
 path-up (L ∷ Ls) a (j ∷ w) p =
     let x = path-up Ls p.0 w p.2 in
     let q = up_at {A = Up} merge_up (λ x y. (w : List ℕ) → FitsUp x w → FitsUp y w) (λ x w f. f) (λ x y z f g w h. g w (f w h)) up_left up_right climb no_up L Ls a j p.0 x.0 p.1 x.1 in
     (q.0, q.1, q.2 (j ∷ w) (climb-fits x.0 j w x.2))
+path-up Ls a w p = absurd p
 
 pub path-length : (Ls : Net) (a : ℕ) (w : List ℕ) → PathFrom Ls a w → length w ≡ length Ls
 path-length [] a [] p = refl
-path-length [] a (j ∷ w) p = absurd p
-path-length (L ∷ Ls) a [] p = absurd p
 path-length (L ∷ Ls) a (j ∷ w) p = ap suc (path-length Ls p.0 w p.2)
+path-length Ls a w p = absurd p
 
 or-none : (a b c d e f : Bool) → a ≡ false → b ≡ false → c ≡ false → d ≡ false → e ≡ false → f ≡ false → (a || (b || (c || (d || (e || f))))) ≡ false
 or-none a b c d e f p q s t u v = rw (p, q, s, t, u, v)
