@@ -11,7 +11,7 @@ use Rattle.layers.specs.Lawful.{IsLed, IsTied, IsRoomy}
 use Rattle.layers.specs.Labels.{first_label, first_labels, arrival_over, merge, labels_next, no_up, ups, climb, merge_up}
 use Rattle.layers.specs.Records.{is_used, nodes_in, layers, arcs_in, downs_in, ups_in, arcs_of_layers, padded_targets, record_of_place, labelled_from, labelled_records}
 use Rattle.layers.specs.Calls.{places_agree, in_arcs_agree, value_in, labels_in, LayerLabels, kept_arcs}
-use Rattle.layers.proofs.Flows.{ins-from, next-some, next-at, gather-all, table_at, has-arc, up_at}
+use Rattle.layers.proofs.Flows.{next-all, next-at, table_at, has-arc, up_at}
 use Rattle.layers.proofs.Ways.{or_left, one-self, none_has}
 use Rattle.layers.proofs.Model.{kept, agrees, valueO, or_blank, or_no_up, labels_at}
 use Rattle.layers.proofs.Tied.{redirect-cong}
@@ -94,9 +94,6 @@ module _ {S V : Type 0} (by : Setting S V) (w : 1 ≤ by.width) where
     pub long : length labs ≡ m
     pub lasting : Lasting labs
 
-  lasting-if : (m j : ℕ) → has m j ≡ true → eqb m 0 ≡ false
-  lasting-if m j h = ne_eqb m 0 (λ e. none_has j (rw (← e) h))
-
   filled-first : Filled (first_labels by.rule by.tally) 1
   filled-first = record {
     there = λ a h. let z : a ≡ 0 = omega arith in (first_label by.rule by.tally, rw z);
@@ -112,10 +109,8 @@ module _ {S V : Type 0} (by : Setting S V) (w : 1 ≤ by.width) where
   lasting-next : (labs : Labs) (L : Layer) (count : ℕ) → Lasting (labels_next by labs L count)
   unfolding labels_next arrival_over merge
   lasting-next labs L count a l e =
-      let q = gather-all (merge by.rule by.tally) (λ x. (j : ℕ) × (has x.lasts j ≡ true)) (λ x y p q. (p.0, or_left x.lasts y.lasts p.0 p.1)) (arrivals_at (arrival_over by) a labs L) l
-      (λ x i. let f = ins-from (arrival_over by) a labs L x i in (f.door, ap (λ (z : Down S V). has z.lasts f.door) f.is ∙ one-self f.door))
-      (next-some (arrival_over by) (merge by.rule by.tally) labs L count a l e) in
-      lasting-if l.lasts q.0 q.1
+      let q = next-all (arrival_over by) (merge by.rule by.tally) labs L count a l (λ x. (j : ℕ) × (has x.lasts j ≡ true)) (λ x y p q. (p.0, or_left x.lasts y.lasts p.0 p.1)) (λ s j l f g. (j, one-self j)) e in
+      ne_eqb l.lasts 0 (λ z. none_has q.0 (rw (← z) q.1))
 
   filled_next : (labs : Labs) (L M : Layer) (Ls : Net) → IsTied (L ∷ M ∷ Ls) → Filled labs (length L) → Filled (labels_next by labs L (length M)) (length M)
   filled_next labs L M Ls t f = record {

@@ -245,13 +245,14 @@ pub next-within : {A : Type 0} (arrival_over : A → ℕ → A) (merge : A → A
 unfolding next
 next-within arrival_over merge labs L count b m e = (table-get count b (λ c. gather merge (arrivals_at arrival_over c labs L)) m e).0
 
-pub gather-any : {A : Type 0} (merge : A → A → A) (l : List A) (m : A) → gather merge l ≡ Some m → (x : A) × Among x l
-unfolding gather
-gather-any merge [] m e = absurd cc
-gather-any merge (x ∷ l) m e = (x, inl refl)
+-- what each arc brings and merging keeps, the label of its target has
+pub next-all : {A : Type 0} (arrival_over : A → ℕ → A) (merge : A → A → A) (labs : List (Option A)) (L : Layer) (count b : ℕ) (m : A) (P : A → Type 0) → ((x y : A) → P x → P y → P (merge x y))
+    → ((a j : ℕ) (l : A) → target (node L a) j ≡ suc b → get_or labs a None ≡ Some l → P (arrival_over l j)) → get_or (next arrival_over merge labs L count) b None ≡ Some m → P m
+next-all arrival_over merge labs L count b m P keep f e = gather-all merge P keep (arrivals_at arrival_over b labs L) m
+    (λ x i. let s = ins-from arrival_over b labs L x i in rw s.is (f s.source s.door s.label s.arc s.labelled)) (next-some arrival_over merge labs L count b m e)
 
 -- where a label from above comes from
-pub record Climbs {A : Type 0} (climb : A → ℕ → A) (us : List (Option A)) (j : ℕ) (ts : Outs) (x : A) : Type 0 where
+record Climbs {A : Type 0} (climb : A → ℕ → A) (us : List (Option A)) (j : ℕ) (ts : Outs) (x : A) : Type 0 where
   pub skip : ℕ
   pub to : ℕ
   pub label : A
@@ -259,7 +260,7 @@ pub record Climbs {A : Type 0} (climb : A → ℕ → A) (us : List (Option A)) 
   pub labelled : get_or us to None ≡ Some label
   pub is : x ≡ climb label (j + skip)
 
-pub outs-from : {A : Type 0} (climb : A → ℕ → A) (us : List (Option A)) (x : A) (j : ℕ) (ts : Outs) → Among x (climbs_of climb us j ts) → Climbs climb us j ts x
+outs-from : {A : Type 0} (climb : A → ℕ → A) (us : List (Option A)) (x : A) (j : ℕ) (ts : Outs) → Among x (climbs_of climb us j ts) → Climbs climb us j ts x
 unfolding climbs_of
 outs-from climb us x j [] i = absurd i
 outs-from {A} climb us x j (t ∷ ts) i = elim (go t (read us t) refl i) [
@@ -273,6 +274,14 @@ outs-from {A} climb us x j (t ∷ ts) i = elim (go t (read us t) refl i) [
     go (suc b) (Some u) e (inl h) = inl (record { skip = 0; to = b; label = u; arc = refl; labelled = e; is = h ∙ ap (climb u) (omega arith) })
     go (suc b) (Some u) e (inr h) = inr h
 
-pub map-some : {A : Type 0} (f : Outs → Option A) (L : Layer) (a : ℕ) (x : A) → get_or (map f L) a None ≡ Some x → f (node L a) ≡ Some x
+map-some : {A : Type 0} (f : Outs → Option A) (L : Layer) (a : ℕ) (x : A) → get_or (map f L) a None ≡ Some x → f (node L a) ≡ Some x
 map-some f [] a x e = absurd cc
 map-some f (nd ∷ L) a x e = grind (arith, e, map-some f L)
+
+pub up-all : {A : Type 0} (climb : A → ℕ → A) (merge : A → A → A) (top : A) (L : Layer) (Ls : Net) (a : ℕ) (m : A) (P : A → Type 0) → ((x y : A) → P x → P y → P (merge x y))
+    → ((j b : ℕ) (u : A) → target (node L a) j ≡ suc b → get_or (up climb merge top Ls) b None ≡ Some u → P (climb u j)) → get_or (up climb merge top (L ∷ Ls)) a None ≡ Some m → P m
+unfolding up
+up-all climb merge top L Ls a m P keep f e =
+    let us = up climb merge top Ls in
+    gather-all merge P keep (climbs_of climb us 1 (node L a)) m
+    (λ x i. let c = outs-from climb us x 1 (node L a) i in rw (c.is, ap (climb c.label) {x = 1 + c.skip} {y = suc c.skip} (omega arith)) (f (suc c.skip) c.to c.label c.arc c.labelled)) (map-some (λ nd. gather merge (climbs_of climb us 1 nd)) L a m e)

@@ -12,7 +12,7 @@ use Rattle.layers.specs.Labels.{first_labels, labels_next, no_up, ups, bit_of, c
 use Rattle.layers.specs.Records.{record_of_place}
 use Rattle.layers.specs.Calls.{arcs, layer}
 use Rattle.layers.specs.LabelLaws.{LeadsTo, Labelled, LabelsMean, PathTo, OnEvery, OnOne, Exactly}
-use Rattle.layers.proofs.Flows.{table_at, EvenLayer, Climbs, outs-from, map-some, From, ins-from, next-some, next-at, gather-all}
+use Rattle.layers.proofs.Flows.{table_at, EvenLayer, next-all, up-all, next-at}
 use Rattle.layers.proofs.Model.{or_blank, or_no_up, labels_at}
 use Rattle.layers.proofs.Walk.{Good, path-up, good-first, good-next}
 use Rattle.layers.proofs.Bridge.{Labs, Full, top, stood, table-long, end-top}
@@ -139,17 +139,9 @@ module _ {S V : Type 0} {Keeps : List ℕ → Type 0} {Stands : S → List ℕ �
         let L = get_or D d [] in
         let n = width (drop (suc d) D) in
         let e' : get_or (labels_next by (At d D) L n) b None ≡ Some m = ap (λ (z : Labs by w1). get_or z b None) (sym (labs-step d (first_labels by.rule by.tally) D h)) ∙ e in
-        gather-all (merge by.rule by.tally) (λ x. Owed x.all x.some (LeadsTo D (suc d) b))
-        (λ x y p q. owed-merge x.all x.some y.all y.some (LeadsTo D (suc d) b) p q)
-        (arrivals_at (arrival_over by) b (At d D) L) m
-        (λ x i. let f = ins-from (arrival_over by) b (At d D) L x i in each x f (owed-at d (omega arith) f.source f.label f.labelled))
-        (next-some (arrival_over by) (merge by.rule by.tally) (At d D) L n b m e')
-      where
-        each : (x : Down S V) (f : From (arrival_over by) b (At d D) (get_or D d []) x) → Owed f.label.all f.label.some (LeadsTo D d f.source) → Owed x.all x.some (LeadsTo D (suc d) b)
-        each x f o =
-            rw f.is (owed-step f.label.all f.label.some f.door (LeadsTo D d f.source) (LeadsTo D (suc d) b) (λ w. w ++ (f.door ∷ [])) (at_back f.door)
-            (λ w q. (path-push D 0 f.source f.door b w q.0 (rw q.1 f.arc), length-snoc w f.door ∙ ap suc q.1))
-            o)
+        next-all (arrival_over by) (merge by.rule by.tally) (At d D) L n b m (λ x. Owed x.all x.some (LeadsTo D (suc d) b)) (λ x y p q. owed-merge x.all x.some y.all y.some (LeadsTo D (suc d) b) p q)
+        (λ a j l f g. owed-step l.all l.some j (LeadsTo D d a) (LeadsTo D (suc d) b) (λ w. w ++ (j ∷ [])) (at_back j)
+        (λ w q. (path-push D 0 a j b w q.0 (rw q.1 f), length-snoc w j ∙ ap suc q.1)) (owed-at d (omega arith) a l g)) e'
 
     -- a path to a node is told by its label
     pub tells_at : IsTied D → (d : ℕ) → d ≤ length D → (a : ℕ) (w : List ℕ) → LeadsTo D d a w → (l : Down S V) × (get_or (At d D) a None ≡ Some l) × Tells l.all l.some w
@@ -177,27 +169,15 @@ module _ {S V : Type 0} {Keeps : List ℕ → Type 0} {Stands : S → List ℕ �
         rw (labs-step d (first_labels by.rule by.tally) D h) (good-next by ruled tallied d (At d D) (get_or D d []) (width (drop (suc d) D)) (omega arith) (good-at tallied k s d (omega arith)) (even-at by.round.n D d s h))
 
 -- ---- upward
-ups-node : (L : Layer) (Ls : Net) (a : ℕ) (u : Up) → get_or (ups (L ∷ Ls)) a None ≡ Some u → gather merge_up (climbs_of climb (ups Ls) 1 (node L a)) ≡ Some u
-unfolding ups up
-ups-node L Ls a u e = map-some (λ nd. gather merge_up (climbs_of climb (ups Ls) 1 nd)) L a u e
-
 owed-up : (Ls : Net) (a : ℕ) (u : Up) → get_or (ups Ls) a None ≡ Some u → Owed u.allup u.someup (PathFrom Ls a)
+unfolding ups
 owed-up [] zero u e =
-    let x : no_up ≡ u = unfold ups up in cc in
+    let x : no_up ≡ u = unfold up in cc in
     rw (← x) (record { way = ([], refl); all-if = λ j f. absurd (f [] refl); some-from = λ j g. absurd (none_has j g) })
-owed-up [] (suc a) u e = absurd (unfold ups up in cc)
+owed-up [] (suc a) u e = absurd (unfold up in cc)
 owed-up (L ∷ Ls) a u e =
-    gather-all merge_up (λ x. Owed x.allup x.someup (PathFrom (L ∷ Ls) a))
-    (λ x y p q. owed-merge x.allup x.someup y.allup y.someup (PathFrom (L ∷ Ls) a) p q)
-    (climbs_of climb (ups Ls) 1 (node L a)) u
-    (λ x i. let c = outs-from climb (ups Ls) x 1 (node L a) i in each x c (owed-up Ls c.to c.label c.labelled))
-    (ups-node L Ls a u e)
-  where
-    each : (x : Up) (c : Climbs climb (ups Ls) 1 (node L a) x) → Owed c.label.allup c.label.someup (PathFrom Ls c.to) → Owed x.allup x.someup (PathFrom (L ∷ Ls) a)
-    each x c o =
-        let k = suc c.skip in
-        let is : x ≡ climb c.label k = c.is ∙ ap (climb c.label) (omega arith) in
-        rw is (owed-step c.label.allup c.label.someup k (PathFrom Ls c.to) (PathFrom (L ∷ Ls) a) (λ w. k ∷ w) (at_front k) (λ w q. (c.to, c.arc, q)) o)
+    up-all climb merge_up no_up L Ls a u (λ x. Owed x.allup x.someup (PathFrom (L ∷ Ls) a)) (λ x y p q. owed-merge x.allup x.someup y.allup y.someup (PathFrom (L ∷ Ls) a) p q)
+    (λ j b v f g. owed-step v.allup v.someup j (PathFrom Ls b) (PathFrom (L ∷ Ls) a) (λ w. j ∷ w) (at_front j) (λ w q. (b, f, q)) (owed-up Ls b v g)) e
 
 tells-up : (Ls : Net) (a : ℕ) (u : Up) → get_or (ups Ls) a None ≡ Some u → (w : List ℕ) → PathFrom Ls a w → Tells u.allup u.someup w
 tells-up Ls a u e w p =

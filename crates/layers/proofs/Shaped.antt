@@ -13,7 +13,7 @@ use Rattle.layers.specs.Labels.{first_labels, labels_next, no_up, leg, ups, firs
 use Rattle.layers.specs.Records.{nodes_in, layers, arcs_in, arcs_of_layers, arcs_at, laid_arcs, arcs_read, record_of_place, labelled_from, labelled_records}
 use Rattle.layers.specs.Calls.{arcs, layer, records_with, bound, value_in}
 use Rattle.layers.specs.Shape.{targets_of, HasEnd, IsShaped, IsTimely}
-use Rattle.layers.proofs.Flows.{EvenLayer, Among, From, ins-from, next-some, gather-all}
+use Rattle.layers.proofs.Flows.{EvenLayer, Among, next-all}
 use Rattle.layers.proofs.Bridge.{ups-end, Full, top, stood, table-long}
 use Rattle.layers.proofs.Tidying.{tidied-same}
 use Rattle.layers.proofs.Tied.{tidied-tied}
@@ -254,23 +254,16 @@ module _ {S V : Type 0} (by : Setting S V) where
 
   soon-next : (i : ℕ) (labs : List (Option (Down S V))) (L : Layer) (count : ℕ) → Soon i labs → Soon (suc i) (labels_next by labs L count)
   unfolding Soon labels_next arrival_over merge
-  soon-next i labs L count soon b m e =
-      gather-all (merge by.rule by.tally) (λ x. x.finish ≤ latest_finish (suc i)) (λ x y p q. omega arith) (arrivals_at (arrival_over by) b labs L) m
-      (λ x h. each x (ins-from (arrival_over by) b labs L x h)) (next-some (arrival_over by) (merge by.rule by.tally) labs L count b m e)
-    where
-      each : (x : Down S V) → From (arrival_over by) b labs L x → x.finish ≤ latest_finish (suc i)
-      each x f =
-          let l = f.label in
-          rw f.is ((clock-laws by.round).bound i l.finish (leg by.round l.lasts f.door) f.door (soon f.source l f.labelled) (leg-bound by.round l.lasts f.door))
+  soon-next i labs L count soon b m e = next-all (arrival_over by) (merge by.rule by.tally) labs L count b m (λ x. x.finish ≤ latest_finish (suc i)) (λ x y p q. omega arith)
+      (λ a j l f g. (clock-laws by.round).bound i l.finish (leg by.round l.lasts j) j (soon a l g) (leg-bound by.round l.lasts j)) e
 
   -- a place of such a layer; a blank one has finish 0
   soon-place : (i : ℕ) (labs : List (Option (Down S V))) → i ≤ 15 → Soon i labs → (k : ℕ) → (or_blank by.rule by.tally (get_or labs k None)).finish ≤ latest_finish 15
   unfolding Soon
-  soon-place i labs h soon k = go (get_or labs k None) refl
-    where
-      go : (o : Option (Down S V)) → get_or labs k None ≡ o → (or_blank by.rule by.tally o).finish ≤ latest_finish 15
-      go None e = omega arith
-      go (Some l) e = omega (arith, soon k l e)
+  soon-place i labs h soon k = elim (get_or labs k None) as (λ o. get_or labs k None ≡ o → (or_blank by.rule by.tally o).finish ≤ latest_finish 15) [
+    | None ↦ λ e. omega arith
+    | Some l ↦ λ e. omega (arith, soon k l e)
+  ] refl
 
   -- ---- the places of all layers before the end, from layer i on
   abbrev Early : Node S V → Type 0

@@ -9,7 +9,7 @@ use Rattle.layers.specs.Flow.{arrivals_at, gather, climbs_of, up}
 use Rattle.layers.specs.Tidy.{Mark, marks_next, marks_up, flags, rank, compress, renumber, tidy, tidied_arcs}
 use Rattle.layers.specs.Lawful.{IsRanged, IsLed, IsTied}
 use Rattle.layers.specs.Targets.{at_door}
-use Rattle.layers.proofs.Flows.{gather-any, outs-from, map-some, redirect-get, redirect-arc, has-arc, ins-from, next-some, up_at, mark-next, flags-at, compress-at, renumber-at, rank-zero}
+use Rattle.layers.proofs.Flows.{next-all, up-all, redirect-get, redirect-arc, has-arc, up_at, mark-next, flags-at, compress-at, renumber-at, rank-zero}
 
 -- ---- redirecting, backwards
 pub redirect-back : (f : ℕ → ℕ → ℕ → ℕ) (L : Layer) (a j c : ℕ) → target (node (redirect f L) a) j ≡ suc c → (b : ℕ) × (target (node L a) j ≡ suc b) × (f a j b ≡ suc c)
@@ -100,18 +100,11 @@ renumber-back fs b c e = grind (arith, e)
 -- ---- what marks say
 pub marked_from : (fr : List (Option Mark)) (L : Layer) (count b : ℕ) → get_or (marks_next fr L count) b None ≡ Some tt → (a : ℕ) × (j : ℕ) × (target (node L a) j ≡ suc b) × (get_or fr a None ≡ Some tt)
 unfolding marks_next
-marked_from fr L count b e =
-    let x = gather-any {A = Mark} (λ x y. tt) (arrivals_at {A = Mark} (λ m j. tt) b fr L) tt (next-some {A = Mark} (λ m j. tt) (λ x y. tt) fr L count b tt e) in
-    let f = ins-from {A = Mark} (λ m j. tt) b fr L x.0 x.1 in
-    (f.source, f.door, f.arc, f.labelled)
+marked_from fr L count b e = next-all {A = Mark} (λ m j. tt) (λ x y. tt) fr L count b tt (λ m. (a : ℕ) × (j : ℕ) × (target (node L a) j ≡ suc b) × (get_or fr a None ≡ Some tt)) (λ x y p q. p) (λ a j l f g. (a, j, f, g)) e
 
 pub climbs-from : (L : Layer) (Ls : Net) (a : ℕ) → get_or (marks_up (L ∷ Ls)) a None ≡ Some tt → (j : ℕ) × (b : ℕ) × (target (node L a) j ≡ suc b) × (get_or (marks_up Ls) b None ≡ Some tt)
-unfolding marks_up up
-climbs-from L Ls a e =
-    let us = marks_up Ls in
-    let x = gather-any {A = Mark} (λ x y. tt) (climbs_of {A = Mark} (λ m k. tt) us 1 (node L a)) tt (map-some (λ nd. gather {A = Mark} (λ x y. tt) (climbs_of {A = Mark} (λ m k. tt) us 1 nd)) L a tt e) in
-    let c = outs-from {A = Mark} (λ m k. tt) us x.0 1 (node L a) x.1 in
-    (suc c.skip, c.to, c.arc, c.labelled)
+unfolding marks_up
+climbs-from L Ls a e = up-all {A = Mark} (λ m k. tt) (λ x y. tt) tt L Ls a tt (λ m. (j : ℕ) × (b : ℕ) × (target (node L a) j ≡ suc b) × (get_or (marks_up Ls) b None ≡ Some tt)) (λ x y p q. p) (λ j b u f g. (j, b, f, g)) e
 
 pub climbs : (L : Layer) (Ls : Net) (a j b : ℕ) → target (node L a) j ≡ suc b → get_or (marks_up Ls) b None ≡ Some tt → get_or (marks_up (L ∷ Ls)) a None ≡ Some tt
 unfolding marks_up

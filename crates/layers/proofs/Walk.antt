@@ -20,7 +20,7 @@ use Rattle.layers.specs.declared.node.Up.{Up}
 use Rattle.layers.specs.Net.{Outs, Layer, Net, node, target, width, PathFrom}
 use Rattle.layers.specs.Flow.{arrivals_at, up}
 use Rattle.layers.specs.Labels.{bit_of, leg, climb, merge_up, no_up, ups, first_label, arrival_over, merge, first_labels, labels_next, is_barred}
-use Rattle.layers.proofs.Flows.{EvenLayer, redirect-arc, inside, has-arc, next-at, up_at, tidy-keeps, From, ins-from, next-some, gather-all}
+use Rattle.layers.proofs.Flows.{EvenLayer, redirect-arc, inside, has-arc, next-at, up_at, tidy-keeps, next-all}
 use Rattle.layers.proofs.Ways.{or_left, or_right, or_split, and_left, and_right, one-self, one_only, none_has, ones_in, in_split, in-snd, part-tail, trip-snoc, van-snoc, length-snoc, snoc-assoc, TimelyFrom, timely-from, leg-le, leg-bound}
 use Rattle.layers.proofs.Model.{sweeps, sweep}
 use Rattle.layers.specs.Settings.{Setting}
@@ -162,26 +162,15 @@ module _ {S V : Type 0} {Keeps : List ℕ → Type 0} {Stands : S → List ℕ �
   good-first zero l e = let x : first_label by.rule by.tally ≡ l = cc in rw (← x) (tallied.start_allowed, omega arith)
   good-first (suc a) l e = absurd cc
 
-  lesser-fine : (k : ℕ) (a b : V) → Allows k a → Allows k b → Allows k (by.tally.lesser a b)
-  lesser-fine k a b x y = rw (tallied.lesser_is a b) (grind (arith, x, y))
-
   pub good-next : (k : ℕ) (labs : List (Option (Down S V))) (L : Layer) (count : ℕ) → k < 16 → Good k labs → EvenLayer by.round.n L → Good (suc k) (labels_next by labs L count)
   unfolding Good labels_next arrival_over merge
-  good-next k labs L count h good even b m e =
-      gather-all (merge by.rule by.tally) (λ x. (Allows (suc k) x.value) × (x.finish ≤ latest_finish (suc k)))
-      (λ x y p q. (lesser-fine (suc k) x.value y.value p.0 q.0, omega arith))
-      (arrivals_at (arrival_over by) b labs L) m
-      (λ x i. each x (ins-from (arrival_over by) b labs L x i))
-      (next-some (arrival_over by) (merge by.rule by.tally) labs L count b m e)
-    where
-      each : (x : Down S V) → From (arrival_over by) b labs L x → (Allows (suc k) x.value) × (x.finish ≤ latest_finish (suc k))
-      each x f =
-          let d = even-door by.round L even f.source f.door b f.arc in
-          let g = good f.source f.label f.labelled in
-          let lb = leg-bound by.round f.label.lasts f.door in
-          let fin = finish by.round f.label.finish (leg by.round f.label.lasts f.door) f.door in
-          let early : fin ≤ latest_finish (suc k) = (clock-laws by.round).bound k f.label.finish (leg by.round f.label.lasts f.door) f.door g.1 lb in
-          rw f.is (tallied.step_allowed k f.label.value f.door (leg by.round f.label.lasts f.door) fin h d lb (within k fin h early) g.0, early)
+  good-next k labs L count h good even b m e = next-all (arrival_over by) (merge by.rule by.tally) labs L count b m (λ x. (Allows (suc k) x.value) × (x.finish ≤ latest_finish (suc k)))
+      (λ x y p q. (rw (tallied.lesser_is x.value y.value) (grind (arith, p, q)), omega arith))
+      (λ a j l f s.
+      let g = good a l s in
+      let lb = leg-bound by.round l.lasts j in
+      let early = (clock-laws by.round).bound k l.finish (leg by.round l.lasts j) j g.1 lb in
+      (tallied.step_allowed k l.value j (leg by.round l.lasts j) (finish by.round l.finish (leg by.round l.lasts j) j) h (even-door by.round L even a j b f) lb (within k _ h early) g.0, early)) e
 
   -- ---- the label at a place fits the beginning p
   unfoldable pub At : List (Option (Down S V)) → ℕ → List ℕ → Type 0
