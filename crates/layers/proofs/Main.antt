@@ -8,7 +8,7 @@ use Rattle.orders.specs.Allowed.{IsAllowed}
 use Rattle.orders.specs.Costs.{cost, Trip, next_trip, trip_after}
 use Rattle.layers.specs.Lawful.{IsEven, IsLawful}
 use Rattle.layers.specs.declared.node.Node.{Node}
-use Rattle.layers.specs.Net.{Net, PathFrom, has_path_with, table, target, width, Outs, node, still_sought, is_nil, any_door}
+use Rattle.layers.specs.Net.{Layer, Net, PathFrom, has_path_with, table, target, width, Outs, node, still_sought, is_nil, any_door}
 use Rattle.layers.specs.declared.call.Call.{Call}
 use Rattle.layers.specs.Calls.{arcs, after_open, after_calls, records_with, bound, must, is_settled, EachCut, kept_arcs}
 use Rattle.layers.specs.Claim.{MustMeans, NothingLost, NothingFalse, ClaimAlwaysHolds, LabelsStand, SettledMeans, StandsAhead}
@@ -23,7 +23,7 @@ use Rattle.layers.specs.Flow.{end_label}
 use Rattle.layers.specs.Labels.{arrival_over, merge, first_labels, labels_next, is_above_ceiling, opening_arcs, all_doors, ups}
 use Rattle.layers.proofs.Flows.{redirect-arc, inside, table_at, tidy-keeps}
 use Rattle.layers.proofs.Ways.{trip-snoc, length-snoc, snoc-assoc}
-use Rattle.layers.proofs.Walk.{within, Going, going_next, Told, told_none, told-next, Good, good-first, good-next, At, at_first, at_next, arrive-fits, going-facts, setting-out, sweep-keeps}
+use Rattle.layers.proofs.Walk.{within, Going, going_next, Told, told-next, At, going-facts, OnWay, way_next, way-fits, filter-keeps, setting-out, sweep-keeps}
 use Rattle.layers.proofs.Ties.{part-keeps, join-keeps}
 use Rattle.layers.specs.declared.node.Down.{Down}
 use Rattle.doors.proofs.Sets.{part_length}
@@ -120,58 +120,33 @@ module _ {S V : Type 0} {Keeps : List ℕ → Type 0} {Stands : S → List ℕ �
       (tallied.step_above (length p) (cost by.round by.tally p) j (drive by.round (trip_after by.round by.tally p).van.last j) (next_trip by.round by.tally (trip_after by.round by.tally p) j).van.finish facts.2 facts.0 dl (within (length p) _ facts.2 s) t.fine))
       (subst (λ (q : List ℕ). by.tally.not_above (cost by.round by.tally (p ++ (j ∷ []))) (cost by.round by.tally q) ≡ true) (snoc-assoc p w j) rest)
 
-  cuts-keep : (c : V) (i : ℕ) (p w : List ℕ) (labs : List (Option (Down S V))) (Ls : Net) (a : ℕ) → by.tally.not_above (cost by.round by.tally (p ++ w)) c ≡ true → Going by ruled tallied p w → Told by ruled tallied p
-      → At by ruled tallied labs a p → Good by ruled tallied (length p) labs → IsEven by.round.n Ls → PathFrom Ls a w → PathFrom (cuts by c i labs Ls) a w
-  unfolding kept_arcs At arrival_over
-  cuts-keep c i p [] labs [] a u g t at good even q = q
-  cuts-keep c i p (j ∷ w) labs (L ∷ Ls) a u g t at good even q =
-      let b = q.0 in
-      let facts = going-facts by ruled tallied p w j g in
-      let g' = going_next by ruled tallied p w j g in
-      let t' = told-next by ruled tallied p j t facts.0 facts.2 facts.1 in
-      let u' = subst (λ (z : List ℕ). by.tally.not_above (cost by.round by.tally z) c ≡ true) (sym (snoc-assoc p w j)) u in
-      let fits = arrive-fits by ruled tallied at.0 p j at.2 t (unfold Good in (good a at.0 at.1).0) facts.0 facts.2 facts.1 in
-      let low : by.tally.not_above (arrival_over by at.0 j).value c ≡ true =
-      tallied.order_chain _ (cost by.round by.tally (p ++ (j ∷ []))) c fits.value (tallied.order_chain _ (cost by.round by.tally ((p ++ (j ∷ [])) ++ w)) c (cost-rises (p ++ (j ∷ [])) w g' t') u') in
-      let nd : is_above_ceiling by.round by.tally c i (suc (length Ls)) j (get_or labs a None) (get_or (ups Ls) b None) ≡ false = rw at.1 (ap not low) in
-      let next' = at_next by ruled tallied labs L (width Ls) a j b p q.1 (inside Ls b w q.2) at t good facts.0 facts.2 facts.1 in
-      let good' = good-next by ruled tallied (length p) labs L (width Ls) facts.2 good even.0 in (
-        b,
-        redirect-arc (λ a j b. cond (is_above_ceiling by.round by.tally c i (suc (length Ls)) j (get_or labs a None) (get_or (ups Ls) b None)) 0 (suc b)) L a j b q.1 ∙ ap (λ (z : Bool). cond z 0 (suc b)) nd,
-        cuts-keep c (suc i) (p ++ (j ∷ [])) w (labels_next by labs L (width Ls)) Ls b u' g' t' next'
-            (rw (length-snoc p j) good') even.1 q.2,
-      )
-  cuts-keep c i p w labs Ls a u g t at good even q = absurd q
-
   cut_keeps : (c : V) (w : List ℕ) (Ls : Net) → IsAllowed by.round Keeps w → by.tally.not_above (cost by.round by.tally w) c ≡ true → IsEven by.round.n Ls → PathFrom Ls 0 w → PathFrom (cut by c Ls) 0 w
-  unfolding cut
+  unfolding cut arrival_over
   cut_keeps c w Ls o u even q = tidy-keeps (cuts by c 0 (first_labels by.rule by.tally) Ls) w
-      (cuts-keep c 0 [] w (first_labels by.rule by.tally) Ls 0 u (setting-out by ruled tallied w o) (told_none by ruled tallied) (at_first by ruled tallied) (good-first by ruled tallied) even q)
+      (filter-keeps by ruled tallied (is_above_ceiling by.round by.tally c) (λ z. by.tally.not_above (cost by.round by.tally z) c ≡ true) stays (first_labels by.rule by.tally) Ls 0 [] w (setting-out by ruled tallied w Ls o even q) u)
+    where
+      stays : (labs : List (Option (Down S V))) (L : Layer) (Ls : Net) (a j : ℕ) (p w : List ℕ) (o : OnWay by ruled tallied labs (L ∷ Ls) a p (j ∷ w)) → by.tally.not_above (cost by.round by.tally (p ++ (j ∷ w))) c ≡ true
+          → is_above_ceiling by.round by.tally c (length p) (suc (length Ls)) j (get_or labs a None) (get_or (ups Ls) o.path.0 None) ≡ false
+      stays labs L Ls a j p w o u =
+          let f = way-fits by ruled tallied labs L Ls a j p w o in
+          let on = way_next by ruled tallied labs L Ls a j p w o in
+          let low : by.tally.not_above (arrival_over by f.0 j).value c ≡ true =
+          tallied.order_chain _ (cost by.round by.tally (p ++ (j ∷ []))) c f.3.value (tallied.order_chain _ (cost by.round by.tally ((p ++ (j ∷ [])) ++ w)) c (cost-rises (p ++ (j ∷ [])) w on.going on.told) (rw (snoc-assoc p w j) u)) in
+          rw f.1 (ap not low)
 
   -- the label at the end fits an allowed order that is a path
-  final-fits : (p w : List ℕ) (labs : List (Option (Down S V))) (Ls : Net) (a : ℕ) → Going by ruled tallied p w → Told by ruled tallied p
-      → At by ruled tallied labs a p → Good by ruled tallied (length p) labs → IsEven by.round.n Ls → PathFrom Ls a w
+  final-fits : (labs : List (Option (Down S V))) (Ls : Net) (a : ℕ) (p w : List ℕ) → OnWay by ruled tallied labs Ls a p w
       → (l : Down S V) × (end_label (arrival_over by) (merge by.rule by.tally) labs Ls ≡ Some l) × (by.tally.not_above l.value (cost by.round by.tally (p ++ w)) ≡ true)
   unfolding end_label At labels_next
-  final-fits p [] labs [] a g t at good even q =
-      (at.0, rw (← q) at.1, tallied.order_chain _ (cost by.round by.tally p) _ at.2.value (cost-rises p [] g t))
-  final-fits p (j ∷ w) labs (L ∷ Ls) a g t at good even q =
-      let b = q.0 in
-      let facts = going-facts by ruled tallied p w j g in
-      let g' = going_next by ruled tallied p w j g in
-      let t' = told-next by ruled tallied p j t facts.0 facts.2 facts.1 in
-      let next' = at_next by ruled tallied labs L (width Ls) a j b p q.1 (inside Ls b w q.2) at t good facts.0 facts.2 facts.1 in
-      let good' = good-next by ruled tallied (length p) labs L (width Ls) facts.2 good even.0 in
-      let x = final-fits (p ++ (j ∷ [])) w (labels_next by labs L (width Ls)) Ls b g' t' next'
-      (rw (length-snoc p j) good') even.1 q.2 in
+  final-fits labs [] a p [] o = let at = o.fits in (at.0, rw (← o.path) at.1, tallied.order_chain _ (cost by.round by.tally p) _ at.2.value (cost-rises p [] o.going o.told))
+  final-fits labs (L ∷ Ls) a p (j ∷ w) o =
+      let x = final-fits (labels_next by labs L (width Ls)) Ls o.path.0 (p ++ (j ∷ [])) w (way_next by ruled tallied labs L Ls a j p w o) in
       (x.0, x.1, rw (← (snoc-assoc p w j)) x.2)
-  final-fits p w labs Ls a g t at good even q = absurd q
+  final-fits labs Ls a p w o = absurd o.path
 
   pub bound-below : (w : List ℕ) (Ls : Net) → IsAllowed by.round Keeps w → IsEven by.round.n Ls → PathFrom Ls 0 w → (v : V) × (boundOf by Ls ≡ Some v) × (by.tally.not_above v (cost by.round by.tally w) ≡ true)
   unfolding boundOf
-  bound-below w Ls o even q =
-      let x = final-fits [] w (first_labels by.rule by.tally) Ls 0 (setting-out by ruled tallied w o) (told_none by ruled tallied) (at_first by ruled tallied) (good-first by ruled tallied) even q in
-      (x.0.value, ap (valueO by) x.1, x.2)
+  bound-below w Ls o even q = let x = final-fits (first_labels by.rule by.tally) Ls 0 [] w (setting-out by ruled tallied w Ls o even q) in (x.0.value, ap (valueO by) x.1, x.2)
 
   module _ (w1 : 1 ≤ by.width) (w : List ℕ) (o : IsAllowed by.round Keeps w) where
     -- each step keeps the path w

@@ -14,7 +14,7 @@ use Rattle.layers.specs.Calls.{arcs, layer}
 use Rattle.layers.specs.LabelLaws.{LeadsTo, Labelled, LabelsMean, PathTo, OnEvery, OnOne, Exactly}
 use Rattle.layers.proofs.Flows.{table_at, EvenLayer, next-all, up-all, next-at}
 use Rattle.layers.proofs.Model.{or_blank, or_no_up, labels_at}
-use Rattle.layers.proofs.Walk.{Good, path-up, good-first, good-next}
+use Rattle.layers.proofs.Walk.{Good, path-up, good-first, good-next, Tells, Longer, at_front, at_back, tells-step, tells-left, tells-right}
 use Rattle.layers.proofs.Bridge.{Labs, Full, top, stood, table-long, end-top}
 use Rattle.layers.proofs.Standing.{X, full, nodes-X, arcs-X, after_end, run-reached}
 use Rattle.layers.specs.Settings.{Setting, setting}
@@ -38,11 +38,6 @@ pub record Owed (all some : ℕ) (P : List ℕ → Type 0) : Type 0 where
   pub all-if : (j : ℕ) → ((w : List ℕ) → P w → StandsIn j w) → has all j ≡ true
   pub some-from : (j : ℕ) → has some j ≡ true → OnOne P j
 
--- what the path w has is told by the label
-pub record Tells (all some : ℕ) (w : List ℕ) : Type 0 where
-  pub all_in : (j : ℕ) → has all j ≡ true → StandsIn j w
-  pub in_some : (j : ℕ) → StandsIn j w → has some j ≡ true
-
 pub all-exact : (all some : ℕ) (P : List ℕ → Type 0) → Owed all some P → ((w : List ℕ) → P w → Tells all some w) → Exactly all (OnEvery P)
 all-exact all some P o t j = (λ h. (o.way, λ w p. (t w p).all_in j (true-has all j h)), λ h. has-true all j (o.all-if j h.1))
 
@@ -56,22 +51,6 @@ owed-merge a s a' s' P x y = record {
   some-from = λ j h. elim (or_split s s' j h) [ inl p ↦ x.some-from j p | inr p ↦ y.some-from j p ];
 }
 
--- one door k more, at either end of the path
-pub record Longer (k : ℕ) (more : List ℕ → List ℕ) : Type 0 where
-  pub here : (w : List ℕ) → StandsIn k (more w)
-  pub stays : (j : ℕ) (w : List ℕ) → StandsIn j w → StandsIn j (more w)
-  pub only : (j : ℕ) (w : List ℕ) → StandsIn j (more w) → (j ≡ k) ⊎ StandsIn j w
-
-at_front : (k : ℕ) → Longer k (λ w. k ∷ w)
-at_front k = record { here = λ w. inl refl; stays = λ j w i. inr i; only = λ j w i. i }
-
-at_back : (k : ℕ) → Longer k (λ w. w ++ (k ∷ []))
-at_back k = record {
-  here = λ w. in-snd k w (k ∷ []) (inl refl);
-  stays = λ j w i. in_left w (k ∷ []) j i;
-  only = λ j w i. elim (in_split j w (k ∷ []) i) [ inl x ↦ inr x | inr x ↦ elim x [ inl e ↦ inl e | inr y ↦ absurd y ] ];
-}
-
 owed-step : (a s k : ℕ) (P Q : List ℕ → Type 0) (more : List ℕ → List ℕ) → Longer k more → ((w : List ℕ) → P w → Q (more w)) → Owed a s P → Owed (bit_or a (bit_of k)) (bit_or s (bit_of k)) Q
 owed-step a s k P Q more l to o = record {
   way = (more o.way.0, to o.way.0 o.way.1);
@@ -83,12 +62,6 @@ owed-step a s k P Q more l to o = record {
     | inl x ↦ let q = o.some-from j x in (more q.0, to q.0 q.1, l.stays j q.0 q.2)
     | inr x ↦ (more o.way.0, to o.way.0 o.way.1, rw (one_only k j x) (l.here o.way.0))
   ];
-}
-
-tells-step : (a s k : ℕ) (more : List ℕ → List ℕ) (w : List ℕ) → Longer k more → Tells a s w → Tells (bit_or a (bit_of k)) (bit_or s (bit_of k)) (more w)
-tells-step a s k more w l t = record {
-  all_in = λ j h. elim (or_split a (bit_of k) j h) [ inl x ↦ l.stays j w (t.all_in j x) | inr x ↦ rw (one_only k j x) (l.here w) ];
-  in_some = λ j i. elim (l.only j w i) [ inl e ↦ or_right s (bit_of k) j (rw e (one-self k)) | inr x ↦ or_left s (bit_of k) j (t.in_some j x) ];
 }
 
 -- ---- paths to a node
@@ -154,8 +127,7 @@ module _ {S V : Type 0} {Keeps : List ℕ → Type 0} {Stands : S → List ℕ �
         let s = path-last D 0 d b w q.0 q.1 in
         let x = tells_at t d (omega arith) s.source s.before (s.path, s.long) in
         let y = next-at {A = Down S V} (merge by.rule by.tally) (λ x y. (w : List ℕ) → Tells x.all x.some w → Tells y.all y.some w) (λ x w f. f) (λ x y z f g w h. g w (f w h))
-        (λ x y w f. record { all_in = λ j h. f.all_in j (and_left x.all y.all j h); in_some = λ j i. or_left x.some y.some j (f.in_some j i) })
-        (λ x y w f. record { all_in = λ j h. f.all_in j (and_right x.all y.all j h); in_some = λ j i. or_right x.some y.some j (f.in_some j i) })
+        (λ x y. tells-left x.all x.some y.all y.some) (λ x y. tells-right x.all x.some y.all y.some)
         (arrival_over by) (At d D) L n s.source s.door b x.0 s.arc x.1 (ranged-at D d t h s.source s.door b s.arc) in (
           y.0,
           rw (labs-step d (first_labels by.rule by.tally) D h) y.1,
@@ -183,7 +155,7 @@ tells-up : (Ls : Net) (a : ℕ) (u : Up) → get_or (ups Ls) a None ≡ Some u �
 tells-up Ls a u e w p =
     let q = path-up Ls a w p in
     let x : q.0 ≡ u = cc q.1 in
-    rw (← x) (record { all_in = q.2.all; in_some = q.2.some })
+    rw (← x) q.2
 
 -- the sets of a node, also of one from which no path leads to the end
 pub up-exact : (Ls : Net) (a : ℕ) → let u = or_no_up (get_or (ups Ls) a None) in Exactly u.allup (OnEvery (PathFrom Ls a)) × Exactly u.someup (OnOne (PathFrom Ls a))

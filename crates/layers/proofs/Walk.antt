@@ -1,6 +1,6 @@
 -- A label on the way agrees with the beginning that leads to it; so no arc of an allowed order is swept or cut.
-use Rattle.std.proofs.Common.{◌≡◌, ℕ, zero, suc, ◌+◌, ◌<◌, ◌≤◌, Bool, true, false, cond, ◌||◌, ltb, List, [], ◌∷◌, ◌++◌, length, get_or, Some, None, Option, sym, refl, ap, ◌∙◌, subst, inl, inr, le_trans, arith}
-use lib.Bits.{bit_or}
+use Rattle.std.proofs.Common.{◌≡◌, ℕ, zero, suc, ◌+◌, ◌<◌, ◌≤◌, Bool, true, false, cond, ◌||◌, ltb, ◌⊎◌, List, [], ◌∷◌, ◌++◌, length, get_or, Some, None, Option, sym, refl, ap, ◌∙◌, subst, inl, inr, le_trans, arith}
+use lib.Bits.{bit_and, bit_or}
 use lib.Count.{ones}
 use Rattle.std.proofs.lemmas.Bool.{le-ltb, ne_eqb, false_from_ne_true}
 use Rattle.doors.proofs.Orders.{in_left, part-next, next-part}
@@ -22,7 +22,7 @@ use Rattle.layers.specs.Flow.{arrivals_at, up}
 use Rattle.layers.specs.Labels.{bit_of, leg, climb, merge_up, no_up, ups, first_label, arrival_over, merge, first_labels, labels_next, is_barred}
 use Rattle.layers.proofs.Flows.{EvenLayer, redirect-arc, inside, has-arc, next-at, up_at, tidy-keeps, next-all}
 use Rattle.layers.proofs.Ways.{or_left, or_right, or_split, and_left, and_right, one-self, one_only, none_has, ones_in, in_split, in-snd, part-tail, trip-snoc, van-snoc, length-snoc, snoc-assoc, TimelyFrom, timely-from, leg-le, leg-bound}
-use Rattle.layers.proofs.Model.{sweeps, sweep}
+use Rattle.layers.proofs.Model.{kept, sweeps, sweep}
 use Rattle.layers.specs.Settings.{Setting}
 use Rattle.layers.specs.declared.node.Down.{Down}
 use Rattle.layers.specs.Calls.{kept_arcs}
@@ -41,6 +41,40 @@ even-door r L even a zero b e = absurd (omega arith)
 even-door r L even a (suc k) b e =
     let h = door-at (node L a) k b e in let g = even a (has-arc L a (suc k) b e) in record { low = omega arith; high = omega arith }
 
+-- ---- sets of a label, and a path
+-- what the path w has is told by the label
+pub record Tells (all some : ℕ) (w : List ℕ) : Type 0 where
+  pub all_in : (j : ℕ) → has all j ≡ true → StandsIn j w
+  pub in_some : (j : ℕ) → StandsIn j w → has some j ≡ true
+
+-- one door k more, at either end of the path
+pub record Longer (k : ℕ) (more : List ℕ → List ℕ) : Type 0 where
+  pub here : (w : List ℕ) → StandsIn k (more w)
+  pub stays : (j : ℕ) (w : List ℕ) → StandsIn j w → StandsIn j (more w)
+  pub only : (j : ℕ) (w : List ℕ) → StandsIn j (more w) → (j ≡ k) ⊎ StandsIn j w
+
+pub at_front : (k : ℕ) → Longer k (λ w. k ∷ w)
+at_front k = record { here = λ w. inl refl; stays = λ j w i. inr i; only = λ j w i. i }
+
+pub at_back : (k : ℕ) → Longer k (λ w. w ++ (k ∷ []))
+at_back k = record {
+  here = λ w. in-snd k w (k ∷ []) (inl refl);
+  stays = λ j w i. in_left w (k ∷ []) j i;
+  only = λ j w i. elim (in_split j w (k ∷ []) i) [ inl x ↦ inr x | inr x ↦ elim x [ inl e ↦ inl e | inr y ↦ absurd y ] ];
+}
+
+pub tells-step : (a s k : ℕ) (more : List ℕ → List ℕ) (w : List ℕ) → Longer k more → Tells a s w → Tells (bit_or a (bit_of k)) (bit_or s (bit_of k)) (more w)
+tells-step a s k more w l t = record {
+  all_in = λ j h. elim (or_split a (bit_of k) j h) [ inl x ↦ l.stays j w (t.all_in j x) | inr x ↦ rw (one_only k j x) (l.here w) ];
+  in_some = λ j i. elim (l.only j w i) [ inl e ↦ or_right s (bit_of k) j (rw e (one-self k)) | inr x ↦ or_left s (bit_of k) j (t.in_some j x) ];
+}
+
+pub tells-left : (a s a' s' : ℕ) (w : List ℕ) → Tells a s w → Tells (bit_and a a') (bit_or s s') w
+tells-left a s a' s' w t = record { all_in = λ j h. t.all_in j (and_left a a' j h); in_some = λ j i. or_left s s' j (t.in_some j i) }
+
+pub tells-right : (a s a' s' : ℕ) (w : List ℕ) → Tells a' s' w → Tells (bit_and a a') (bit_or s s') w
+tells-right a s a' s' w t = record { all_in = λ j h. t.all_in j (and_right a a' j h); in_some = λ j i. or_right s s' j (t.in_some j i) }
+
 module _ {S V : Type 0} {Keeps : List ℕ → Type 0} {Stands : S → List ℕ → Type 0} {Allows : ℕ → V → Type 0} (by : Setting S V) (ruled : RuleLaws by.round.n by.rule Keeps Stands) (tallied : TallyLaws by.round.n by.tally Allows) where
   -- ---- an order under way
   pub record Going (p w : List ℕ) : Type 0 where
@@ -50,12 +84,7 @@ module _ {S V : Type 0} {Keeps : List ℕ → Type 0} {Stands : S → List ℕ �
     pub total : length p + length w ≡ by.round.n
 
   pub going_next : (p w : List ℕ) (j : ℕ) → Going p (j ∷ w) → Going (p ++ (j ∷ [])) w
-  going_next p w j g = record {
-    part = rw (snoc-assoc p w j) g.part;
-    keeps = rw (snoc-assoc p w j) g.keeps;
-    timely = rw (van-snoc by.round p j) g.timely.1;
-    total = omega (arith, length-snoc p j, g.total);
-  }
+  going_next p w j g = record { part = rw (snoc-assoc p w j) g.part; keeps = rw (snoc-assoc p w j) g.keeps; timely = rw (van-snoc by.round p j) g.timely.1; total = omega (arith, length-snoc p j, g.total) }
 
   -- what is so of the true clock and cost after p
   pub record Told (p : List ℕ) : Type 0 where
@@ -71,15 +100,14 @@ module _ {S V : Type 0} {Keeps : List ℕ → Type 0} {Stands : S → List ℕ �
   -- ---- labels that fit
   pub record Fits (l : Down S V) (p : List ℕ) : Type 0 where
     pub part : IsPartOrder by.round.n p
-    pub all : (j : ℕ) → has l.all j ≡ true → StandsIn j p
-    pub some : (j : ℕ) → StandsIn j p → has l.some j ≡ true
+    pub sets : Tells l.all l.some p
     pub finish : l.finish ≤ (trip_after by.round by.tally p).van.finish
     pub lasts : has l.lasts (trip_after by.round by.tally p).van.last ≡ true
     pub state : Stands l.state p
     pub value : by.tally.not_above l.value (cost by.round by.tally p) ≡ true
 
   fits-first : Fits (first_label by.rule by.tally) []
-  fits-first = record { part = tt; all = λ j h. absurd (none_has j h); some = λ j i. absurd i; finish = omega arith; lasts = refl; state = ruled.start_stands; value = tallied.order_self by.tally.start }
+  fits-first = record { part = tt; sets = record { all_in = λ j h. absurd (none_has j h); in_some = λ j i. absurd i }; finish = omega arith; lasts = refl; state = ruled.start_stands; value = tallied.order_self by.tally.start }
 
   lesser-left : (a b : V) → by.tally.not_above (by.tally.lesser a b) a ≡ true
   lesser-left a b = rw (tallied.lesser_is a b) (grind (arith, tallied.order_self a, tallied.order_total a b))
@@ -94,8 +122,7 @@ module _ {S V : Type 0} {Keeps : List ℕ → Type 0} {Stands : S → List ℕ �
   unfolding Less merge
   less-left x y p f = record {
     part = f.part;
-    all = λ j h. f.all j (and_left x.all y.all j h);
-    some = λ j i. or_left x.some y.some j (f.some j i);
+    sets = tells-left x.all x.some y.all y.some p f.sets;
     finish = omega (arith, f.finish);
     lasts = or_left x.lasts y.lasts (trip_after by.round by.tally p).van.last f.lasts;
     state = ruled.cover_left x.state y.state p f.part f.state;
@@ -106,8 +133,7 @@ module _ {S V : Type 0} {Keeps : List ℕ → Type 0} {Stands : S → List ℕ �
   unfolding Less merge
   less-right x y p f = record {
     part = f.part;
-    all = λ j h. f.all j (and_right x.all y.all j h);
-    some = λ j i. or_right x.some y.some j (f.some j i);
+    sets = tells-right x.all x.some y.all y.some p f.sets;
     finish = omega (arith, f.finish);
     lasts = or_right x.lasts y.lasts (trip_after by.round by.tally p).van.last f.lasts;
     state = ruled.cover_right x.state y.state p f.part f.state;
@@ -140,11 +166,7 @@ module _ {S V : Type 0} {Keeps : List ℕ → Type 0} {Stands : S → List ℕ �
       let s = (clock-laws by.round).bound (length p) (trip_after by.round by.tally p).van.finish (drive by.round (trip_after by.round by.tally p).van.last j) j t.soon dl in
       record {
         part = (told-next p j t d k n).part;
-        all = λ i h. elim (or_split l.all (bit_of j) i h) [ inl x ↦ in_left p (j ∷ []) i (f.all i x) | inr x ↦ in-snd i p (j ∷ []) (inl (one_only j i x)) ];
-        some = λ i h. elim (in_split i p (j ∷ []) h) [
-          | inl x ↦ or_left l.some (bit_of j) i (f.some i x)
-          | inr x ↦ or_right l.some (bit_of j) i (elim x [ inl y ↦ rw y (one-self j) | inr y ↦ absurd y ])
-        ];
+        sets = tells-step l.all l.some j (λ p. p ++ (j ∷ [])) p (at_back j) f.sets;
         finish = rw e early;
         lasts = rw e (one-self j);
         state = ruled.step_stands l.state p j (record { part = t.part; door = d; new = n }) f.state;
@@ -176,41 +198,15 @@ module _ {S V : Type 0} {Keeps : List ℕ → Type 0} {Stands : S → List ℕ �
   unfoldable pub At : List (Option (Down S V)) → ℕ → List ℕ → Type 0
   At labs a p = (l : Down S V) × (get_or labs a None ≡ Some l) × Fits l p
 
-  pub at_first : At (first_labels by.rule by.tally) 0 []
-  unfolding At
-  at_first = (first_label by.rule by.tally, refl, fits-first)
-
-  pub at_next : (labs : List (Option (Down S V))) (L : Layer) (count a j b : ℕ) (p : List ℕ) → target (node L a) j ≡ suc b → b < count
-      → At labs a p → Told p → Good (length p) labs → IsDoor by.round.n j → length p < 16 → ¬ StandsIn j p → At (labels_next by labs L count) b (p ++ (j ∷ []))
-  unfolding At Good labels_next Less
-  at_next labs L count a j b p e h x t good d k n =
-      let q = next-at {A = Down S V} (merge by.rule by.tally) Less (λ x p f. f) (λ x y z f g p h. g p (f p h)) less-left less-right (arrival_over by) labs L count a j b x.0 e x.1 h in
-      (q.0, q.1, q.2 (p ++ (j ∷ [])) (arrive-fits x.0 p j x.2 t (good a x.0 x.1).0 d k n))
-
 -- ---- upward
-pub record FitsUp (u : Up) (w : List ℕ) : Type 0 where
-  pub all : (j : ℕ) → has u.allup j ≡ true → StandsIn j w
-  pub some : (j : ℕ) → StandsIn j w → has u.someup j ≡ true
-
-climb-fits : (u : Up) (j : ℕ) (w : List ℕ) → FitsUp u w → FitsUp (climb u j) (j ∷ w)
-climb-fits u j w f = record {
-  all = λ i h. elim (or_split u.allup (bit_of j) i h) [ inl x ↦ inr (f.all i x) | inr x ↦ inl (one_only j i x) ];
-  some = λ i h. elim h [ inl e ↦ or_right u.someup (bit_of j) i (rw e (one-self j)) | inr x ↦ or_left u.someup (bit_of j) i (f.some i x) ];
-}
-
-up_left : (x y : Up) (w : List ℕ) → FitsUp x w → FitsUp (merge_up x y) w
-up_left x y w f = record { all = λ i h. f.all i (and_left x.allup y.allup i h); some = λ i h. or_left x.someup y.someup i (f.some i h) }
-
-up_right : (x y : Up) (w : List ℕ) → FitsUp y w → FitsUp (merge_up x y) w
-up_right x y w f = record { all = λ i h. f.all i (and_right x.allup y.allup i h); some = λ i h. or_right x.someup y.someup i (f.some i h) }
-
-pub path-up : (Ls : Net) (a : ℕ) (w : List ℕ) → PathFrom Ls a w → (u : Up) × (get_or (ups Ls) a None ≡ Some u) × FitsUp u w
+pub path-up : (Ls : Net) (a : ℕ) (w : List ℕ) → PathFrom Ls a w → (u : Up) × (get_or (ups Ls) a None ≡ Some u) × Tells u.allup u.someup w
 unfolding ups
-path-up [] a [] p = unfold up in (no_up, ap (λ (x : ℕ). get_or {A = Option Up} (Some no_up ∷ []) x None) p, record { all = λ j h. absurd (none_has j h); some = λ j i. absurd i })
+path-up [] a [] p = unfold up in (no_up, ap (λ (x : ℕ). get_or {A = Option Up} (Some no_up ∷ []) x None) p, record { all_in = λ j h. absurd (none_has j h); in_some = λ j i. absurd i })
 path-up (L ∷ Ls) a (j ∷ w) p =
     let x = path-up Ls p.0 w p.2 in
-    let q = up_at {A = Up} merge_up (λ x y. (w : List ℕ) → FitsUp x w → FitsUp y w) (λ x w f. f) (λ x y z f g w h. g w (f w h)) up_left up_right climb no_up L Ls a j p.0 x.0 p.1 x.1 in
-    (q.0, q.1, q.2 (j ∷ w) (climb-fits x.0 j w x.2))
+    let q = up_at {A = Up} merge_up (λ x y. (w : List ℕ) → Tells x.allup x.someup w → Tells y.allup y.someup w) (λ x w f. f) (λ x y z f g w h. g w (f w h))
+    (λ x y. tells-left x.allup x.someup y.allup y.someup) (λ x y. tells-right x.allup x.someup y.allup y.someup) climb no_up L Ls a j p.0 x.0 p.1 x.1 in
+    (q.0, q.1, q.2 (j ∷ w) (tells-step x.0.allup x.0.someup j (λ w. j ∷ w) w (at_front j) x.2))
 path-up Ls a w p = absurd p
 
 pub path-length : (Ls : Net) (a : ℕ) (w : List ℕ) → PathFrom Ls a w → length w ≡ length Ls
@@ -228,54 +224,90 @@ module _ {S V : Type 0} {Keeps : List ℕ → Type 0} {Stands : S → List ℕ �
       (x.door, x.new, omega (arith, g.total, by.round.most))
 
   pub not-barred : (p w : List ℕ) (j : ℕ) (l : Down S V) (u : Up) → Going by ruled tallied p (j ∷ w) → Told by ruled tallied p → Fits by ruled tallied l p → Fits by ruled tallied (arrival_over by l j) (p ++ (j ∷ []))
-      → FitsUp u w → is_barred by.round by.rule (length p) (suc (length w)) j (Some l) (Some u) ≡ false
+      → Tells u.allup u.someup w → is_barred by.round by.rule (length p) (suc (length w)) j (Some l) (Some u) ≡ false
   unfolding arrival_over
   not-barred p w j l u g t f a fu =
       let facts = going-facts p w j g in
       or-none (has l.all j) (ltb (ones (bit_or l.some (bit_of j))) (suc (length p))) (ltb (door by.round j).closes (finish by.round l.finish (leg by.round l.lasts j) j))
       (by.rule.bars l.state j) (has u.allup j) (ltb (ones (bit_or u.someup (bit_of j))) (suc (length w)))
-      (false_from_ne_true (has l.all j) (λ h. facts.1 (f.all j h)))
+      (false_from_ne_true (has l.all j) (λ h. facts.1 (f.sets.all_in j h)))
       (le-ltb (ones (bit_or l.some (bit_of j))) (suc (length p))
-      (rw (← (length-snoc p j)) (ones_in by.round.n (bit_or l.some (bit_of j)) (p ++ (j ∷ [])) a.part a.some)))
+      (rw (← (length-snoc p j)) (ones_in by.round.n (bit_or l.some (bit_of j)) (p ++ (j ∷ [])) a.part a.sets.in_some)))
       (le-ltb (door by.round j).closes (finish by.round l.finish (leg by.round l.lasts j) j) (le_trans a.finish closing))
       (false_from_ne_true (by.rule.bars l.state j) (λ h. ruled.bars_breaks l.state p j (part-next by.round.n p j w g.part) f.state h
       (ruled.keeps_front (p ++ (j ∷ [])) w (rw (snoc-assoc p w j) g.part) (rw (snoc-assoc p w j) g.keeps))))
-      (false_from_ne_true (has u.allup j) (λ h. (part-tail by.round.n p (j ∷ w) g.part).1 (fu.all j h)))
+      (false_from_ne_true (has u.allup j) (λ h. (part-tail by.round.n p (j ∷ w) g.part).1 (fu.all_in j h)))
       (le-ltb (ones (bit_or u.someup (bit_of j))) (suc (length w))
-      (ones_in by.round.n (bit_or u.someup (bit_of j)) (j ∷ w) (part-tail by.round.n p (j ∷ w) g.part) (climb-fits u j w fu).some))
+      (ones_in by.round.n (bit_or u.someup (bit_of j)) (j ∷ w) (part-tail by.round.n p (j ∷ w) g.part) (tells-step u.allup u.someup j (λ w. j ∷ w) w (at_front j) fu).in_some))
     where
       closing : (trip_after by.round by.tally (p ++ (j ∷ []))).van.finish ≤ (door by.round j).closes
       closing = rw (← (sym (van-snoc by.round p j) ∙ sym (trip-van by.round by.tally (p ++ (j ∷ []))))) g.timely.0
 
-  pub sweeps-keep : (p w : List ℕ) (labs : List (Option (Down S V))) (Ls : Net) (a : ℕ) → Going by ruled tallied p w → Told by ruled tallied p → At by ruled tallied labs a p
-      → Good by ruled tallied (length p) labs → IsEven by.round.n Ls → PathFrom Ls a w → PathFrom (sweeps by (length p) labs Ls) a w
-  unfolding kept_arcs At
-  sweeps-keep p [] labs [] a g t at good even q = q
-  sweeps-keep p (j ∷ w) labs [] a g t at good even q = absurd q
-  sweeps-keep p [] labs (L ∷ Ls) a g t at good even q = absurd q
-  sweeps-keep p (j ∷ w) labs (L ∷ Ls) a g t at good even q =
-      let b = q.0 in
-      let facts = going-facts p w j g in
-      let x = path-up Ls b w q.2 in
-      let fits = arrive-fits by ruled tallied at.0 p j at.2 t (unfold Good in (good a at.0 at.1).0) facts.0 facts.2 facts.1 in
-      let nb = not-barred p w j at.0 x.0 g t at.2 fits x.2 in
-      let nb' : is_barred by.round by.rule (length p) (suc (length Ls)) j (get_or labs a None) (get_or (ups Ls) b None) ≡ false =
-      rw (at.1, x.1, ← path-length Ls b w q.2) nb in
-      let next' = at_next by ruled tallied labs L (width Ls) a j b p q.1 (inside Ls b w q.2) at t good facts.0 facts.2 facts.1 in
-      let good' = good-next by ruled tallied (length p) labs L (width Ls) facts.2 good even.0 in
-      let rest = sweeps-keep (p ++ (j ∷ [])) w (labels_next by labs L (width Ls)) Ls b (going_next by ruled tallied p w j g)
-      (told-next by ruled tallied p j t facts.0 facts.2 facts.1) next'
-      (rw (length-snoc p j) good') even.1 q.2 in (
-        b,
-        redirect-arc (λ a j b. cond (is_barred by.round by.rule (length p) (suc (length Ls)) j (get_or labs a None) (get_or (ups Ls) b None)) 0 (suc b)) L a j b q.1 ∙ ap (λ (z : Bool). cond z 0 (suc b)) nb',
-        rw (← (length-snoc p j)) rest,
+  -- p leads to place a of the first of these layers, and w on from it to the end
+  pub record OnWay (labs : List (Option (Down S V))) (Ls : Net) (a : ℕ) (p w : List ℕ) : Type 0 where
+    pub going : Going by ruled tallied p w
+    pub told : Told by ruled tallied p
+    pub fits : At by ruled tallied labs a p
+    pub good : Good by ruled tallied (length p) labs
+    pub even : IsEven by.round.n Ls
+    pub path : PathFrom Ls a w
+
+  -- what arrives fits
+  pub way-fits : (labs : List (Option (Down S V))) (L : Layer) (Ls : Net) (a j : ℕ) (p w : List ℕ) (o : OnWay labs (L ∷ Ls) a p (j ∷ w)) → (l : Down S V) × (get_or labs a None ≡ Some l) × Fits by ruled tallied l p × Fits by ruled tallied (arrival_over by l j) (p ++ (j ∷ []))
+  unfolding At Good
+  way-fits labs L Ls a j p w o =
+      let facts = going-facts p w j o.going in let at = o.fits in
+      (at.0, at.1, at.2, arrive-fits by ruled tallied at.0 p j at.2 o.told (o.good a at.0 at.1).0 facts.0 facts.2 facts.1)
+
+  -- over an arc
+  pub way_next : (labs : List (Option (Down S V))) (L : Layer) (Ls : Net) (a j : ℕ) (p w : List ℕ) (o : OnWay labs (L ∷ Ls) a p (j ∷ w)) → OnWay (labels_next by labs L (width Ls)) Ls o.path.0 (p ++ (j ∷ [])) w
+  unfolding At labels_next Less
+  way_next labs L Ls a j p w o =
+      let facts = going-facts p w j o.going in
+      let f = way-fits labs L Ls a j p w o in
+      let q = next-at {A = Down S V} (merge by.rule by.tally) (Less by ruled tallied) (λ x p f. f) (λ x y z f g p h. g p (f p h)) (less-left by ruled tallied) (less-right by ruled tallied)
+      (arrival_over by) labs L (width Ls) a j o.path.0 f.0 o.path.1 f.1 (inside Ls o.path.0 w o.path.2) in record {
+        going = going_next by ruled tallied p w j o.going;
+        told = told-next by ruled tallied p j o.told facts.0 facts.2 facts.1;
+        fits = (q.0, q.1, q.2 (p ++ (j ∷ [])) f.3);
+        good = rw (length-snoc p j) (good-next by ruled tallied (length p) labs L (width Ls) facts.2 o.good o.even.0);
+        even = o.even.1;
+        path = o.path.2;
+      }
+
+  -- a filter that takes out none of its arcs keeps the order
+  pub filter-keeps : (goes : ℕ → ℕ → ℕ → Option (Down S V) → Option Up → Bool) (Q : List ℕ → Type 0)
+      → ((labs : List (Option (Down S V))) (L : Layer) (Ls : Net) (a j : ℕ) (p w : List ℕ) (o : OnWay labs (L ∷ Ls) a p (j ∷ w)) → Q (p ++ (j ∷ w)) → goes (length p) (suc (length Ls)) j (get_or labs a None) (get_or (ups Ls) o.path.0 None) ≡ false)
+      → (labs : List (Option (Down S V))) (Ls : Net) (a : ℕ) (p w : List ℕ) → OnWay labs Ls a p w → Q (p ++ w) → PathFrom (kept by goes (length p) labs Ls) a w
+  unfolding kept_arcs
+  filter-keeps goes Q stays labs [] a p [] o u = o.path
+  filter-keeps goes Q stays labs (L ∷ Ls) a p (j ∷ w) o u =
+      let q = o.path in (
+        q.0,
+        redirect-arc (λ a j b. cond (goes (length p) (suc (length Ls)) j (get_or labs a None) (get_or (ups Ls) b None)) 0 (suc b)) L a j q.0 q.1 ∙ ap (λ (z : Bool). cond z 0 (suc q.0)) (stays labs L Ls a j p w o u),
+        rw (← (length-snoc p j)) (filter-keeps goes Q stays (labels_next by labs L (width Ls)) Ls q.0 (p ++ (j ∷ [])) w (way_next labs L Ls a j p w o) (rw (snoc-assoc p w j) u)),
       )
+  filter-keeps goes Q stays labs Ls a p w o u = absurd o.path
 
   -- an allowed order, not yet under way
-  pub setting-out : (w : List ℕ) → IsAllowed by.round Keeps w → Going by ruled tallied [] w
-  setting-out w o = record { part = o.part; keeps = o.keeps; timely = timely-from by.round [] w o.timely; total = omega (arith, o.whole) }
+  pub setting-out : (w : List ℕ) (Ls : Net) → IsAllowed by.round Keeps w → IsEven by.round.n Ls → PathFrom Ls 0 w → OnWay (first_labels by.rule by.tally) Ls 0 [] w
+  unfolding At
+  setting-out w Ls o even q = record {
+    going = record { part = o.part; keeps = o.keeps; timely = timely-from by.round [] w o.timely; total = omega (arith, o.whole) };
+    told = told_none by ruled tallied;
+    fits = (first_label by.rule by.tally, refl, fits-first by ruled tallied);
+    good = good-first by ruled tallied;
+    even = even;
+    path = q;
+  }
 
   pub sweep-keeps : (w : List ℕ) (Ls : Net) → IsAllowed by.round Keeps w → IsEven by.round.n Ls → PathFrom Ls 0 w → PathFrom (sweep by Ls) 0 w
   unfolding sweep
   sweep-keeps w Ls o even q = tidy-keeps (sweeps by 0 (first_labels by.rule by.tally) Ls) w
-      (sweeps-keep [] w (first_labels by.rule by.tally) Ls 0 (setting-out w o) (told_none by ruled tallied) (at_first by ruled tallied) (good-first by ruled tallied) even q)
+      (filter-keeps (is_barred by.round by.rule) (λ z. Unit {0}) stays (first_labels by.rule by.tally) Ls 0 [] w (setting-out w Ls o even q) tt)
+    where
+      stays : (labs : List (Option (Down S V))) (L : Layer) (Ls : Net) (a j : ℕ) (p w : List ℕ) (o : OnWay labs (L ∷ Ls) a p (j ∷ w)) → Unit {0} → is_barred by.round by.rule (length p) (suc (length Ls)) j (get_or labs a None) (get_or (ups Ls) o.path.0 None) ≡ false
+      stays labs L Ls a j p w o u =
+          let x = path-up Ls o.path.0 w o.path.2 in
+          let f = way-fits labs L Ls a j p w o in
+          rw (f.1, x.1, ← path-length Ls o.path.0 w o.path.2) (not-barred p w j f.0 x.0 o.going o.told f.2 f.3 x.2)
