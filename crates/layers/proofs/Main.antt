@@ -12,7 +12,7 @@ use Rattle.layers.specs.Net.{Layer, Net, PathFrom, has_path_with, table, target,
 use Rattle.layers.specs.declared.call.Call.{Call}
 use Rattle.layers.specs.Calls.{arcs, after_open, after_calls, records_with, bound, must, is_settled, EachCut, kept_arcs}
 use Rattle.layers.specs.Claim.{MustMeans, NothingLost, NothingFalse, ClaimAlwaysHolds, LabelsStand, SettledMeans, StandsAhead}
-use Rattle.layers.proofs.Model.{bound as boundOf, settled as settled_of, cuts, cut, valueO}
+use Rattle.layers.proofs.Model.{bound as boundOf, settled as settled_of, cuts, cut, valueO, labels_at}
 use Rattle.layers.proofs.Exact.{paths-allowed, bound-attained}
 use Rattle.layers.proofs.Standing.{Reached, arcs-of, bound-X, settled-X, settled-means-X, after_end, run-reached, KeptOnArcs, reached, opened-reached}
 use Rattle.layers.specs.Settings.{Setting, setting}
@@ -24,7 +24,7 @@ use Rattle.layers.specs.Labels.{arrival_over, merge, first_labels, labels_next, 
 use Rattle.layers.proofs.Flows.{redirect-arc, inside, table_at, tidy-keeps}
 use Rattle.layers.proofs.Ways.{trip-snoc, length-snoc, snoc-assoc}
 use Rattle.layers.proofs.Walk.{within, Going, going_next, Told, told-next, At, going-facts, OnWay, way_next, way-fits, filter-keeps, setting-out, sweep-keeps}
-use Rattle.layers.proofs.Ties.{part-keeps, join-keeps}
+use Rattle.layers.proofs.Proper.{part-edited, join-edited}
 use Rattle.layers.specs.declared.node.Down.{Down}
 use Rattle.doors.proofs.Sets.{part_length}
 
@@ -154,8 +154,8 @@ module _ {S V : Type 0} {Keeps : List ℕ → Type 0} {Stands : S → List ℕ �
     path-kept later = record {
       sweep = λ Ls p q. sweep-keeps by ruled tallied w Ls o p.even q;
       cut = λ c Ls u p q. cut_keeps c w Ls o u p.even q;
-      part = λ d a Ls p q. part-keeps by d a (first_labels by.rule by.tally) Ls 0 w q;
-      join = λ d lo hi Ls a b n p q. join-keeps d lo hi Ls 0 w a b n q;
+      part = λ d a Ls x y z p q. (part-edited by w1 ruled.same_self d a (labels_at by d (first_labels by.rule by.tally) Ls) Ls x y z).paths 0 w q;
+      join = λ d lo hi Ls a b n p q. (join-edited by.round.n by.width d lo hi Ls a b n).paths 0 w q;
     }
 
     open-door : (j : ℕ) → IsDoor by.round.n j → target (all_doors by.round.n) j ≡ 1

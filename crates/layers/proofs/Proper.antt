@@ -2,17 +2,17 @@
 use Rattle.std.proofs.Common.{◌≡◌, ℕ, zero, suc, ◌<◌, ◌≤◌, Bool, true, false, cond, List, [], ◌∷◌, length, get_or, set, Some, None, Option, refl, ap, ◌∙◌, inl, inr, le_of_suc-le-suc, not-suc-le-zero, arith, length-set}
 use Rattle.std.proofs.lemmas.Bool.{cases_eq, cases_lt}
 use Rattle.std.proofs.lemmas.List.{get_or-set_same, get_or-set_other}
-use Rattle.layers.specs.Net.{table, Outs, Layer, Net, node, width, redirect}
+use Rattle.layers.specs.Net.{table, Outs, Layer, Net, node, width, redirect, PathFrom}
 use Rattle.layers.specs.Flow.{arrivals_at}
 use Rattle.layers.specs.Tidy.{Mark, marks_next, marks_up, flags, compress, renumber, tidy, tidied_arcs}
 use Rattle.layers.specs.Join.{without_place, place_after_join, both_out, clash, joined_arcs}
-use Rattle.layers.specs.Lawful.{IsRanged, IsTied, IsRoomy, IsEven, IsLawful}
+use Rattle.layers.specs.Lawful.{IsRanged, IsLed, IsTied, IsRoomy, IsEven, IsLawful}
 use Rattle.layers.specs.declared.node.Up.{Up}
 use Rattle.layers.specs.Labels.{first_labels, arrival_over, all_agree, opening_arcs, all_doors}
 use Rattle.layers.specs.Calls.{LayerLabels, parted_arcs, kept_arcs}
 use Rattle.layers.proofs.Ways.{length-snoc}
 use Rattle.layers.proofs.Flows.{EvenLayer, table-long, compress-at}
-use Rattle.layers.proofs.Ties.{drop-below, drop-above, opened-tied, more-even, drop-length, parted-tied, join_tied}
+use Rattle.layers.proofs.Ties.{drop-below, drop-above, opened-tied, more-even, more-led, more-tied, drop-length, part-keeps, part-ranged, part-fed, part-led, join-keeps, in-ranged, in-fed, in-led, join-led, join-tail}
 use Rattle.layers.proofs.Model.{one_group, part_at, labels_at}
 use Rattle.layers.proofs.Tied.{redirect-length, redirect-long, compress-back, tidied-tied, kept-back}
 use Rattle.layers.specs.Settings.{Setting}
@@ -72,25 +72,6 @@ tidied-less n W (L ∷ Ls) =
 pub tidied-length : (Ls : Net) → length (tidied_arcs Ls) ≡ length Ls
 tidied-length Ls = (tidied-less 0 0 Ls).0
 
--- ---- joining
-joined-less : (n W d lo hi : ℕ) (Ls : Net) → lo < hi → hi < length (get_or Ls (suc d) []) → let Ms = joined_arcs d lo hi Ls in
-    (length Ms ≡ length Ls) × (width Ms ≡ width Ls) × (IsEven n Ls → IsEven n Ms) × (IsRoomy W Ls → IsRoomy W Ms)
-unfolding joined_arcs
-joined-less n W zero lo hi [] a b = absurd (omega arith)
-joined-less n W (suc d) lo hi [] a b = absurd (omega arith)
-joined-less n W zero lo hi (L ∷ []) a b = absurd (omega arith)
-joined-less n W zero lo hi (L ∷ M ∷ Ls) a b =
-    let f : ℕ → ℕ → ℕ → ℕ = λ a j b. suc (place_after_join lo hi b) in
-    let v = both_out (node M lo) (node M hi) in
-    let m = length-set M lo v in
-    let e = λ (h : EvenLayer n M). even-set n M lo v (both-even n (node M lo) (node M hi) (h lo (omega arith)) (h hi b)) h in (
-      refl,
-      redirect-length f L,
-      λ h. (even-redirect n f L h.0, (even-drop n hi (set M lo v) (omega arith) (e h.1.0), h.1.1)),
-      λ h. (omega (arith, h.0, redirect-length f L), (omega (arith, h.1.0, drop-length hi (set M lo v) (omega arith)), h.1.1)),
-    )
-joined-less n W (suc d) lo hi (L ∷ Ls) a b = let r = joined-less n W d lo hi Ls a b in (ap suc r.0, refl, λ h. (h.0, r.2 h.1), λ h. (h.0, r.3 h.1))
-
 -- ---- no arc leads out of the next layer
 abbrev pub RangedAll : Net → Type 0
 RangedAll [] = Unit {0}
@@ -133,6 +114,63 @@ kept-less n W goes i (L ∷ Ls) [] = less_refl n W (L ∷ Ls)
 kept-less n W goes i (L ∷ Ls) (x ∷ labs) =
     less-layer n W (λ a j b. goes i (suc (length Ls)) j (get_or x.downs a None) (get_or x.ups b None)) L Ls (kept_arcs goes (suc i) Ls labs) (kept-less n W goes (suc i) Ls labs)
 
+-- ---- an edit of a layer of arcs and the next
+-- each node of the first layer has an out-arc
+abbrev IsLedFirst : Net → Type 0
+IsLedFirst [] = Unit {0}
+IsLedFirst (L ∷ Ls) = IsLed L
+
+-- what it keeps, whatever layers stand before
+pub record Edited (n W : ℕ) (Ls Ms : Net) : Type 0 where
+  pub deep : length Ms ≡ length Ls
+  pub wide : width Ms ≡ width Ls
+  pub even : IsEven n Ls → IsEven n Ms
+  pub roomy : IsRoomy W Ls → IsRoomy W Ms
+  pub led : IsLedFirst Ls → IsLedFirst Ms
+  pub tied : IsTied Ls → IsTied Ms
+  pub paths : (x : ℕ) (w : List ℕ) → PathFrom Ls x w → PathFrom Ms x w
+
+edited-lawful : {n W : ℕ} {Ls Ms : Net} → Edited n W Ls Ms → IsLawful n W Ls → IsLawful n W Ms
+edited-lawful e p = record { deep = e.deep ∙ p.deep; one_first = e.wide ∙ p.one_first; even = e.even p.even; roomy = e.roomy p.roomy; tied = e.tied p.tied }
+
+lift-tied : (n W : ℕ) (L : Layer) (Ls Ms : Net) → Edited n W Ls Ms → IsTied (L ∷ Ls) → IsTied (L ∷ Ms)
+lift-tied n W L [] [] e t = t
+lift-tied n W L (M ∷ Ls) (N ∷ Ms) e t = (rw e.wide t.0, rw e.wide t.1, e.led t.2, e.tied t.3)
+lift-tied n W L Ls Ms e t = absurd (omega (arith, e.deep))
+
+lift-path : (n W : ℕ) (L : Layer) (Ls Ms : Net) → Edited n W Ls Ms → (x : ℕ) (w : List ℕ) → PathFrom (L ∷ Ls) x w → PathFrom (L ∷ Ms) x w
+lift-path n W L Ls Ms e x [] p = absurd p
+lift-path n W L Ls Ms e x (j ∷ w) p = (p.0, p.1, e.paths p.0 w p.2)
+
+lift : (n W : ℕ) (L : Layer) (Ls Ms : Net) → Edited n W Ls Ms → Edited n W (L ∷ Ls) (L ∷ Ms)
+lift n W L Ls Ms e = record {
+  deep = ap suc e.deep;
+  wide = refl;
+  even = λ h. (h.0, e.even h.1);
+  roomy = λ h. (h.0, e.roomy h.1);
+  led = λ h. h;
+  tied = lift-tied n W L Ls Ms e;
+  paths = lift-path n W L Ls Ms e;
+}
+
+pub join-edited : (n W d lo hi : ℕ) (Ls : Net) → lo < hi → hi < length (get_or Ls (suc d) []) → clash (node (get_or Ls (suc d) []) lo) (node (get_or Ls (suc d) []) hi) ≡ false → Edited n W Ls (joined_arcs d lo hi Ls)
+unfolding joined_arcs
+join-edited n W zero lo hi (L ∷ M ∷ Ls) a b c =
+    let f : ℕ → ℕ → ℕ → ℕ = λ a j b. suc (place_after_join lo hi b) in
+    let v = both_out (node M lo) (node M hi) in
+    let m = length-set M lo v in
+    let e = λ (h : EvenLayer n M). even-set n M lo v (both-even n (node M lo) (node M hi) (h lo (omega arith)) (h hi b)) h in record {
+      deep = refl;
+      wide = redirect-length f L;
+      even = λ h. (even-redirect n f L h.0, (even-drop n hi (set M lo v) (omega arith) (e h.1.0), h.1.1));
+      roomy = λ h. (omega (arith, h.0, redirect-length f L), (omega (arith, h.1.0, drop-length hi (set M lo v) (omega arith)), h.1.1));
+      led = in-led lo hi L;
+      tied = λ t. (in-ranged M lo hi a b c L t.0, in-fed M lo hi a b c L t.1, join-led M lo hi a b c t.2, join-tail M lo hi a b c Ls t.3);
+      paths = λ x w. join-keeps L M Ls lo hi x w a b c;
+    }
+join-edited n W (suc d) lo hi (L ∷ Ls) a b c = lift n W L Ls _ (join-edited n W d lo hi Ls a b c)
+join-edited n W d lo hi Ls a b c = absurd (omega arith)
+
 module _ {S V : Type 0} (by : Setting S V) (w : 1 ≤ by.width) where
   roomy-open : (k : ℕ) → IsRoomy by.width (table k (λ i. all_doors by.round.n ∷ []))
   roomy-open zero = tt
@@ -166,26 +204,27 @@ module _ {S V : Type 0} (by : Setting S V) (w : 1 ≤ by.width) where
   proper-kept goes Ls labs p = proper-less Ls _ (kept-less by.round.n by.width goes 0 Ls labs) p
 
   pub proper-join : (d lo hi : ℕ) (Ls : Net) → lo < hi → hi < length (get_or Ls (suc d) []) → clash (node (get_or Ls (suc d) []) lo) (node (get_or Ls (suc d) []) hi) ≡ false → IsLawful by.round.n by.width Ls → IsLawful by.round.n by.width (joined_arcs d lo hi Ls)
-  proper-join d lo hi Ls x y z p =
-      let r = joined-less by.round.n by.width d lo hi Ls x y in
-      record { deep = r.0 ∙ p.deep; one_first = r.1 ∙ p.one_first; even = r.2 p.even; roomy = r.3 p.roomy; tied = join_tied d lo hi Ls x y z p.tied }
+  proper-join d lo hi Ls x y z p = edited-lawful (join-edited by.round.n by.width d lo hi Ls x y z) p
 
-  -- parting with any labels of the layer before
-  parted-less : (d a : ℕ) (labs : List (Option (Down S V))) (Ls : Net) → a < length (get_or Ls (suc d) []) → length (get_or Ls (suc d) []) < by.width → let Ms = parted_arcs by d a labs Ls in
-      (length Ms ≡ length Ls) × (width Ms ≡ width Ls) × (IsEven by.round.n Ls → IsEven by.round.n Ms) × (IsRoomy by.width Ls → IsRoomy by.width Ms)
+  -- parting with any labels of the layer before, as they may stand in records
+  pub part-edited : ((s : S) → by.rule.same s s ≡ true) → (d a : ℕ) (labs : List (Option (Down S V))) (Ls : Net) → a < length (get_or Ls (suc d) []) → length (get_or Ls (suc d) []) < by.width
+      → all_agree by.rule (arrivals_at (arrival_over by) a labs (get_or Ls d [])) ≡ false → Edited by.round.n by.width Ls (parted_arcs by d a labs Ls)
   unfolding parted_arcs
-  parted-less zero a labs [] k u = absurd (omega arith)
-  parted-less (suc d) a labs [] k u = absurd (omega arith)
-  parted-less zero a labs (L ∷ []) k u = absurd (omega arith)
-  parted-less zero a labs (L ∷ M ∷ Ls) k u =
-      (refl, redirect-length _ L, λ h. (even-redirect by.round.n _ L h.0, (more-even M a k by.round.n h.1.0, h.1.1)), λ h. (simp redirect-length h.0, (omega (arith, length-snoc M (node M a)), h.1.1)))
-  parted-less (suc d) a labs (L ∷ Ls) k u = let r = parted-less d a labs Ls k u in (ap suc r.0, refl, λ h. (h.0, r.2 h.1), λ h. (h.0, r.3 h.1))
+  part-edited self zero a labs (L ∷ M ∷ Ls) k u e = record {
+    deep = refl;
+    wide = redirect-length _ L;
+    even = λ h. (even-redirect by.round.n _ L h.0, (more-even M a k by.round.n h.1.0, h.1.1));
+    roomy = λ h. (simp redirect-length h.0, (omega (arith, length-snoc M (node M a)), h.1.1));
+    led = part-led by self a labs L M k e;
+    tied = λ t. (part-ranged by self a labs L M k e t.0, part-fed by self a labs L M k e t.1, more-led M a k t.2, more-tied M a k Ls t.3);
+    paths = part-keeps by a labs L M Ls;
+  }
+  part-edited self (suc d) a labs (L ∷ Ls) k u e = lift by.round.n by.width L Ls _ (part-edited self d a labs Ls k u e)
+  part-edited self d a labs Ls k u e = absurd (omega arith)
 
   pub proper-parted-at : ((s : S) → by.rule.same s s ≡ true) → (d a : ℕ) (labs : List (Option (Down S V))) (Ls : Net) → a < length (get_or Ls (suc d) []) → length (get_or Ls (suc d) []) < by.width
       → all_agree by.rule (arrivals_at (arrival_over by) a labs (get_or Ls d [])) ≡ false → IsLawful by.round.n by.width Ls → IsLawful by.round.n by.width (parted_arcs by d a labs Ls)
-  proper-parted-at self d a labs Ls x y z p =
-      let r = parted-less d a labs Ls x y in
-      record { deep = r.0 ∙ p.deep; one_first = r.1 ∙ p.one_first; even = r.2 p.even; roomy = r.3 p.roomy; tied = parted-tied by self d a labs Ls x z p.tied }
+  proper-parted-at self d a labs Ls x y z p = edited-lawful (part-edited self d a labs Ls x y z) p
 
 -- parting, by the laws of the rule: an arrival agrees with itself
 module _ {S V : Type 0} (by : Setting S V) (self : (s : S) → by.rule.same s s ≡ true) (w : 1 ≤ by.width) where

@@ -219,7 +219,7 @@ module _ {S V : Type 0} (by : Setting S V) (w : 1 ≤ by.width) (later : List (N
   pub record KeptOnArcs (P : Net → Type 0) (Q : V → Type 0) : Type 0 where
     pub sweep : (Ls : Net) → Well Ls → P Ls → P (sweep by Ls)
     pub cut : (c : V) (Ls : Net) → Q c → Well Ls → P Ls → P (cut by c Ls)
-    pub part : (d a : ℕ) (Ls : Net) → Well Ls → P Ls → P (part_at by d a first Ls)
+    pub part : (d a : ℕ) (Ls : Net) → a < length (get_or Ls (suc d) []) → length (get_or Ls (suc d) []) < by.width → one_group by d a first Ls ≡ false → Well Ls → P Ls → P (part_at by d a first Ls)
     pub join : (d lo hi : ℕ) (Ls : Net) → lo < hi → hi < length (get_or Ls (suc d) []) → clash (node (get_or Ls (suc d) []) lo) (node (get_or Ls (suc d) []) hi) ≡ false → Well Ls → P Ls → P (joined_arcs d lo hi Ls)
 
   module _ (self : (s : S) → by.rule.same s s ≡ true) (P : Net → Type 0) (Q : V → Type 0) (k : KeptOnArcs P Q) where
@@ -250,7 +250,10 @@ module _ {S V : Type 0} (by : Setting S V) (w : 1 ≤ by.width) (later : List (N
     steps = record {
       sweep = λ xs r. reached-sweep P xs r (k.sweep r.net r.well r.holds);
       cut = reached-cut;
-      part = λ i a xs lo hi one inn e room r. reached-part self P i a (i - 1) (a - 1) xs (omega arith) (omega arith) hi inn e room r (k.part (i - 1) (a - 1) r.net r.well r.holds);
+      part = λ i a xs lo hi one inn e room r.
+          let m = count-of P xs r i (i - 1) (omega arith) hi in
+          reached-part self P i a (i - 1) (a - 1) xs (omega arith) (omega arith) hi inn e room r
+          (k.part (i - 1) (a - 1) r.net (omega arith) (omega arith) (sym (group-of P xs r i a (i - 1) (a - 1) (omega arith) (omega arith) hi) ∙ e) r.well r.holds);
       join = reached-join;
     }
 
@@ -264,7 +267,7 @@ module _ {S V : Type 0} (by : Setting S V) (w : 1 ≤ by.width) (later : List (N
 
   -- of which nothing else is said
   pub plain : KeptOnArcs (λ Ls. Unit {0}) (λ c. Unit {0})
-  plain = record { sweep = λ Ls p h. tt; cut = λ c Ls u p h. tt; part = λ d a Ls p h. tt; join = λ d lo hi Ls x y z p h. tt }
+  plain = record { sweep = λ Ls p h. tt; cut = λ c Ls u p h. tt; part = λ d a Ls x y z p h. tt; join = λ d lo hi Ls x y z p h. tt }
 
 -- opening, and whatever is called then
 module _ {S V : Type 0} (by : Setting S V) (w : 1 ≤ by.width) (lent : List (Node S V)) where

@@ -18,23 +18,16 @@ use Rattle.layers.proofs.Model.{part_at, moved}
 
 -- ---- part
 module _ {S V : Type 0} (by : Setting S V) where
-  pub part-keeps : (d a : ℕ) (labs : List (Option (Down S V))) (Ls : Net) (x : ℕ) (w : List ℕ) → PathFrom Ls x w → PathFrom (part_at by d a labs Ls) x w
-  unfolding parted_arcs
-  part-keeps zero a labs [] x w p = p
-  part-keeps (suc d) a labs [] x w p = p
-  part-keeps zero a labs (L ∷ []) x w p = p
-  part-keeps zero a labs (L ∷ M ∷ Ls) x [] p = absurd p
-  part-keeps zero a labs (L ∷ M ∷ Ls) x (j ∷ []) p = absurd p.2
-  part-keeps zero a labs (L ∷ M ∷ Ls) x (j ∷ k ∷ w) p =
-      go (eqb p.0 a && differs_from_first by (first_arrival (arrivals by labs L a)) (get_or labs x None) j) refl
-    where
-      go : (q : Bool) → (eqb p.0 a && differs_from_first by (first_arrival (arrivals by labs L a)) (get_or labs x None) j) ≡ q → PathFrom (redirect (moved by a labs L (length M)) L ∷ (M ++ (node M a ∷ [])) ∷ Ls) x (j ∷ k ∷ w)
-      go true e =
-          let same = eqb-true p.0 a (and_parts (eqb p.0 a) _ e).0 in
-          (length M, redirect-arc _ L x j p.0 p.1 ∙ rw e refl, (p.2.0, rw (get_or_push M (node M a) [] (length M) refl, ← same) p.2.1, p.2.2))
-      go false e = (p.0, redirect-arc _ L x j p.0 p.1 ∙ rw e refl, (p.2.0, rw (get_or_append_left M (node M a ∷ []) [] p.0 (has-arc M p.0 k p.2.0 p.2.1)) p.2.1, p.2.2))
-  part-keeps (suc d) a labs (L ∷ Ls) x [] p = absurd p
-  part-keeps (suc d) a labs (L ∷ Ls) x (j ∷ w) p = (p.0, p.1, part-keeps d a (labels_next by labs L (width Ls)) Ls p.0 w p.2)
+  pub part-keeps : (a : ℕ) (labs : List (Option (Down S V))) (L M : Layer) (Ls : Net) (x : ℕ) (w : List ℕ) → PathFrom (L ∷ M ∷ Ls) x w → PathFrom (redirect (moved by a labs L (length M)) L ∷ (M ++ (node M a ∷ [])) ∷ Ls) x w
+  part-keeps a labs L M Ls x [] p = absurd p
+  part-keeps a labs L M Ls x (j ∷ []) p = absurd p.2
+  part-keeps a labs L M Ls x (j ∷ k ∷ w) p =
+      let t = eqb p.0 a && differs_from_first by (first_arrival (arrivals by labs L a)) (get_or labs x None) j in
+      elim t as (λ q. t ≡ q → PathFrom (redirect (moved by a labs L (length M)) L ∷ (M ++ (node M a ∷ [])) ∷ Ls) x (j ∷ k ∷ w)) [
+        | true ↦ λ e. let same = eqb-true p.0 a (and_parts (eqb p.0 a) _ e).0 in
+            (length M, redirect-arc _ L x j p.0 p.1 ∙ rw e refl, (p.2.0, rw (get_or_push M (node M a) [] (length M) refl, ← same) p.2.1, p.2.2))
+        | false ↦ λ e. (p.0, redirect-arc _ L x j p.0 p.1 ∙ rw e refl, (p.2.0, rw (get_or_append_left M (node M a ∷ []) [] p.0 (has-arc M p.0 k p.2.0 p.2.1)) p.2.1, p.2.2))
+      ] refl
 
 -- ---- join
 pub drop-below : (i b : ℕ) (M : Layer) → b < i → node (without_place i M) b ≡ node M b
@@ -91,18 +84,12 @@ join-node M lo hi b k c lt inn nc e =
     let right = target_right (node M lo) (node M hi) k c nc in
     grind (arith, nat_tests, e, lt, inn, left, right, drop-below hi b X, drop-below hi lo X lt, drop-above hi (b - 1) X, get_or-set_same M lo v [], get_or-set_other M lo b v [])
 
-pub join-keeps : (d lo hi : ℕ) (Ls : Net) (x : ℕ) (w : List ℕ) → lo < hi → hi < length (get_or Ls (suc d) []) → clash (node (get_or Ls (suc d) []) lo) (node (get_or Ls (suc d) []) hi) ≡ false
-    → PathFrom Ls x w → PathFrom (joined_arcs d lo hi Ls) x w
-unfolding joined_arcs
-join-keeps zero lo hi [] x w a b n p = p
-join-keeps (suc d) lo hi [] x w a b n p = p
-join-keeps zero lo hi (L ∷ []) x w a b n p = p
-join-keeps zero lo hi (L ∷ M ∷ Ls) x [] a b n p = absurd p
-join-keeps zero lo hi (L ∷ M ∷ Ls) x (j ∷ []) a b n p = absurd p.2
-join-keeps zero lo hi (L ∷ M ∷ Ls) x (j ∷ k ∷ w) a b n p =
+pub join-keeps : (L M : Layer) (Ls : Net) (lo hi : ℕ) (x : ℕ) (w : List ℕ) → lo < hi → hi < length M → clash (node M lo) (node M hi) ≡ false → PathFrom (L ∷ M ∷ Ls) x w
+    → PathFrom (redirect (λ a j b. suc (place_after_join lo hi b)) L ∷ without_place hi (set M lo (both_out (node M lo) (node M hi))) ∷ Ls) x w
+join-keeps L M Ls lo hi x [] a b n p = absurd p
+join-keeps L M Ls lo hi x (j ∷ []) a b n p = absurd p.2
+join-keeps L M Ls lo hi x (j ∷ k ∷ w) a b n p =
     (place_after_join lo hi p.0, redirect-arc (λ a j b. suc (place_after_join lo hi b)) L x j p.0 p.1, (p.2.0, join-node M lo hi p.0 k p.2.0 a b n p.2.1, p.2.2))
-join-keeps (suc d) lo hi (L ∷ Ls) x [] a b n p = absurd p
-join-keeps (suc d) lo hi (L ∷ Ls) x (j ∷ w) a b n p = (p.0, p.1, join-keeps d lo hi Ls p.0 w a b n p.2)
 
 -- ---- open
 module _ {S V : Type 0} (by : Setting S V) where
@@ -151,7 +138,7 @@ module _ (M : Layer) (a : ℕ) (inn : a < length M) where
   pub more-even : (n : ℕ) → EvenLayer n M → EvenLayer n (M ++ (node M a ∷ []))
   more-even n h c k = elim (more-back M (node M a) c (omega (arith, length-snoc M (node M a)))) [ inl x ↦ rw x.1 (h c x.0) | inr x ↦ rw x.1 (h a inn) ]
 
-  more-led : IsLed M → IsLed (M ++ (node M a ∷ []))
+  pub more-led : IsLed M → IsLed (M ++ (node M a ∷ []))
   more-led h c k =
       elim (more-back M (node M a) c (omega (arith, length-snoc M (node M a)))) [
         | inl q ↦ (let s = h c q.0 in (s.0, s.1, rw q.1 s.2))
@@ -161,7 +148,7 @@ module _ (M : Layer) (a : ℕ) (inn : a < length M) where
   more-fed : (m : ℕ) → IsFed M m → IsFed (M ++ (node M a ∷ [])) m
   more-fed m h b k = let s = h b k in (s.0, s.1, rw (get_or_append_left M (node M a ∷ []) [] s.0 (has-arc M s.0 s.1 b s.2)) s.2)
 
-  more-tied : (Ls : Net) → IsTied (M ∷ Ls) → IsTied ((M ++ (node M a ∷ [])) ∷ Ls)
+  pub more-tied : (Ls : Net) → IsTied (M ∷ Ls) → IsTied ((M ++ (node M a ∷ [])) ∷ Ls)
   more-tied [] t = more-ranged 1 t
   more-tied (N ∷ Ls) t = (more-ranged (length N) t.0, more-fed (length N) t.1, t.2, t.3)
 
@@ -200,7 +187,7 @@ module _ {S V : Type 0} (by : Setting S V) (self : (s : S) → by.rule.same s s 
     abbrev f : ℕ → ℕ → ℕ → ℕ
     f = moved by a labs L (length M)
 
-    part-ranged : IsRanged L (length M) → IsRanged (redirect f L) (length (M ++ (node M a ∷ [])))
+    pub part-ranged : IsRanged L (length M) → IsRanged (redirect f L) (length (M ++ (node M a ∷ [])))
     part-ranged g u j c e = let q = redirect-back f L u j c e in let k = g u j q.0 q.1 in let z = length-snoc M (node M a) in let y = q.2 in grind (arith, k, y, z)
 
     moves-to : (u j b : ℕ) (q : Bool) → target (node L u) j ≡ suc b → (eqb b a && differs_from_first by h (get_or labs u None) j) ≡ q → target (node (redirect f L) u) j ≡ cond q (suc (length M)) (suc b)
@@ -209,7 +196,7 @@ module _ {S V : Type 0} (by : Setting S V) (self : (s : S) → by.rule.same s s 
     at_a : (x y : Down S V) → h ≡ Some x → (w : From (arrival_over by) a labs L y) → (eqb a a && differs_from_first by h (get_or labs w.source None) w.door) ≡ not (agree by.rule x y)
     at_a x y e w = rw (eq-eqb a a refl, e, w.labelled) (ap (λ (z : Down S V). not (agree by.rule x z)) (sym w.is))
 
-    part-fed : IsFed L (length M) → IsFed (redirect f L) (length (M ++ (node M a ∷ [])))
+    pub part-fed : IsFed L (length M) → IsFed (redirect f L) (length (M ++ (node M a ∷ [])))
     part-fed g c k = new (ltb c (length M)) refl (eqb c a) refl
       where
         two' : Groups (arrivals_at (arrival_over by) a labs L)
@@ -228,26 +215,10 @@ module _ {S V : Type 0} (by : Setting S V) (self : (s : S) → by.rule.same s s 
             let z : c ≡ length M = omega (arith, length-snoc M (node M a), ltb-false c (length M) e) in
             (w.source, w.door, moves-to w.source w.door a true w.arc (at_a two'.one two'.other two'.is_first w ∙ ap not two'.differ) ∙ ap suc (sym z))
 
-    part-led : IsLed L → IsLed (redirect f L)
+    pub part-led : IsLed L → IsLed (redirect f L)
     part-led g u k =
         let s = g u (omega (arith, redirect-length f L)) in
         (s.0, cond (eqb s.1 a && differs_from_first by h (get_or labs u None) s.0) (length M) s.1, redirect-arc f L u s.0 s.1 s.2 ∙ grind arith)
-
-  -- with any labels of the layer before, as they may stand in records
-  pub parted-tied : (d a : ℕ) (labs : List (Option (Down S V))) (Ls : Net) → a < length (get_or Ls (suc d) []) → all_agree by.rule (arrivals_at (arrival_over by) a labs (get_or Ls d [])) ≡ false → IsTied Ls → IsTied (parted_arcs by d a labs Ls)
-  unfolding parted_arcs
-  parted-tied zero a labs [] k e t = tt
-  parted-tied (suc d) a labs [] k e t = tt
-  parted-tied zero a labs (L ∷ []) k e t = t
-  parted-tied zero a labs (L ∷ M ∷ Ls) k e t =
-      (part-ranged a labs L M k e t.0, part-fed a labs L M k e t.1, more-led M a k t.2, more-tied M a k Ls t.3)
-  parted-tied (suc d) a labs (L ∷ []) k e t = absurd (not-suc-le-zero k)
-  parted-tied (suc zero) a labs (L ∷ M ∷ []) k e t = t
-  parted-tied (suc zero) a labs (L ∷ M ∷ N ∷ Ls) k e t =
-      let rest = parted-tied zero a labs (M ∷ N ∷ Ls) k e t.3 in
-      let n = redirect-length (f a labs M N k e) M in
-      (rw n t.0, rw n t.1, part-led a labs M N k e t.2, rest)
-  parted-tied (suc (suc d)) a labs (L ∷ M ∷ Ls) k e t = (t.0, t.1, t.2, parted-tied (suc d) a labs (M ∷ Ls) k e t.3)
 
 -- ---- join
 pub drop-length : (i : ℕ) (M : Layer) → i < length M → suc (length (without_place i M)) ≡ length M
@@ -294,37 +265,24 @@ module _ (M : Layer) (lo hi : ℕ) (lt : lo < hi) (inn : hi < length M) (nc : cl
   unfolding place_after_join
   to b k = grind (arith, nat_tests, k, long)
 
-  join-led : IsLed M → IsLed M'
+  pub join-led : IsLed M → IsLed M'
   join-led h c k = let q = from c k in let s = h q.0 q.1 in
       (s.0, s.1, ap (λ (z : ℕ). target (node M' z) s.0) (sym q.2) ∙ join-node M lo hi q.0 s.0 s.1 lt inn nc s.2)
 
-  join-tail : (Ls : Net) → IsTied (M ∷ Ls) → IsTied (M' ∷ Ls)
+  pub join-tail : (Ls : Net) → IsTied (M ∷ Ls) → IsTied (M' ∷ Ls)
   join-tail [] t = join-ranged 1 t
   join-tail (N ∷ Ls) t = (join-ranged (length N) t.0, join-fed (length N) t.1, t.2, t.3)
 
   abbrev L' : Layer → Layer
   L' L = redirect (λ a j b. suc (place_after_join lo hi b)) L
 
-  in-ranged : (L : Layer) → IsRanged L (length M) → IsRanged (L' L) (length M')
+  pub in-ranged : (L : Layer) → IsRanged L (length M) → IsRanged (L' L) (length M')
   in-ranged L h a j c e = let q = redirect-back (λ a j b. suc (place_after_join lo hi b)) L a j c e in let k = to q.0 (h a j q.0 q.1) in omega (arith, q.2)
 
-  in-fed : (L : Layer) → IsFed L (length M) → IsFed (L' L) (length M')
+  pub in-fed : (L : Layer) → IsFed L (length M) → IsFed (L' L) (length M')
   in-fed L h c k = let q = from c k in let s = h q.0 q.1 in
       (s.0, s.1, redirect-arc (λ a j b. suc (place_after_join lo hi b)) L s.0 s.1 q.0 s.2 ∙ ap suc q.2)
 
-in-led : (lo hi : ℕ) (L : Layer) → IsLed L → IsLed (redirect (λ a j b. suc (place_after_join lo hi b)) L)
+pub in-led : (lo hi : ℕ) (L : Layer) → IsLed L → IsLed (redirect (λ a j b. suc (place_after_join lo hi b)) L)
 in-led lo hi L h a k = let s = h a (omega (arith, redirect-length (λ a j b. suc (place_after_join lo hi b)) L)) in
     (s.0, place_after_join lo hi s.1, redirect-arc (λ a j b. suc (place_after_join lo hi b)) L a s.0 s.1 s.2)
-
-pub join_tied : (d lo hi : ℕ) (Ls : Net) → lo < hi → hi < length (get_or Ls (suc d) []) → clash (node (get_or Ls (suc d) []) lo) (node (get_or Ls (suc d) []) hi) ≡ false → IsTied Ls → IsTied (joined_arcs d lo hi Ls)
-unfolding joined_arcs
-join_tied zero lo hi [] a b n t = tt
-join_tied (suc d) lo hi [] a b n t = tt
-join_tied zero lo hi (L ∷ []) a b n t = t
-join_tied zero lo hi (L ∷ M ∷ Ls) a b n t = (in-ranged M lo hi a b n L t.0, in-fed M lo hi a b n L t.1, join-led M lo hi a b n t.2, join-tail M lo hi a b n Ls t.3)
-join_tied (suc d) lo hi (L ∷ []) a b n t = absurd (not-suc-le-zero b)
-join_tied (suc zero) lo hi (L ∷ M ∷ []) a b n t = t
-join_tied (suc zero) lo hi (L ∷ M ∷ N ∷ Ls) a b n t =
-    let z = redirect-length (λ a j b. suc (place_after_join lo hi b)) M in
-    (rw z t.0, rw z t.1, in-led lo hi M t.2, join_tied zero lo hi (M ∷ N ∷ Ls) a b n t.3)
-join_tied (suc (suc d)) lo hi (L ∷ M ∷ Ls) a b n t = (t.0, t.1, t.2, join_tied (suc d) lo hi (M ∷ Ls) a b n t.3)
