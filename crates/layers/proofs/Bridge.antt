@@ -11,7 +11,7 @@ use Rattle.layers.specs.Lawful.{IsLed, IsTied, IsRoomy}
 use Rattle.layers.specs.Labels.{first_label, first_labels, arrival_over, merge, labels_next, no_up, ups, climb, merge_up}
 use Rattle.layers.specs.Records.{is_used, nodes_in, layers, arcs_in, downs_in, ups_in, arcs_of_layers, padded_targets, record_of_place, labelled_from, labelled_records}
 use Rattle.layers.specs.Calls.{places_agree, in_arcs_agree, value_in, labels_in, LayerLabels, kept_arcs}
-use Rattle.layers.proofs.Flows.{next-all, next-at, table_at, has-arc, up_at}
+use Rattle.layers.proofs.Flows.{first-only, next-all, next-at, table_at, has-arc, up_at}
 use Rattle.layers.proofs.Ways.{or_left, one-self, none_has}
 use Rattle.layers.proofs.Model.{kept, agrees, valueO, or_blank, or_no_up, labels_at}
 use Rattle.layers.proofs.Tied.{redirect-cong}
@@ -63,10 +63,8 @@ table-end (suc m) f = table-end m (λ k. f (suc k))
 
 pad-back : (n m : ℕ) (nd : Outs) → length nd ≡ n → n ≤ m → take n (table m (λ k. get_or nd k 0)) ≡ nd
 pad-back zero m [] e h = refl
-pad-back zero m (t ∷ nd) e h = absurd (omega arith)
-pad-back (suc n) m [] e h = absurd (omega arith)
-pad-back (suc n) zero (t ∷ nd) e h = absurd (not-suc-le-zero h)
 pad-back (suc n) (suc m) (t ∷ nd) e h = ap (λ (x : Outs). t ∷ x) (pad-back n m nd (omega arith) (le_of_suc-le-suc h))
+pad-back n m nd e h = absurd (omega arith)
 
 pub ups-end : (b : ℕ) → b ≡ 0 → get_or (ups []) b None ≡ Some no_up
 unfolding ups up
@@ -99,12 +97,8 @@ module _ {S V : Type 0} (by : Setting S V) (w : 1 ≤ by.width) where
     there = λ a h. let z : a ≡ 0 = omega arith in (first_label by.rule by.tally, rw z);
     beyond = refl;
     long = refl;
-    lasting = once;
+    lasting = first-only (first_label by.rule by.tally) (λ a l. eqb l.lasts 0 ≡ false) refl;
   }
-    where
-      once : (a : ℕ) (l : Down S V) → get_or (first_labels by.rule by.tally) a None ≡ Some l → eqb l.lasts 0 ≡ false
-      once zero l e = let x : first_label by.rule by.tally ≡ l = cc in rw (← x) refl
-      once (suc a) l e = absurd cc
 
   lasting-next : (labs : Labs) (L : Layer) (count : ℕ) → Lasting (labels_next by labs L count)
   unfolding labels_next arrival_over merge

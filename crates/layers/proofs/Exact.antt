@@ -3,7 +3,7 @@ use Rattle.std.proofs.lemmas.Bool.Decides.{nat_tests}
 use Rattle.std.proofs.Common.{◌≡◌, ℕ, zero, suc, ◌+◌, ◌<◌, ◌≤◌, Bool, true, false, not, List, [], ◌∷◌, ◌++◌, length, get_or, Some, None, fold, Option, sym, refl, ap, ◌∙◌, inl, inr, append-nil, not-suc-le-zero, arith}
 use lib.Bits.{bit_or, bit_and, and_self, or_self}
 use Rattle.std.proofs.lemmas.Bool.{true≢false, not-true, ne_eqb, and_parts, cond_both}
-use Rattle.doors.proofs.Orders.{each_none, each_more}
+use Rattle.doors.proofs.Orders.{each_none, each_more, in-last}
 use Rattle.doors.specs.Orders.{IsDoor, StandsIn}
 use Rattle.doors.specs.Sets.{has}
 use Rattle.round.specs.Clock.{door, drive, finish}
@@ -19,8 +19,8 @@ use Rattle.layers.specs.declared.node.Up.{Up}
 use Rattle.layers.specs.Net.{Outs, Layer, Net, node, target, PathFrom, every_door, every_arc}
 use Rattle.layers.specs.Flow.{end_label, arrivals_at, gather}
 use Rattle.layers.specs.Labels.{bit_of, leg, ups, first_label, arrival_over, merge, first_labels, labels_next, is_barred, all_agree, agree, agrees_with_all}
-use Rattle.layers.proofs.Flows.{EvenLayer, Among, From, inside, ins-in, ins-from, next-some, next-within, next-at, gather-all}
-use Rattle.layers.proofs.Ways.{or_left, or_right, one-self, in_split, trip-snoc, state-snoc, length-snoc, snoc-assoc, leg-one}
+use Rattle.layers.proofs.Flows.{first-only, EvenLayer, Among, From, inside, ins-in, ins-from, next-some, next-within, next-at, gather-all}
+use Rattle.layers.proofs.Ways.{or_left, or_right, one-self, trip-snoc, state-snoc, length-snoc, snoc-assoc, leg-one}
 use Rattle.layers.proofs.Model.{agrees, quiet, settles, settled, bound, valueO}
 use Rattle.layers.proofs.Walk.{even-door, path-length, Told, told_none, told-next}
 use Rattle.layers.specs.Calls.{places_agree, in_arcs_agree, keeps_all_arcs}
@@ -91,11 +91,9 @@ module _ {S V : Type 0} {Keeps : List ℕ → Type 0} {Stands : S → List ℕ �
   pub pairs : (l : List (Down S V)) → all_agree by.rule l ≡ true → (y z : Down S V) → Among y l → Among z l → Agree y z
   unfolding all_agree
   pairs [] e y z i k = absurd i
-  pairs (x ∷ l) e y z i k = agree-back x y z (one_of y i) (one_of z k)
-    where
-      one_of : (t : Down S V) → Among t (x ∷ l) → Agree x t
-      one_of t (inl f) = rw f (agree-self x)
-      one_of t (inr m) = all_yes x l e t m
+  pairs (x ∷ l) e y z i k =
+      let one : (t : Down S V) → Among t (x ∷ l) → Agree x t = λ t m. elim m [ inl f ↦ rw f (agree-self x) | inr n ↦ all_yes x l e t n ] in
+      agree-back x y z (one y i) (one z k)
 
   pub by-pairs : (l : List (Down S V)) → ((y z : Down S V) → Among y l → Among z l → Agree y z) → all_agree by.rule l ≡ true
   unfolding all_agree
@@ -198,10 +196,7 @@ module _ {S V : Type 0} {Keeps : List ℕ → Type 0} {Stands : S → List ℕ �
           told = told-next by ruled tallied p j t d k n;
         };
         exact = record {
-          all = λ i h. elim (in_split i p (j ∷ []) h) [
-            | inl x ↦ or_left l.all (bit_of j) i (e.all i x)
-            | inr x ↦ or_right l.all (bit_of j) i (elim x [ inl y ↦ rw y (one-self j) | inr y ↦ absurd y ])
-          ];
+          all = λ i h. elim (in-last p i j h) [ inl x ↦ or_left l.all (bit_of j) i (e.all i x) | inr y ↦ or_right l.all (bit_of j) i (rw y (one-self j)) ];
           finish = f ∙ ap (λ (q : Trip V). q.van.finish) (sym z);
           lasts = ap (λ (q : Trip V). bit_of q.van.last) (sym z);
           state = ap (λ (q : S). by.rule.step q j) e.state ∙ sym (state-snoc by.rule p j);
@@ -318,15 +313,10 @@ module _ {S V : Type 0} {Keeps : List ℕ → Type 0} {Stands : S → List ℕ �
 
     pub bound-attained : (v : V) → length D ≡ by.round.n → IsEven by.round.n D → settled by D ≡ true → bound by D ≡ Some v → (w : List ℕ) × PathFrom D 0 w × (cost by.round by.tally w ≡ v)
     unfolding settled bound
-    bound-attained v t even s e = go (end_label (arrival_over by) (merge by.rule by.tally) (first_labels by.rule by.tally) D) refl e
-      where
-        start : (a : ℕ) (l : Down S V) → get_or (first_labels by.rule by.tally) a None ≡ Some l → Reached D 0 a l
-        start zero l f = let x : first_label by.rule by.tally ≡ l = cc in
-            rw (← x) (record { way = []; leads = λ w q. q; sound = sound_none; exact = exact-first; worth = refl; long = refl })
-        start (suc a) l f = absurd cc
-
-        go : (x : Option (Down S V)) → end_label (arrival_over by) (merge by.rule by.tally) (first_labels by.rule by.tally) D ≡ x → valueO by x ≡ Some v → (w : List ℕ) × PathFrom D 0 w × (cost by.round by.tally w ≡ v)
-        go None f g = absurd cc
-        go (Some l) f g =
-            let y : l.value ≡ v = cc in
-            let c = attain 0 0 (first_labels by.rule by.tally) D l (omega arith) s even start f in (c.0, c.1, c.2 ∙ y)
+    bound-attained v t even s e =
+        let start = first-only (first_label by.rule by.tally) (λ a l. Reached D 0 a l) (record { way = []; leads = λ w q. q; sound = sound_none; exact = exact-first; worth = refl; long = refl }) in
+        let o = end_label (arrival_over by) (merge by.rule by.tally) (first_labels by.rule by.tally) D in
+        elim o as (λ x. o ≡ x → valueO by x ≡ Some v → (w : List ℕ) × PathFrom D 0 w × (cost by.round by.tally w ≡ v)) [
+          | None ↦ λ f g. absurd cc
+          | Some l ↦ λ f g. let y : l.value ≡ v = cc in let c = attain 0 0 (first_labels by.rule by.tally) D l (omega arith) s even start f in (c.0, c.1, c.2 ∙ y)
+        ] refl e

@@ -22,6 +22,11 @@ table_at zero k f d h = absurd (not-suc-le-zero h)
 table_at (suc n) zero f d h = refl
 table_at (suc n) (suc k) f d h = table_at n k (λ m. f (suc m)) d (le_of_suc-le-suc h)
 
+-- the labels of a layer of one node
+pub first-only : {A : Type 0} (x : A) (P : ℕ → A → Type 0) → P 0 x → (a : ℕ) (l : A) → get_or (Some x ∷ []) a None ≡ Some l → P a l
+first-only x P p zero l e = let y : x ≡ l = cc in rw (← y) p
+first-only x P p (suc a) l e = absurd cc
+
 pub table-long : {A : Type 0} (k : ℕ) (f : ℕ → A) → length (table k f) ≡ k
 table-long zero f = refl
 table-long (suc k) f = ap suc (table-long k (λ m. f (suc m)))

@@ -8,7 +8,7 @@ use Rattle.layers.specs.Flow.{arrivals_at}
 use Rattle.layers.specs.Tidy.{Mark, marks_next, marks_up, flags, rank, compress, renumber, tidy, tidied_arcs}
 use Rattle.layers.specs.Lawful.{IsTied}
 use Rattle.layers.specs.Labels.{ups, first_label, first_labels, arrival_over, merge, labels_next, is_barred}
-use Rattle.layers.proofs.Flows.{Among, has-arc, ins-from, next-some, gather-all, compress-at}
+use Rattle.layers.proofs.Flows.{first-only, Among, has-arc, ins-from, next-some, gather-all, compress-at}
 use Rattle.layers.proofs.Ways.{length-snoc}
 use Rattle.layers.proofs.Model.{sweeps, sweep, part_at, agrees, moved}
 use Rattle.layers.proofs.Tied.{redirect-back, compress-back, renumber-back, kept-back}
@@ -90,9 +90,6 @@ module _ {S V : Type 0} (by : Setting S V) where
   -- parting
   sub_part : (d a : ℕ) (labs : List (Option (Down S V))) (Ls : Net) → IsTied Ls → Sub (λ a. a) (part_at by d a labs Ls) Ls
   unfolding parted_arcs
-  sub_part zero a labs [] t = tt
-  sub_part (suc d) a labs [] t = tt
-  sub_part zero a labs (L ∷ []) t = sub_self (L ∷ [])
   sub_part zero a labs (L ∷ M ∷ Ls) t = (λ c. cond (eqb c (length M)) a c, before, (λ b. b, behind, sub_self Ls))
     where
       -- the new last node was the one at place a
@@ -105,6 +102,7 @@ module _ {S V : Type 0} (by : Setting S V) where
           let q = more-back M (node M a) c (omega (arith, length-snoc M (node M a))) in
           grind (arith, nat_tests, e, q)
   sub_part (suc d) a labs (L ∷ Ls) t = (λ b. b, λ x j b e. e, sub_part d a (labels_next by labs L (width Ls)) Ls (tied-tail L Ls t))
+  sub_part d a labs Ls t = sub_self Ls
 
 module _ {S V : Type 0} {Keeps : List ℕ → Type 0} {Stands : S → List ℕ → Type 0} (by : Setting S V) (ruled : RuleLaws by.round.n by.rule Keeps Stands) where
   -- ---- keys: K of the nodes of the first layer, and of i layers more; the end has none
@@ -115,13 +113,11 @@ module _ {S V : Type 0} {Keeps : List ℕ → Type 0} {Stands : S → List ℕ �
   Keyed (suc i) K (L ∷ M ∷ Ls) = (K' : ℕ → Down S V) × ((a j b : ℕ) → target (node L a) j ≡ suc b → Agree by ruled (arrival_over by (K a) j) (K' b)) × Keyed i K' (M ∷ Ls)
 
   keyed-sub : (i : ℕ) (K : ℕ → Down S V) (f : ℕ → ℕ) (Ms Ls : Net) → Sub f Ms Ls → Keyed i K Ls → Keyed i (λ a. K (f a)) Ms
-  keyed-sub zero K f Ms Ls s k = tt
-  keyed-sub (suc i) K f [] Ls s k = tt
-  keyed-sub (suc i) K f (M ∷ []) Ls s k = tt
   keyed-sub (suc i) K f (M ∷ N ∷ Ms) [] s k = absurd s
   keyed-sub (suc i) K f (M ∷ N ∷ Ms) (L ∷ []) s k = absurd s.2
   keyed-sub (suc i) K f (M ∷ N ∷ Ms) (L ∷ P ∷ Ls) s k =
       ((λ b. k.0 (s.0 b)), (λ a j b e. k.1 (f a) j (s.0 b) (s.1 a j b e)), keyed-sub i k.0 s.0 (N ∷ Ms) (P ∷ Ls) s.2 k.2)
+  keyed-sub i K f Ms Ls s k = tt
 
   -- from the first node on
   abbrev pub KeyedTo : ℕ → Net → Type 0
@@ -141,8 +137,7 @@ module _ {S V : Type 0} {Keeps : List ℕ → Type 0} {Stands : S → List ℕ �
   Fit labs K = (a : ℕ) (l : Down S V) → get_or labs a None ≡ Some l → Agree by ruled (K a) l
 
   pub fit-first : Fit (first_labels by.rule by.tally) (λ a. first_label by.rule by.tally)
-  fit-first zero l e = let z : first_label by.rule by.tally ≡ l = cc in rw (← z) (agree-self by ruled (first_label by.rule by.tally))
-  fit-first (suc a) l e = absurd cc
+  fit-first = first-only (first_label by.rule by.tally) (λ a l. Agree by ruled (first_label by.rule by.tally) l) (agree-self by ruled (first_label by.rule by.tally))
 
   module _ (labs : List (Option (Down S V))) (K K' : ℕ → Down S V) (fit : Fit labs K) (L : Layer) (on : (a j b : ℕ) → target (node L a) j ≡ suc b → Agree by ruled (arrival_over by (K a) j) (K' b)) where
     -- so does each arrival
@@ -154,7 +149,7 @@ module _ {S V : Type 0} {Keeps : List ℕ → Type 0} {Stands : S → List ℕ �
 
     pub fit_next : (count : ℕ) → Fit (labels_next by labs L count) K'
     unfolding labels_next
-    fit_next count b m e = gather-all (merge by.rule by.tally) (Agree by ruled (K' b)) (agree-merge by ruled (K' b)) (arrivals_at (arrival_over by) b labs L) m (arrival-fits b) (next-some (arrival_over by) (merge by.rule by.tally) labs L count b m e)
+    fit_next count b m e = gather-all (merge by.rule by.tally) (Agree by ruled (K' b)) (agree-merge by ruled (K' b)) _ m (arrival-fits b) (next-some (arrival_over by) (merge by.rule by.tally) labs L count b m e)
 
     agreed-keyed : (k : ℕ) → places_agree by labs L k ≡ true
     unfolding places_agree
@@ -163,11 +158,10 @@ module _ {S V : Type 0} {Keeps : List ℕ → Type 0} {Stands : S → List ℕ �
 
   agrees-keyed : (i : ℕ) (K : ℕ → Down S V) (labs : List (Option (Down S V))) (Ls : Net) → length Ls ≤ suc i → Fit labs K → Keyed i K Ls → agrees by labs Ls ≡ true
   unfolding in_arcs_agree
-  agrees-keyed i K labs [] h fit k = refl
-  agrees-keyed i K labs (L ∷ []) h fit k = refl
   agrees-keyed zero K labs (L ∷ M ∷ Ls) h fit k = absurd (omega arith)
   agrees-keyed (suc i) K labs (L ∷ M ∷ Ls) h fit k =
       rw (agreed-keyed labs K k.0 fit L k.1 (length M)) (agrees-keyed i k.0 (labels_next by labs L (length M)) (M ∷ Ls) (omega arith) (fit_next labs K k.0 fit L k.1 (length M)) k.2)
+  agrees-keyed i K labs Ls h fit k = refl
 
   pub keyed-agrees : (i : ℕ) (Ls : Net) → length Ls ≤ suc i → KeyedTo i Ls → agrees by (first_labels by.rule by.tally) Ls ≡ true
   keyed-agrees i Ls h k = agrees-keyed i (λ a. first_label by.rule by.tally) (first_labels by.rule by.tally) Ls h fit-first k

@@ -12,7 +12,7 @@ use Rattle.layers.specs.Labels.{first_labels, labels_next, no_up, ups, bit_of, c
 use Rattle.layers.specs.Records.{record_of_place}
 use Rattle.layers.specs.Calls.{arcs, layer}
 use Rattle.layers.specs.LabelLaws.{LeadsTo, Labelled, LabelsMean, PathTo, OnEvery, OnOne, Exactly}
-use Rattle.layers.proofs.Flows.{table_at, EvenLayer, next-all, up-all, next-at}
+use Rattle.layers.proofs.Flows.{first-only, table_at, EvenLayer, next-all, up-all, next-at}
 use Rattle.layers.proofs.Model.{or_blank, or_no_up, labels_at}
 use Rattle.layers.proofs.Walk.{Good, path-up, good-first, good-next, Tells, Longer, at_front, at_back, tells-step, tells-left, tells-right}
 use Rattle.layers.proofs.Bridge.{Labs, Full, top, stood, table-long, end-top}
@@ -25,8 +25,7 @@ use Rattle.doors.proofs.Sets.{digit_and, has-true, true-has}
 use Rattle.doors.specs.Orders.{StandsIn}
 use Rattle.doors.specs.Sets.{has}
 use Rattle.layers.specs.declared.node.Up.{Up}
-use Rattle.doors.proofs.Orders.{in_left}
-use Rattle.layers.proofs.Ways.{or_left, or_right, or_split, and_left, and_right, one-self, one_only, none_has, in_split, in-snd, length-snoc}
+use Rattle.layers.proofs.Ways.{or_left, or_right, or_split, and_left, and_right, one-self, one_only, none_has, length-snoc}
 
 and_both : (a b j : ℕ) → has a j ≡ true → has b j ≡ true → has (bit_and a b) j ≡ true
 and_both a b j x y = true-has (bit_and a b) j (omega (arith, digit_and a b j, has-true a j x, has-true b j y))
@@ -56,7 +55,7 @@ owed-step a s k P Q more l to o = record {
   way = (more o.way.0, to o.way.0 o.way.1);
   all-if = λ j f. elim (cases_eq j k) [
     | inl e ↦ or_right a (bit_of k) j (rw e (one-self k))
-    | inr n ↦ or_left a (bit_of k) j (o.all-if j (λ w p. elim (l.only j w (f (more w) (to w p))) [ inl e ↦ absurd (n e) | inr h ↦ h ]))
+    | inr n ↦ or_left a (bit_of k) j (o.all-if j (λ w p. elim (l.only j w (f (more w) (to w p))) [ inl h ↦ h | inr e ↦ absurd (n e) ]))
   ];
   some-from = λ j h. elim (or_split s (bit_of k) j h) [
     | inl x ↦ let q = o.some-from j x in (more q.0, to q.0 q.1, l.stays j q.0 q.2)
@@ -104,10 +103,8 @@ module _ {S V : Type 0} {Keeps : List ℕ → Type 0} {Stands : S → List ℕ �
     -- a label is owed to the paths to its node
     pub owed-at : (d : ℕ) → d ≤ length D → (a : ℕ) (l : Down S V) → get_or (At d D) a None ≡ Some l → Owed l.all l.some (LeadsTo D d a)
     unfolding labels_next arrival_over merge
-    owed-at zero h zero l e =
-        let x : first_label by.rule by.tally ≡ l = cc in
-        rw (← x) (record { way = ([], (refl, refl)); all-if = λ j f. absurd (f [] (refl, refl)); some-from = λ j g. absurd (none_has j g) })
-    owed-at zero h (suc a) l e = absurd cc
+    owed-at zero h a l e =
+        first-only (first_label by.rule by.tally) (λ a l. Owed l.all l.some (LeadsTo D 0 a)) (record { way = ([], (refl, refl)); all-if = λ j f. absurd (f [] (refl, refl)); some-from = λ j g. absurd (none_has j g) }) a l e
     owed-at (suc d) h b m e =
         let L = get_or D d [] in
         let n = width (drop (suc d) D) in
@@ -143,10 +140,8 @@ module _ {S V : Type 0} {Keeps : List ℕ → Type 0} {Stands : S → List ℕ �
 -- ---- upward
 owed-up : (Ls : Net) (a : ℕ) (u : Up) → get_or (ups Ls) a None ≡ Some u → Owed u.allup u.someup (PathFrom Ls a)
 unfolding ups
-owed-up [] zero u e =
-    let x : no_up ≡ u = unfold up in cc in
-    rw (← x) (record { way = ([], refl); all-if = λ j f. absurd (f [] refl); some-from = λ j g. absurd (none_has j g) })
-owed-up [] (suc a) u e = absurd (unfold up in cc)
+owed-up [] a u e =
+    first-only no_up (λ a u. Owed u.allup u.someup (PathFrom [] a)) (record { way = ([], refl); all-if = λ j f. absurd (f [] refl); some-from = λ j g. absurd (none_has j g) }) a u (unfold up in e)
 owed-up (L ∷ Ls) a u e =
     up-all climb merge_up no_up L Ls a u (λ x. Owed x.allup x.someup (PathFrom (L ∷ Ls) a)) (λ x y p q. owed-merge x.allup x.someup y.allup y.someup (PathFrom (L ∷ Ls) a) p q)
     (λ j b v f g. owed-step v.allup v.someup j (PathFrom Ls b) (PathFrom (L ∷ Ls) a) (λ w. j ∷ w) (at_front j) (λ w q. (b, f, q)) (owed-up Ls b v g)) e

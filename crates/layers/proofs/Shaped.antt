@@ -13,7 +13,7 @@ use Rattle.layers.specs.Labels.{first_labels, labels_next, no_up, leg, ups, firs
 use Rattle.layers.specs.Records.{nodes_in, layers, arcs_in, arcs_of_layers, arcs_at, laid_arcs, arcs_read, record_of_place, labelled_from, labelled_records}
 use Rattle.layers.specs.Calls.{arcs, layer, records_with, bound, value_in}
 use Rattle.layers.specs.Shape.{targets_of, HasEnd, IsShaped, IsTimely}
-use Rattle.layers.proofs.Flows.{EvenLayer, Among, next-all}
+use Rattle.layers.proofs.Flows.{EvenLayer, Among, next-all, first-only}
 use Rattle.layers.proofs.Bridge.{ups-end, Full, top, stood, table-long}
 use Rattle.layers.proofs.Tidying.{tidied-same}
 use Rattle.layers.proofs.Tied.{tidied-tied}
@@ -249,8 +249,7 @@ module _ {S V : Type 0} (by : Setting S V) where
 
   soon-first : Soon 0 (first_labels by.rule by.tally)
   unfolding Soon
-  soon-first zero l e = let x : first_label by.rule by.tally ≡ l = cc in rw (← x) (omega arith)
-  soon-first (suc a) l e = absurd cc
+  soon-first = first-only (first_label by.rule by.tally) (λ a l. l.finish ≤ latest_finish 0) (omega arith)
 
   soon-next : (i : ℕ) (labs : List (Option (Down S V))) (L : Layer) (count : ℕ) → Soon i labs → Soon (suc i) (labels_next by labs L count)
   unfolding Soon labels_next arrival_over merge

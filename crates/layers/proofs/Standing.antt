@@ -77,11 +77,8 @@ module _ {S V : Type 0} (by : Setting S V) where
 
 any-cut : {V : Type 0} (cs : List (Call V)) → EachCut (λ c. Unit {0}) cs
 any-cut [] = tt
-any-cut (Sweep ∷ cs) = any-cut cs
-any-cut (Part i a ∷ cs) = any-cut cs
-any-cut (Join i a b ∷ cs) = any-cut cs
 any-cut (Cut c ∷ cs) = (tt, any-cut cs)
-any-cut (Refine ∷ cs) = any-cut cs
+any-cut (c ∷ cs) = any-cut cs
 
 nothing-less : (m k : ℕ) → k ≤ m → eqb (m - k) 0 ≡ eqb k m
 nothing-less m k h = grind (arith, nat_tests)

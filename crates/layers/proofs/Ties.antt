@@ -39,28 +39,23 @@ drop-below (suc i) (suc b) (x ∷ M) h = drop-below i b M (le_of_suc-le-suc h)
 
 pub drop-above : (i b : ℕ) (M : Layer) → i ≤ b → node (without_place i M) b ≡ node M (suc b)
 unfolding without_place
-drop-above zero b [] h = refl
 drop-above zero b (x ∷ M) h = refl
-drop-above (suc i) b [] h = refl
 drop-above (suc i) zero (x ∷ M) h = absurd (not-suc-le-zero h)
 drop-above (suc i) (suc b) (x ∷ M) h = drop-above i b M (le_of_suc-le-suc h)
+drop-above i b M h = refl
 
 -- the targets of both
 both-get : (x y : Outs) (k : ℕ) → get_or (both_out x y) k 0 ≡ either_target (get_or x k 0) (get_or y k 0)
 unfolding both_out
 both-get [] y k = refl
-both-get (zero ∷ x) [] zero = refl
-both-get (suc s ∷ x) [] zero = refl
-both-get (s ∷ x) [] (suc k) = grind arith
-both-get (s ∷ x) (t ∷ y) zero = refl
-both-get (s ∷ x) (t ∷ y) (suc k) = both-get x y k
+both-get (s ∷ x) [] k = grind arith
+both-get (s ∷ x) (t ∷ y) k = grind (arith, both-get x y)
 
 clash-get : (x y : Outs) (k : ℕ) → clash x y ≡ false → targets_differ (get_or x k 0) (get_or y k 0) ≡ false
 unfolding clash
 clash-get [] y k n = refl
 clash-get (s ∷ x) [] k n = grind arith
-clash-get (s ∷ x) (t ∷ y) zero n = grind (arith, n)
-clash-get (s ∷ x) (t ∷ y) (suc k) n = grind (arith, n, clash-get x y k)
+clash-get (s ∷ x) (t ∷ y) k n = grind (arith, n, clash-get x y)
 
 target_left : (x y : Outs) (k c : ℕ) → target x k ≡ suc c → target (both_out x y) k ≡ suc c
 target_left x y zero c e = e
@@ -99,10 +94,9 @@ module _ {S V : Type 0} (by : Setting S V) where
   ones-at (suc n) (suc k) b e = ones-at n k b e
 
   open-ranged : IsRanged (all_doors by.round.n ∷ []) 1
-  open-ranged zero zero b e = absurd (omega arith)
   open-ranged zero (suc k) b e = let z = ones-at by.round.n k b e in omega arith
-  open-ranged (suc a) zero b e = absurd (omega arith)
   open-ranged (suc a) (suc k) b e = absurd (omega arith)
+  open-ranged a j b e = absurd (omega arith)
 
   first-door : target (all_doors by.round.n) 1 ≡ 1
   first-door = table_at by.round.n 0 (λ m. 1) 0 by.round.one
@@ -223,10 +217,9 @@ module _ {S V : Type 0} (by : Setting S V) (self : (s : S) → by.rule.same s s 
 -- ---- join
 pub drop-length : (i : ℕ) (M : Layer) → i < length M → suc (length (without_place i M)) ≡ length M
 unfolding without_place
-drop-length zero [] h = absurd (not-suc-le-zero h)
-drop-length (suc i) [] h = absurd (not-suc-le-zero h)
 drop-length zero (x ∷ M) h = refl
 drop-length (suc i) (x ∷ M) h = ap suc (drop-length i M (le_of_suc-le-suc h))
+drop-length i M h = absurd (omega arith)
 
 module _ (M : Layer) (lo hi : ℕ) (lt : lo < hi) (inn : hi < length M) (nc : clash (node M lo) (node M hi) ≡ false) where
   abbrev X : Layer
@@ -239,16 +232,13 @@ module _ (M : Layer) (lo hi : ℕ) (lt : lo < hi) (inn : hi < length M) (nc : cl
   long = drop-length hi X (omega (arith, length-set M lo (both_out (node M lo) (node M hi)))) ∙ length-set M lo (both_out (node M lo) (node M hi))
 
   back : (c j b : ℕ) → target (node M' c) j ≡ suc b → (a : ℕ) × (target (node M a) j ≡ suc b)
-  back c j b e = go (cases_lt c hi) (cases_eq c lo)
-    where
-      go : (c < hi) ⊎ (hi ≤ c) → (c ≡ lo) ⊎ (¬ (c ≡ lo)) → (a : ℕ) × (target (node M a) j ≡ suc b)
-      go (inl k) (inl s) =
-          elim (target-back (node M lo) (node M hi) j b (ap (λ (nd : Outs). target nd j) (sym (drop-below hi c X k ∙ ap (λ (z : ℕ). node X z) s ∙ get_or-set_same M lo (both_out (node M lo) (node M hi)) [] (omega arith))) ∙ e)) [
-            | inl q ↦ (lo, q)
-            | inr q ↦ (hi, q)
-          ]
-      go (inl k) (inr s) = (c, rw (← (drop-below hi c X k ∙ get_or-set_other M lo c (both_out (node M lo) (node M hi)) [] s)) e)
-      go (inr k) s = (suc c, rw (← (drop-above hi c X k ∙ get_or-set_other M lo (suc c) (both_out (node M lo) (node M hi)) [] (omega arith))) e)
+  back c j b e = elim (cases_lt c hi) [
+    | inl k ↦ elim (cases_eq c lo) [
+      | inl s ↦ elim (target-back (node M lo) (node M hi) j b (rw (drop-below hi c X k, s, get_or-set_same M lo (both_out (node M lo) (node M hi)) [] (omega arith)) at e)) [ inl q ↦ (lo, q) | inr q ↦ (hi, q) ]
+      | inr s ↦ (c, rw (← (drop-below hi c X k ∙ get_or-set_other M lo c (both_out (node M lo) (node M hi)) [] s)) e)
+    ]
+    | inr k ↦ (suc c, rw (← (drop-above hi c X k ∙ get_or-set_other M lo (suc c) (both_out (node M lo) (node M hi)) [] (omega arith))) e)
+  ]
 
   join-ranged : (m : ℕ) → IsRanged M m → IsRanged M' m
   join-ranged m h c j b e = let q = back c j b e in h q.0 j b q.1

@@ -3,7 +3,7 @@ use Rattle.std.proofs.Common.{◌≡◌, ℕ, zero, suc, ◌+◌, ◌<◌, ◌�
 use lib.Bits.{bit_and, bit_or}
 use lib.Count.{ones}
 use Rattle.std.proofs.lemmas.Bool.{le-ltb, ne_eqb, false_from_ne_true}
-use Rattle.doors.proofs.Orders.{in_left, part-next, next-part}
+use Rattle.doors.proofs.Orders.{in-last, last-in, part-next, next-part}
 use Rattle.doors.specs.Orders.{IsDoor, StandsIn, IsPartOrder}
 use Rattle.doors.specs.Sets.{has}
 use Rattle.round.proofs.Clocks.{clock-laws}
@@ -20,8 +20,8 @@ use Rattle.layers.specs.declared.node.Up.{Up}
 use Rattle.layers.specs.Net.{Outs, Layer, Net, node, target, width, PathFrom}
 use Rattle.layers.specs.Flow.{arrivals_at, up}
 use Rattle.layers.specs.Labels.{bit_of, leg, climb, merge_up, no_up, ups, first_label, arrival_over, merge, first_labels, labels_next, is_barred}
-use Rattle.layers.proofs.Flows.{EvenLayer, redirect-arc, inside, has-arc, next-at, up_at, tidy-keeps, next-all}
-use Rattle.layers.proofs.Ways.{or_left, or_right, or_split, and_left, and_right, one-self, one_only, none_has, ones_in, in_split, in-snd, part-tail, trip-snoc, van-snoc, length-snoc, snoc-assoc, TimelyFrom, timely-from, leg-le, leg-bound}
+use Rattle.layers.proofs.Flows.{EvenLayer, redirect-arc, inside, has-arc, next-at, up_at, tidy-keeps, next-all, first-only}
+use Rattle.layers.proofs.Ways.{or_left, or_right, or_split, and_left, and_right, one-self, one_only, none_has, ones_in, part-tail, trip-snoc, van-snoc, length-snoc, snoc-assoc, TimelyFrom, timely-from, leg-le, leg-bound}
 use Rattle.layers.proofs.Model.{kept, sweeps, sweep}
 use Rattle.layers.specs.Settings.{Setting}
 use Rattle.layers.specs.declared.node.Down.{Down}
@@ -51,22 +51,18 @@ pub record Tells (all some : ℕ) (w : List ℕ) : Type 0 where
 pub record Longer (k : ℕ) (more : List ℕ → List ℕ) : Type 0 where
   pub here : (w : List ℕ) → StandsIn k (more w)
   pub stays : (j : ℕ) (w : List ℕ) → StandsIn j w → StandsIn j (more w)
-  pub only : (j : ℕ) (w : List ℕ) → StandsIn j (more w) → (j ≡ k) ⊎ StandsIn j w
+  pub only : (j : ℕ) (w : List ℕ) → StandsIn j (more w) → StandsIn j w ⊎ (j ≡ k)
 
 pub at_front : (k : ℕ) → Longer k (λ w. k ∷ w)
-at_front k = record { here = λ w. inl refl; stays = λ j w i. inr i; only = λ j w i. i }
+at_front k = record { here = λ w. inl refl; stays = λ j w i. inr i; only = λ j w i. elim i [ inl e ↦ inr e | inr x ↦ inl x ] }
 
 pub at_back : (k : ℕ) → Longer k (λ w. w ++ (k ∷ []))
-at_back k = record {
-  here = λ w. in-snd k w (k ∷ []) (inl refl);
-  stays = λ j w i. in_left w (k ∷ []) j i;
-  only = λ j w i. elim (in_split j w (k ∷ []) i) [ inl x ↦ inr x | inr x ↦ elim x [ inl e ↦ inl e | inr y ↦ absurd y ] ];
-}
+at_back k = record { here = λ w. last-in w k k (inr refl); stays = λ j w i. last-in w j k (inl i); only = λ j w i. in-last w j k i }
 
 pub tells-step : (a s k : ℕ) (more : List ℕ → List ℕ) (w : List ℕ) → Longer k more → Tells a s w → Tells (bit_or a (bit_of k)) (bit_or s (bit_of k)) (more w)
 tells-step a s k more w l t = record {
   all_in = λ j h. elim (or_split a (bit_of k) j h) [ inl x ↦ l.stays j w (t.all_in j x) | inr x ↦ rw (one_only k j x) (l.here w) ];
-  in_some = λ j i. elim (l.only j w i) [ inl e ↦ or_right s (bit_of k) j (rw e (one-self k)) | inr x ↦ or_left s (bit_of k) j (t.in_some j x) ];
+  in_some = λ j i. elim (l.only j w i) [ inl x ↦ or_left s (bit_of k) j (t.in_some j x) | inr e ↦ or_right s (bit_of k) j (rw e (one-self k)) ];
 }
 
 pub tells-left : (a s a' s' : ℕ) (w : List ℕ) → Tells a s w → Tells (bit_and a a') (bit_or s s') w
@@ -152,7 +148,7 @@ module _ {S V : Type 0} {Keeps : List ℕ → Type 0} {Stands : S → List ℕ �
             (subst (λ (z : ℕ). Allows z (next_trip by.round by.tally (trip_after by.round by.tally p) j).cost) (sym (length-snoc p j))
             (tallied.step_allowed (length p) (cost by.round by.tally p) j (drive by.round (trip_after by.round by.tally p).van.last j) (next_trip by.round by.tally (trip_after by.round by.tally p) j).van.finish k d le (within (length p) _ k s) t.fine));
         here = rw e d.high;
-        last = λ i g h x. g (in-snd i p (j ∷ []) (inl (sym x ∙ ap (λ (z : Trip V). z.van.last) e)));
+        last = λ i g h x. g (last-in p i j (inr (sym x ∙ ap (λ (z : Trip V). z.van.last) e)));
       }
 
   pub arrive-fits : (l : Down S V) (p : List ℕ) (j : ℕ) → Fits l p → Told p → Allows (length p) l.value → IsDoor by.round.n j → length p < 16 → ¬ StandsIn j p → Fits (arrival_over by l j) (p ++ (j ∷ []))
@@ -181,8 +177,7 @@ module _ {S V : Type 0} {Keeps : List ℕ → Type 0} {Stands : S → List ℕ �
 
   pub good-first : Good 0 (first_labels by.rule by.tally)
   unfolding Good
-  good-first zero l e = let x : first_label by.rule by.tally ≡ l = cc in rw (← x) (tallied.start_allowed, omega arith)
-  good-first (suc a) l e = absurd cc
+  good-first = first-only (first_label by.rule by.tally) (λ a l. (Allows 0 l.value) × (l.finish ≤ latest_finish 0)) (tallied.start_allowed, omega arith)
 
   pub good-next : (k : ℕ) (labs : List (Option (Down S V))) (L : Layer) (count : ℕ) → k < 16 → Good k labs → EvenLayer by.round.n L → Good (suc k) (labels_next by labs L count)
   unfolding Good labels_next arrival_over merge

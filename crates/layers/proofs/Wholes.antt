@@ -46,11 +46,9 @@ swept-quiet by w later P keep (suc k) xs r h =
 module _ {S V : Type 0} {Keeps : List ℕ → Type 0} {Stands : S → List ℕ → Type 0} (by : Setting S V) (ruled : RuleLaws by.round.n by.rule Keeps Stands) where
   part-width : (d a : ℕ) (labs : List (Option (Down S V))) (Ls : Net) → width (part_at by d a labs Ls) ≡ width Ls
   unfolding parted_arcs
-  part-width zero a labs [] = refl
-  part-width (suc d) a labs [] = refl
-  part-width zero a labs (L ∷ []) = refl
   part-width zero a labs (L ∷ M ∷ Ls) = simp redirect-length
   part-width (suc d) a labs (L ∷ Ls) = refl
+  part-width d a labs Ls = refl
 
   -- ---- parting a node: its own in-arcs then agree, and those of the nodes before it still do
   module _ (a : ℕ) (labs : List (Option (Down S V))) (L M : Layer) (inn : a < length M) where
@@ -85,24 +83,20 @@ module _ {S V : Type 0} {Keeps : List ℕ → Type 0} {Stands : S → List ℕ �
     head_of (x ∷ l) y i = (x, refl)
 
     group-stays : ((b : ℕ) → b < a → all_agree by.rule (arrivals b L) ≡ true) → (b : ℕ) → b < suc a → all_agree by.rule (arrivals b (redirect f L)) ≡ true
-    group-stays g b k = by-pairs by ruled (arrivals b (redirect f L)) (λ y z i m. go (cases_eq b a) y z (was b y (omega arith) i) (was b z (omega arith) m))
-      where
-        go : (b ≡ a) ⊎ (b ≡ a → ⊥) → (y z : Down S V) → Was b y → Was b z → Agree by ruled y z
-        go (inl e) y z p q =
-            let x = head_of (arrivals a L) y (rw (← e) p.here) in
-            agree-back by ruled x.0 y z (agree-yes by ruled x.0 y (p.stays e x.0 x.1)) (agree-yes by ruled x.0 z (q.stays e x.0 x.1))
-        go (inr n) y z p q = pairs by ruled (arrivals b L) (g b (omega arith)) y z p.here q.here
+    group-stays g b k = by-pairs by ruled (arrivals b (redirect f L)) (λ y z i m.
+        let p = was b y (omega arith) i in let q = was b z (omega arith) m in elim (cases_eq b a) [
+          | inl e ↦ (let x = head_of (arrivals a L) y (rw (← e) p.here) in agree-back by ruled x.0 y z (agree-yes by ruled x.0 y (p.stays e x.0 x.1)) (agree-yes by ruled x.0 z (q.stays e x.0 x.1)))
+          | inr n ↦ pairs by ruled (arrivals b L) (g b (omega arith)) y z p.here q.here
+        ])
 
   part-groups : (d a : ℕ) (labs : List (Option (Down S V))) (Ls : Net) → a < length (get_or Ls (suc d) []) → ((b : ℕ) → b < a → one_group by d b labs Ls ≡ true)
       → (b : ℕ) → b < suc a → one_group by d b labs (part_at by d a labs Ls) ≡ true
   unfolding parted_arcs
-  part-groups zero a labs [] k g b h = absurd (not-suc-le-zero k)
-  part-groups (suc d) a labs [] k g b h = absurd (not-suc-le-zero k)
-  part-groups zero a labs (L ∷ []) k g b h = absurd (not-suc-le-zero k)
   part-groups zero a labs (L ∷ M ∷ Ls) k g b h = group-stays a labs L M k g b h
   part-groups (suc d) a labs (L ∷ Ls) k g b h =
       let labs' = labels_next by labs L (width Ls) in
       ap (λ (m : ℕ). one_group by d b (labels_next by labs L m) (part_at by d a labs' Ls)) (part-width d a labs' Ls) ∙ part-groups d a labs' Ls k g b h
+  part-groups d a labs Ls k g b h = absurd (omega arith)
 
   module _ (w : 1 ≤ by.width) where
     -- ---- one more layer whose in-arcs agree has keys: its labels
@@ -110,8 +104,6 @@ module _ {S V : Type 0} {Keeps : List ℕ → Type 0} {Stands : S → List ℕ �
         → ((a : ℕ) → a < width Ls → (l : Down S V) × (get_or labs a None ≡ Some l)) → Keyed by ruled d K Ls
         → ((b : ℕ) → b < length (get_or Ls (suc d) []) → one_group by d b labs Ls ≡ true) → Keyed by ruled (suc d) K Ls
     unfolding labels_next
-    keyed-more d K labs [] t fit full k g = tt
-    keyed-more d K labs (L ∷ []) t fit full k g = tt
     keyed-more zero K labs (L ∷ M ∷ Ls) t fit full k g = (K', on, tt)
       where
         K' : ℕ → Down S V
@@ -132,11 +124,11 @@ module _ {S V : Type 0} {Keeps : List ℕ → Type 0} {Stands : S → List ℕ �
             rw n.1 m
     keyed-more (suc d) K labs (L ∷ M ∷ Ls) t fit full k g =
         (k.0, k.1, keyed-more d k.0 (labels_next by labs L (length M)) (M ∷ Ls) t.3 (fit_next by ruled labs K k.0 fit L k.1 (length M)) (labels_full by w labs L M Ls t full) k.2 g)
+    keyed-more d K labs Ls t fit full k g = tt
 
     -- ---- refine
     filled : (Ls : Net) → width Ls ≡ 1 → (a : ℕ) → a < width Ls → (l : Down S V) × (get_or (first_labels by.rule by.tally) a None ≡ Some l)
-    filled Ls e zero h = (first_label by.rule by.tally, refl)
-    filled Ls e (suc a) h = absurd (omega arith)
+    filled Ls e a h = let z : a ≡ 0 = omega arith in (first_label by.rule by.tally, rw z)
 
     one_more : (P : ℕ → Type 0) (a : ℕ) → ((b : ℕ) → b < a → P b) → P a → (b : ℕ) → b < suc a → P b
     one_more P a g e b h = elim (cases_eq b a) [ inl n ↦ rw n e | inr n ↦ g b (omega arith) ]
