@@ -1,4 +1,5 @@
 -- A sweep adds no arc, and where it takes out none, none is one that it takes out.
+use Rattle.layers.proofs.Walk.{every_arc-at}
 use Rattle.layers.proofs.Tidying.{tidied-same}
 use Rattle.std.proofs.Common.{◌≡◌, ℕ, zero, suc, ◌≤◌, Bool, true, cond, not, eqb, List, [], ◌∷◌, length, get_or, Some, None, Option, refl, ap, ◌∙◌, ap₂, arith}
 use Rattle.std.proofs.lemmas.Bool.{not-true, and_parts, eqb-true, eq-eqb}
@@ -7,7 +8,6 @@ use Rattle.layers.specs.Tidy.{Mark, marks_next, marks_up, flags, compress, renum
 use Rattle.layers.specs.Lawful.{IsTied}
 use Rattle.layers.specs.Labels.{first_labels, is_barred}
 use Rattle.layers.proofs.Model.{labels_from, sweep, settles, settled, agrees, quiet}
-use Rattle.layers.proofs.Exact.{every_arc-at}
 use Rattle.layers.proofs.Tied.{redirect-same}
 use Rattle.layers.specs.Settings.{Setting}
 use Rattle.layers.specs.declared.node.Down.{Down}

@@ -1,8 +1,6 @@
 pub mod Bridge
 pub mod Counts
-pub mod Exact
 pub mod Flows
-pub mod Keys
 pub mod Main
 pub mod Meaning
 pub mod Model
@@ -11,7 +9,6 @@ pub mod Shaped
 pub mod Standing
 pub mod Tidying
 pub mod Tied
-pub mod Ties
 pub mod Walk
 pub mod Ways
 pub mod Wholes

@@ -13,7 +13,6 @@ use Rattle.layers.specs.declared.call.Call.{Call}
 use Rattle.layers.specs.Calls.{arcs, after_open, after_calls, records_with, bound, must, is_settled, EachCut, kept_arcs}
 use Rattle.layers.specs.Claim.{MustMeans, NothingLost, NothingFalse, ClaimAlwaysHolds, LabelsStand, SettledMeans, StandsAhead}
 use Rattle.layers.proofs.Model.{bound as boundOf, settled as settled_of, cuts, cut, valueO, labels_at}
-use Rattle.layers.proofs.Exact.{paths-allowed, bound-attained}
 use Rattle.layers.proofs.Standing.{Reached, arcs-of, bound-X, settled-X, settled-means-X, after_end, run-reached, KeptOnArcs, reached, opened-reached}
 use Rattle.layers.specs.Settings.{Setting, setting}
 use Rattle.doors.specs.Orders.{IsDoor, IsPartOrder, StandsIn}
@@ -23,7 +22,7 @@ use Rattle.layers.specs.Flow.{end_label}
 use Rattle.layers.specs.Labels.{arrival_over, merge, first_labels, labels_next, is_above_ceiling, opening_arcs, all_doors, ups}
 use Rattle.layers.proofs.Flows.{redirect-arc, inside, table_at, tidy-keeps}
 use Rattle.layers.proofs.Ways.{trip-snoc, length-snoc, snoc-assoc}
-use Rattle.layers.proofs.Walk.{within, Going, going_next, Told, told-next, At, going-facts, OnWay, way_next, way-fits, filter-keeps, setting-out, sweep-keeps}
+use Rattle.layers.proofs.Walk.{within, Going, going_next, Told, told-next, At, going-facts, OnWay, way_next, way-fits, filter-keeps, setting-out, sweep-keeps, paths-allowed, bound-attained}
 use Rattle.layers.proofs.Proper.{part-edited, join-edited}
 use Rattle.layers.specs.declared.node.Down.{Down}
 use Rattle.doors.proofs.Sets.{part_length}

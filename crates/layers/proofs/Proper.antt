@@ -1,24 +1,283 @@
--- The arcs that opening lays are lawful, and filters, parting and joining keep lawful arcs so.
-use Rattle.std.proofs.Common.{◌≡◌, ℕ, zero, suc, ◌<◌, ◌≤◌, Bool, true, false, cond, List, [], ◌∷◌, length, get_or, set, Some, None, Option, refl, ap, ◌∙◌, inl, inr, le_of_suc-le-suc, not-suc-le-zero, arith, length-set}
-use Rattle.std.proofs.lemmas.Bool.{cases_eq, cases_lt}
-use Rattle.std.proofs.lemmas.List.{get_or-set_same, get_or-set_other}
-use Rattle.layers.specs.Net.{table, Outs, Layer, Net, node, width, redirect, PathFrom}
+-- The arcs that opening lays are lawful, and filters, parting and joining keep lawful arcs so; part and join keep every path.
+use Rattle.std.proofs.Common.{◌≡◌, ℕ, zero, suc, ◌-◌, ◌<◌, ◌≤◌, Bool, true, false, cond, not, ◌&&◌, eqb, ltb, ◌⊎◌, List, [], ◌∷◌, ◌++◌, length, get_or, set, Some, None, Option, sym, refl, ap, ◌∙◌, inl, inr, le_of_suc-le-suc, not-suc-le-zero, arith, length-set}
+use Rattle.std.proofs.lemmas.Bool.Decides.{nat_tests}
+use Rattle.std.proofs.lemmas.Bool.{true≢false, ltb-true, ltb-false, eqb-true, eq-eqb, cases_lt, cases_eq, and_cases, and_parts}
+use Rattle.std.proofs.lemmas.List.{get_or_append_left, get_or_push, get_or-set_same, get_or-set_other}
+use Rattle.layers.specs.Net.{table, Outs, Layer, Net, node, target, redirect, width, PathFrom}
 use Rattle.layers.specs.Flow.{arrivals_at}
-use Rattle.layers.specs.Tidy.{Mark, marks_next, marks_up, flags, compress, renumber, tidy, tidied_arcs}
-use Rattle.layers.specs.Join.{without_place, place_after_join, both_out, clash, joined_arcs}
-use Rattle.layers.specs.Lawful.{IsRanged, IsLed, IsTied, IsRoomy, IsEven, IsLawful}
-use Rattle.layers.specs.declared.node.Up.{Up}
-use Rattle.layers.specs.Labels.{first_labels, arrival_over, all_agree, opening_arcs, all_doors}
-use Rattle.layers.specs.Calls.{LayerLabels, parted_arcs, kept_arcs}
+use Rattle.layers.specs.Join.{clash, either_target, both_out, without_place, place_after_join, joined_arcs, targets_differ}
+use Rattle.layers.specs.Lawful.{IsRanged, IsFed, IsLed, IsTied, IsRoomy, IsEven, IsLawful}
+use Rattle.layers.specs.Labels.{arrival_over, agree, agrees_with_all, all_agree, differs_from_first, first_arrival, opening_arcs, all_doors, labels_next, first_labels}
+use Rattle.layers.specs.Calls.{parted_arcs, arrivals, LayerLabels, kept_arcs}
+use Rattle.layers.proofs.Flows.{EvenLayer, Among, redirect-arc, has-arc, table_at, From, ins-from, table-long, compress-at}
 use Rattle.layers.proofs.Ways.{length-snoc}
-use Rattle.layers.proofs.Flows.{EvenLayer, table-long, compress-at}
-use Rattle.layers.proofs.Ties.{drop-below, drop-above, opened-tied, more-even, more-led, more-tied, drop-length, part-keeps, part-ranged, part-fed, part-led, join-keeps, in-ranged, in-fed, in-led, join-led, join-tail}
-use Rattle.layers.proofs.Model.{one_group, part_at, labels_at}
-use Rattle.layers.proofs.Tied.{redirect-length, redirect-long, compress-back, tidied-tied, kept-back}
+use Rattle.layers.proofs.Tied.{redirect-back, redirect-length, redirect-long, compress-back, tidied-tied, kept-back}
 use Rattle.layers.specs.Settings.{Setting}
 use Rattle.layers.specs.declared.node.Down.{Down}
+use Rattle.layers.proofs.Model.{part_at, moved, one_group, labels_at}
+use Rattle.layers.specs.Tidy.{Mark, marks_next, marks_up, flags, compress, renumber, tidy, tidied_arcs}
+use Rattle.layers.specs.declared.node.Up.{Up}
 
--- ---- as many targets to each node as there are doors
+module _ {S V : Type 0} (by : Setting S V) where
+  pub part-keeps : (a : ℕ) (labs : List (Option (Down S V))) (L M : Layer) (Ls : Net) (x : ℕ) (w : List ℕ) → PathFrom (L ∷ M ∷ Ls) x w → PathFrom (redirect (moved by a labs L (length M)) L ∷ (M ++ (node M a ∷ [])) ∷ Ls) x w
+  part-keeps a labs L M Ls x [] p = absurd p
+  part-keeps a labs L M Ls x (j ∷ []) p = absurd p.2
+  part-keeps a labs L M Ls x (j ∷ k ∷ w) p =
+      let t = eqb p.0 a && differs_from_first by (first_arrival (arrivals by labs L a)) (get_or labs x None) j in
+      elim t as (λ q. t ≡ q → PathFrom (redirect (moved by a labs L (length M)) L ∷ (M ++ (node M a ∷ [])) ∷ Ls) x (j ∷ k ∷ w)) [
+        | true ↦ λ e. let same = eqb-true p.0 a (and_parts (eqb p.0 a) _ e).0 in
+            (length M, redirect-arc _ L x j p.0 p.1 ∙ rw e refl, (p.2.0, rw (get_or_push M (node M a) [] (length M) refl, ← same) p.2.1, p.2.2))
+        | false ↦ λ e. (p.0, redirect-arc _ L x j p.0 p.1 ∙ rw e refl, (p.2.0, rw (get_or_append_left M (node M a ∷ []) [] p.0 (has-arc M p.0 k p.2.0 p.2.1)) p.2.1, p.2.2))
+      ] refl
+
+-- ---- join
+pub drop-below : (i b : ℕ) (M : Layer) → b < i → node (without_place i M) b ≡ node M b
+unfolding without_place
+drop-below zero b M h = absurd (not-suc-le-zero h)
+drop-below (suc i) b [] h = refl
+drop-below (suc i) zero (x ∷ M) h = refl
+drop-below (suc i) (suc b) (x ∷ M) h = drop-below i b M (le_of_suc-le-suc h)
+
+pub drop-above : (i b : ℕ) (M : Layer) → i ≤ b → node (without_place i M) b ≡ node M (suc b)
+unfolding without_place
+drop-above zero b (x ∷ M) h = refl
+drop-above (suc i) zero (x ∷ M) h = absurd (not-suc-le-zero h)
+drop-above (suc i) (suc b) (x ∷ M) h = drop-above i b M (le_of_suc-le-suc h)
+drop-above i b M h = refl
+
+-- the targets of both
+both-get : (x y : Outs) (k : ℕ) → get_or (both_out x y) k 0 ≡ either_target (get_or x k 0) (get_or y k 0)
+unfolding both_out
+both-get [] y k = refl
+both-get (s ∷ x) [] k = grind arith
+both-get (s ∷ x) (t ∷ y) k = grind (arith, both-get x y)
+
+clash-get : (x y : Outs) (k : ℕ) → clash x y ≡ false → targets_differ (get_or x k 0) (get_or y k 0) ≡ false
+unfolding clash
+clash-get [] y k n = refl
+clash-get (s ∷ x) [] k n = grind arith
+clash-get (s ∷ x) (t ∷ y) k n = grind (arith, n, clash-get x y)
+
+target_left : (x y : Outs) (k c : ℕ) → target x k ≡ suc c → target (both_out x y) k ≡ suc c
+target_left x y zero c e = e
+target_left x y (suc k) c e = both-get x y k ∙ grind (arith, e)
+
+target_right : (x y : Outs) (k c : ℕ) → clash x y ≡ false → target y k ≡ suc c → target (both_out x y) k ≡ suc c
+target_right x y zero c n e = e
+target_right x y (suc k) c n e = both-get x y k ∙ grind (arith, nat_tests, e, clash-get x y k n)
+
+target-back : (x y : Outs) (j b : ℕ) → target (both_out x y) j ≡ suc b → (target x j ≡ suc b) ⊎ (target y j ≡ suc b)
+target-back x y zero b e = inl e
+target-back x y (suc k) b e = grind (arith, e, both-get x y k)
+
+join-node : (M : Layer) (lo hi b k c : ℕ) → lo < hi → hi < length M → clash (node M lo) (node M hi) ≡ false → target (node M b) k ≡ suc c
+    → target (node (without_place hi (set M lo (both_out (node M lo) (node M hi)))) (place_after_join lo hi b)) k ≡ suc c
+unfolding place_after_join
+join-node M lo hi b k c lt inn nc e =
+    let v = both_out (node M lo) (node M hi) in
+    let X = set M lo v in
+    let left = target_left (node M lo) (node M hi) k c in
+    let right = target_right (node M lo) (node M hi) k c nc in
+    grind (arith, nat_tests, e, lt, inn, left, right, drop-below hi b X, drop-below hi lo X lt, drop-above hi (b - 1) X, get_or-set_same M lo v [], get_or-set_other M lo b v [])
+
+pub join-keeps : (L M : Layer) (Ls : Net) (lo hi : ℕ) (x : ℕ) (w : List ℕ) → lo < hi → hi < length M → clash (node M lo) (node M hi) ≡ false → PathFrom (L ∷ M ∷ Ls) x w
+    → PathFrom (redirect (λ a j b. suc (place_after_join lo hi b)) L ∷ without_place hi (set M lo (both_out (node M lo) (node M hi))) ∷ Ls) x w
+join-keeps L M Ls lo hi x [] a b n p = absurd p
+join-keeps L M Ls lo hi x (j ∷ []) a b n p = absurd p.2
+join-keeps L M Ls lo hi x (j ∷ k ∷ w) a b n p =
+    (place_after_join lo hi p.0, redirect-arc (λ a j b. suc (place_after_join lo hi b)) L x j p.0 p.1, (p.2.0, join-node M lo hi p.0 k p.2.0 a b n p.2.1, p.2.2))
+
+-- ---- open
+module _ {S V : Type 0} (by : Setting S V) where
+  ones-at : (n k b : ℕ) → get_or (table n (λ m. 1)) k 0 ≡ suc b → b ≡ 0
+  ones-at zero k b e = absurd (omega arith)
+  ones-at (suc n) zero b e = omega arith
+  ones-at (suc n) (suc k) b e = ones-at n k b e
+
+  open-ranged : IsRanged (all_doors by.round.n ∷ []) 1
+  open-ranged zero (suc k) b e = let z = ones-at by.round.n k b e in omega arith
+  open-ranged (suc a) (suc k) b e = absurd (omega arith)
+  open-ranged a j b e = absurd (omega arith)
+
+  first-door : target (all_doors by.round.n) 1 ≡ 1
+  first-door = table_at by.round.n 0 (λ m. 1) 0 by.round.one
+
+  open-fed : IsFed (all_doors by.round.n ∷ []) 1
+  open-fed b h = let z : b ≡ 0 = omega arith in (0, 1, first-door ∙ ap suc (sym z))
+
+  open-led : IsLed (all_doors by.round.n ∷ [])
+  open-led zero h = (1, 0, first-door)
+  open-led (suc a) h = absurd (not-suc-le-zero (le_of_suc-le-suc h))
+
+  pub opened-tied : IsTied (opening_arcs by.round.n)
+  unfolding opening_arcs
+  opened-tied = go by.round.n
+    where
+      go : (k : ℕ) → IsTied (table k (λ i. all_doors by.round.n ∷ []))
+      go zero = tt
+      go (suc zero) = open-ranged
+      go (suc (suc k)) = (open-ranged, open-fed, open-led, go (suc k))
+
+-- ---- part
+-- the nodes of a layer with one more are those of the layer
+pub more-back : (M : Layer) (nd : Outs) (c : ℕ) → c < suc (length M) → ((c < length M) × (node (M ++ (nd ∷ [])) c ≡ node M c)) ⊎ ((c ≡ length M) × (node (M ++ (nd ∷ [])) c ≡ nd))
+more-back M nd c h = elim (cases_lt c (length M)) [ inl k ↦ inl (k, get_or_append_left M (nd ∷ []) [] c k) | inr k ↦ inr (omega arith, get_or_push M nd [] c (omega arith)) ]
+
+module _ (M : Layer) (a : ℕ) (inn : a < length M) where
+  more-ranged : (m : ℕ) → IsRanged M m → IsRanged (M ++ (node M a ∷ [])) m
+  more-ranged m h c j b e =
+      let k = has-arc (M ++ (node M a ∷ [])) c j b e in
+      let q = more-back M (node M a) c (omega (arith, length-snoc M (node M a))) in
+      grind (arith, e, q, h c j b, h a j b)
+
+  pub more-even : (n : ℕ) → EvenLayer n M → EvenLayer n (M ++ (node M a ∷ []))
+  more-even n h c k = elim (more-back M (node M a) c (omega (arith, length-snoc M (node M a)))) [ inl x ↦ rw x.1 (h c x.0) | inr x ↦ rw x.1 (h a inn) ]
+
+  pub more-led : IsLed M → IsLed (M ++ (node M a ∷ []))
+  more-led h c k =
+      elim (more-back M (node M a) c (omega (arith, length-snoc M (node M a)))) [
+        | inl q ↦ (let s = h c q.0 in (s.0, s.1, rw q.1 s.2))
+        | inr q ↦ (let s = h a inn in (s.0, s.1, rw q.1 s.2))
+      ]
+
+  more-fed : (m : ℕ) → IsFed M m → IsFed (M ++ (node M a ∷ [])) m
+  more-fed m h b k = let s = h b k in (s.0, s.1, rw (get_or_append_left M (node M a ∷ []) [] s.0 (has-arc M s.0 s.1 b s.2)) s.2)
+
+  pub more-tied : (Ls : Net) → IsTied (M ∷ Ls) → IsTied ((M ++ (node M a ∷ [])) ∷ Ls)
+  more-tied [] t = more-ranged 1 t
+  more-tied (N ∷ Ls) t = (more-ranged (length N) t.0, more-fed (length N) t.1, t.2, t.3)
+
+module _ {S V : Type 0} (by : Setting S V) (self : (s : S) → by.rule.same s s ≡ true) where
+  agree-self : (x : Down S V) → agree by.rule x x ≡ true
+  unfolding agree
+  agree-self x = grind (arith, nat_tests, self x.state)
+
+  odd-one : (x : Down S V) (l : List (Down S V)) → agrees_with_all by.rule x l ≡ false → (y : Down S V) × Among y l × (agree by.rule x y ≡ false)
+  unfolding agrees_with_all
+  odd-one x [] e = absurd (true≢false e)
+  odd-one x (y ∷ l) e =
+      elim (and_cases (agree by.rule x y) (agrees_with_all by.rule x l) e) [
+        | inl h ↦ (y, inl refl, h)
+        | inr h ↦ (let q = odd-one x l h in (q.0, inr q.1, q.2))
+      ]
+
+  -- two groups: a first arrival, and one that disagrees with it
+  record Groups (l : List (Down S V)) : Type 0 where
+    one : Down S V
+    is_first : first_arrival l ≡ Some one
+    one_in : Among one l
+    other : Down S V
+    other_in : Among other l
+    differ : agree by.rule one other ≡ false
+
+  groups : (l : List (Down S V)) → all_agree by.rule l ≡ false → Groups l
+  unfolding all_agree
+  groups [] e = absurd (true≢false e)
+  groups (x ∷ l) e = let q = odd-one x l e in record { one = x; is_first = refl; one_in = inl refl; other = q.0; other_in = inr q.1; differ = q.2 }
+
+  module _ (a : ℕ) (labs : List (Option (Down S V))) (L M : Layer) (inn : a < length M) (two : all_agree by.rule (arrivals_at (arrival_over by) a labs L) ≡ false) where
+    abbrev h : Option (Down S V)
+    h = first_arrival (arrivals_at (arrival_over by) a labs L)
+
+    abbrev f : ℕ → ℕ → ℕ → ℕ
+    f = moved by a labs L (length M)
+
+    pub part-ranged : IsRanged L (length M) → IsRanged (redirect f L) (length (M ++ (node M a ∷ [])))
+    part-ranged g u j c e = let q = redirect-back f L u j c e in let k = g u j q.0 q.1 in let z = length-snoc M (node M a) in let y = q.2 in grind (arith, k, y, z)
+
+    moves-to : (u j b : ℕ) (q : Bool) → target (node L u) j ≡ suc b → (eqb b a && differs_from_first by h (get_or labs u None) j) ≡ q → target (node (redirect f L) u) j ≡ cond q (suc (length M)) (suc b)
+    moves-to u j b q e t = redirect-arc f L u j b e ∙ ap (λ (z : Bool). cond z (suc (length M)) (suc b)) t
+
+    at_a : (x y : Down S V) → h ≡ Some x → (w : From (arrival_over by) a labs L y) → (eqb a a && differs_from_first by h (get_or labs w.source None) w.door) ≡ not (agree by.rule x y)
+    at_a x y e w = rw (eq-eqb a a refl, e, w.labelled) (ap (λ (z : Down S V). not (agree by.rule x z)) (sym w.is))
+
+    pub part-fed : IsFed L (length M) → IsFed (redirect f L) (length (M ++ (node M a ∷ [])))
+    part-fed g c k = new (ltb c (length M)) refl (eqb c a) refl
+      where
+        two' : Groups (arrivals_at (arrival_over by) a labs L)
+        two' = groups (arrivals_at (arrival_over by) a labs L) two
+
+        new : (p : Bool) → ltb c (length M) ≡ p → (q : Bool) → eqb c a ≡ q → (u : ℕ) × (j : ℕ) × (target (node (redirect f L) u) j ≡ suc c)
+        new true e true d =
+            let x = two'.one in
+            let w = ins-from (arrival_over by) a labs L x two'.one_in in
+            (w.source, w.door, moves-to w.source w.door a false w.arc (at_a x x two'.is_first w ∙ ap not (agree-self x)) ∙ ap suc (sym (eqb-true c a d)))
+        new true e false d =
+            let s = g c (ltb-true c (length M) e) in
+            (s.0, s.1, moves-to s.0 s.1 c false s.2 (ap (λ (z : Bool). z && differs_from_first by h (get_or labs s.0 None) s.1) d))
+        new false e q d =
+            let w = ins-from (arrival_over by) a labs L two'.other two'.other_in in
+            let z : c ≡ length M = omega (arith, length-snoc M (node M a), ltb-false c (length M) e) in
+            (w.source, w.door, moves-to w.source w.door a true w.arc (at_a two'.one two'.other two'.is_first w ∙ ap not two'.differ) ∙ ap suc (sym z))
+
+    pub part-led : IsLed L → IsLed (redirect f L)
+    part-led g u k =
+        let s = g u (omega (arith, redirect-length f L)) in
+        (s.0, cond (eqb s.1 a && differs_from_first by h (get_or labs u None) s.0) (length M) s.1, redirect-arc f L u s.0 s.1 s.2 ∙ grind arith)
+
+-- ---- join
+pub drop-length : (i : ℕ) (M : Layer) → i < length M → suc (length (without_place i M)) ≡ length M
+unfolding without_place
+drop-length zero (x ∷ M) h = refl
+drop-length (suc i) (x ∷ M) h = ap suc (drop-length i M (le_of_suc-le-suc h))
+drop-length i M h = absurd (omega arith)
+
+module _ (M : Layer) (lo hi : ℕ) (lt : lo < hi) (inn : hi < length M) (nc : clash (node M lo) (node M hi) ≡ false) where
+  abbrev X : Layer
+  X = set M lo (both_out (node M lo) (node M hi))
+
+  abbrev M' : Layer
+  M' = without_place hi X
+
+  long : suc (length M') ≡ length M
+  long = drop-length hi X (omega (arith, length-set M lo (both_out (node M lo) (node M hi)))) ∙ length-set M lo (both_out (node M lo) (node M hi))
+
+  back : (c j b : ℕ) → target (node M' c) j ≡ suc b → (a : ℕ) × (target (node M a) j ≡ suc b)
+  back c j b e = elim (cases_lt c hi) [
+    | inl k ↦ elim (cases_eq c lo) [
+      | inl s ↦ elim (target-back (node M lo) (node M hi) j b (rw (drop-below hi c X k, s, get_or-set_same M lo (both_out (node M lo) (node M hi)) [] (omega arith)) at e)) [ inl q ↦ (lo, q) | inr q ↦ (hi, q) ]
+      | inr s ↦ (c, rw (← (drop-below hi c X k ∙ get_or-set_other M lo c (both_out (node M lo) (node M hi)) [] s)) e)
+    ]
+    | inr k ↦ (suc c, rw (← (drop-above hi c X k ∙ get_or-set_other M lo (suc c) (both_out (node M lo) (node M hi)) [] (omega arith))) e)
+  ]
+
+  join-ranged : (m : ℕ) → IsRanged M m → IsRanged M' m
+  join-ranged m h c j b e = let q = back c j b e in h q.0 j b q.1
+
+  join-fed : (m : ℕ) → IsFed M m → IsFed M' m
+  join-fed m h b k = let s = h b k in (place_after_join lo hi s.0, s.1, join-node M lo hi s.0 s.1 b lt inn nc s.2)
+
+  -- a place of the new layer comes from a place of the old
+  from : (c : ℕ) → c < length M' → (b : ℕ) × (b < length M) × (place_after_join lo hi b ≡ c)
+  unfolding place_after_join
+  from c k = elim (cases_lt c hi) [ inl h ↦ (c, omega (arith, long), grind (arith, nat_tests, h)) | inr h ↦ (suc c, omega (arith, long), grind (arith, nat_tests, h)) ]
+
+  to : (b : ℕ) → b < length M → place_after_join lo hi b < length M'
+  unfolding place_after_join
+  to b k = grind (arith, nat_tests, k, long)
+
+  pub join-led : IsLed M → IsLed M'
+  join-led h c k = let q = from c k in let s = h q.0 q.1 in
+      (s.0, s.1, ap (λ (z : ℕ). target (node M' z) s.0) (sym q.2) ∙ join-node M lo hi q.0 s.0 s.1 lt inn nc s.2)
+
+  pub join-tail : (Ls : Net) → IsTied (M ∷ Ls) → IsTied (M' ∷ Ls)
+  join-tail [] t = join-ranged 1 t
+  join-tail (N ∷ Ls) t = (join-ranged (length N) t.0, join-fed (length N) t.1, t.2, t.3)
+
+  abbrev L' : Layer → Layer
+  L' L = redirect (λ a j b. suc (place_after_join lo hi b)) L
+
+  pub in-ranged : (L : Layer) → IsRanged L (length M) → IsRanged (L' L) (length M')
+  in-ranged L h a j c e = let q = redirect-back (λ a j b. suc (place_after_join lo hi b)) L a j c e in let k = to q.0 (h a j q.0 q.1) in omega (arith, q.2)
+
+  pub in-fed : (L : Layer) → IsFed L (length M) → IsFed (L' L) (length M')
+  in-fed L h c k = let q = from c k in let s = h q.0 q.1 in
+      (s.0, s.1, redirect-arc (λ a j b. suc (place_after_join lo hi b)) L s.0 s.1 q.0 s.2 ∙ ap suc q.2)
+
+pub in-led : (lo hi : ℕ) (L : Layer) → IsLed L → IsLed (redirect (λ a j b. suc (place_after_join lo hi b)) L)
+in-led lo hi L h a k = let s = h a (omega (arith, redirect-length (λ a j b. suc (place_after_join lo hi b)) L)) in
+    (s.0, place_after_join lo hi s.1, redirect-arc (λ a j b. suc (place_after_join lo hi b)) L a s.0 s.1 s.2)
+
 even-redirect : (n : ℕ) (f : ℕ → ℕ → ℕ → ℕ) (L : Layer) → EvenLayer n L → EvenLayer n (redirect f L)
 even-redirect n f L h a k = redirect-long f L a ∙ h a (omega (arith, redirect-length f L))
 

@@ -1,33 +1,34 @@
--- A label on the way agrees with the beginning that leads to it; so no arc of an allowed order is swept or cut.
-use Rattle.std.proofs.Common.{◌≡◌, ℕ, zero, suc, ◌+◌, ◌<◌, ◌≤◌, Bool, true, false, cond, ◌||◌, ltb, ◌⊎◌, List, [], ◌∷◌, ◌++◌, length, get_or, Some, None, Option, sym, refl, ap, ◌∙◌, subst, inl, inr, le_trans, arith}
-use lib.Bits.{bit_and, bit_or}
+-- A label on the way agrees with the beginning that leads to it, so no arc of an allowed order is swept or cut; and while settled answers yes, the labels are exact.
+use Rattle.std.proofs.Common.{◌≡◌, ℕ, zero, suc, ◌+◌, ◌<◌, ◌≤◌, Bool, true, false, cond, ◌||◌, ltb, ◌⊎◌, List, [], ◌∷◌, ◌++◌, length, get_or, Some, None, Option, sym, refl, ap, ◌∙◌, subst, inl, inr, le_trans, arith, not, fold, append-nil, not-suc-le-zero}
+use lib.Bits.{bit_and, bit_or, and_self, or_self}
 use lib.Count.{ones}
-use Rattle.std.proofs.lemmas.Bool.{le-ltb, ne_eqb, false_from_ne_true}
-use Rattle.doors.proofs.Orders.{in-last, last-in, part-next, next-part}
+use Rattle.std.proofs.lemmas.Bool.{le-ltb, ne_eqb, false_from_ne_true, true≢false, not-true, and_parts, cond_both}
+use Rattle.doors.proofs.Orders.{in-last, last-in, part-next, next-part, each_none, each_more}
 use Rattle.doors.specs.Orders.{IsDoor, StandsIn, IsPartOrder}
 use Rattle.doors.specs.Sets.{has}
 use Rattle.round.proofs.Clocks.{clock-laws}
 use Rattle.round.specs.Clock.{door, drive, finish, latest_finish}
 use Rattle.round.specs.declared.table.Round.{Round}
-use Rattle.rules.specs.Rules.{RuleLaws}
+use Rattle.rules.specs.Rules.{RuleLaws, state_of}
 use Rattle.tallies.specs.Tallies.{TallyLaws}
 use Rattle.orders.proofs.Times.{trip-van}
 use Rattle.orders.specs.Allowed.{IsAllowed}
 use Rattle.orders.specs.Costs.{Trip, cost, next_trip, trip_after}
-use Rattle.orders.specs.Times.{van_after}
+use Rattle.orders.specs.Times.{van_after, finish_of, KeepsHours}
 use Rattle.layers.specs.Lawful.{IsEven}
 use Rattle.layers.specs.declared.node.Up.{Up}
-use Rattle.layers.specs.Net.{Outs, Layer, Net, node, target, width, PathFrom}
-use Rattle.layers.specs.Flow.{arrivals_at, up}
-use Rattle.layers.specs.Labels.{bit_of, leg, climb, merge_up, no_up, ups, first_label, arrival_over, merge, first_labels, labels_next, is_barred}
-use Rattle.layers.proofs.Flows.{EvenLayer, redirect-arc, inside, has-arc, next-at, up_at, tidy-keeps, next-all, first-only}
-use Rattle.layers.proofs.Ways.{or_left, or_right, or_split, and_left, and_right, one-self, one_only, none_has, ones_in, part-tail, trip-snoc, van-snoc, length-snoc, snoc-assoc, TimelyFrom, timely-from, leg-le, leg-bound}
-use Rattle.layers.proofs.Model.{kept, sweeps, sweep}
+use Rattle.layers.specs.Net.{Outs, Layer, Net, node, target, width, PathFrom, every_door, every_arc}
+use Rattle.layers.specs.Flow.{arrivals_at, up, end_label, gather}
+use Rattle.layers.specs.Labels.{bit_of, leg, climb, merge_up, no_up, ups, first_label, arrival_over, merge, first_labels, labels_next, is_barred, all_agree, agree, agrees_with_all}
+use Rattle.layers.proofs.Flows.{EvenLayer, redirect-arc, inside, has-arc, next-at, up_at, tidy-keeps, next-all, first-only, Among, From, ins-in, ins-from, next-some, next-within, gather-all}
+use Rattle.layers.proofs.Ways.{or_left, or_right, or_split, and_left, and_right, one-self, one_only, none_has, ones_in, part-tail, trip-snoc, van-snoc, length-snoc, snoc-assoc, TimelyFrom, timely-from, leg-le, leg-bound, state-snoc, leg-one}
+use Rattle.layers.proofs.Model.{kept, sweeps, sweep, agrees, quiet, settles, settled, bound, valueO}
 use Rattle.layers.specs.Settings.{Setting}
 use Rattle.layers.specs.declared.node.Down.{Down}
-use Rattle.layers.specs.Calls.{kept_arcs}
+use Rattle.layers.specs.Calls.{kept_arcs, places_agree, in_arcs_agree, keeps_all_arcs}
+use Rattle.std.proofs.lemmas.Bool.Decides.{nat_tests}
+use Rattle.orders.specs.declared.van.Van.{Van}
 
--- a finish of fewer than 16 doors and one more
 pub within : (k f : ℕ) → k < 16 → f ≤ latest_finish (suc k) → f ≤ latest_finish 16
 within k f h e = omega arith
 
@@ -306,3 +307,297 @@ module _ {S V : Type 0} {Keeps : List ℕ → Type 0} {Stands : S → List ℕ �
           let x = path-up Ls o.path.0 w o.path.2 in
           let f = way-fits labs L Ls a j p w o in
           rw (f.1, x.1, ← path-length Ls o.path.0 w o.path.2) (not-barred p w j f.0 x.0 o.going o.told f.2 f.3 x.2)
+
+module _ {S V : Type 0} {Keeps : List ℕ → Type 0} {Stands : S → List ℕ → Type 0} (by : Setting S V) (ruled : RuleLaws by.round.n by.rule Keeps Stands) where
+  -- ---- labels that agree in all but the value
+  pub record Agree (x y : Down S V) : Type 0 where
+    pub all : x.all ≡ y.all
+    pub some : x.some ≡ y.some
+    pub finish : x.finish ≡ y.finish
+    pub lasts : x.lasts ≡ y.lasts
+    pub state : x.state ≡ y.state
+
+  pub agree-yes : (x y : Down S V) → agree by.rule x y ≡ true → Agree x y
+  unfolding agree
+  agree-yes x y e = record {
+    all = grind (arith, nat_tests, e);
+    some = grind (arith, nat_tests, e);
+    finish = grind (arith, nat_tests, e);
+    lasts = grind (arith, nat_tests, e);
+    state = ruled.same_is x.state y.state (grind (arith, nat_tests, e));
+  }
+
+  yes-agree : (x y : Down S V) → Agree x y → agree by.rule x y ≡ true
+  unfolding agree
+  yes-agree x y e = let s = ap (by.rule.same x.state) (sym e.state) ∙ ruled.same_self x.state in grind (arith, nat_tests, s, e.all, e.some, e.finish, e.lasts)
+
+  pub agree-self : (x : Down S V) → Agree x x
+  agree-self x = record { all = refl; some = refl; finish = refl; lasts = refl; state = refl }
+
+  pub agree-back : (x y z : Down S V) → Agree x y → Agree x z → Agree y z
+  agree-back x y z p q = record { all = sym p.all ∙ q.all; some = sym p.some ∙ q.some; finish = sym p.finish ∙ q.finish; lasts = sym p.lasts ∙ q.lasts; state = sym p.state ∙ q.state }
+
+  -- merging what agrees gives the same
+  pub agree-merge : (x y z : Down S V) → Agree x y → Agree x z → Agree x (merge by.rule by.tally y z)
+  unfolding merge
+  agree-merge x y z p q = record {
+    all = sym (and_self x.all) ∙ ap (λ (t : ℕ). bit_and t x.all) p.all ∙ ap (bit_and y.all) q.all;
+    some = sym (or_self x.some) ∙ ap (λ (t : ℕ). bit_or t x.some) p.some ∙ ap (bit_or y.some) q.some;
+    finish = omega (arith, p.finish, q.finish);
+    lasts = sym (or_self x.lasts) ∙ ap (λ (t : ℕ). bit_or t x.lasts) p.lasts ∙ ap (bit_or y.lasts) q.lasts;
+    state = sym (ruled.cover_same x.state) ∙ ap (λ (t : S). by.rule.cover t x.state) p.state ∙ ap (by.rule.cover y.state) q.state;
+  }
+
+  pub agree-arrive : (x y : Down S V) (j : ℕ) → Agree x y → Agree (arrival_over by x j) (arrival_over by y j)
+  unfolding arrival_over
+  agree-arrive x y j p = record {
+    all = ap (λ (t : ℕ). bit_or t (bit_of j)) p.all;
+    some = ap (λ (t : ℕ). bit_or t (bit_of j)) p.some;
+    finish = rw p.finish (ap (λ (t : ℕ). finish by.round y.finish (leg by.round t j) j) p.lasts);
+    lasts = refl;
+    state = ap (λ (t : S). by.rule.step t j) p.state;
+  }
+
+  -- a list of arrivals agrees if any two do
+  all_yes : (x : Down S V) (l : List (Down S V)) → agrees_with_all by.rule x l ≡ true → (y : Down S V) → Among y l → Agree x y
+  unfolding agrees_with_all
+  all_yes x [] e y i = absurd i
+  all_yes x (z ∷ l) e y i = grind (arith, e, i, agree-yes x z, all_yes x l)
+
+  yes-all : (x : Down S V) (l : List (Down S V)) → ((y : Down S V) → Among y l → Agree x y) → agrees_with_all by.rule x l ≡ true
+  unfolding agrees_with_all
+  yes-all x [] f = refl
+  yes-all x (y ∷ l) f = rw (yes-agree x y (f y (inl refl))) (yes-all x l (λ z i. f z (inr i)))
+
+  pub pairs : (l : List (Down S V)) → all_agree by.rule l ≡ true → (y z : Down S V) → Among y l → Among z l → Agree y z
+  unfolding all_agree
+  pairs [] e y z i k = absurd i
+  pairs (x ∷ l) e y z i k =
+      let one : (t : Down S V) → Among t (x ∷ l) → Agree x t = λ t m. elim m [ inl f ↦ rw f (agree-self x) | inr n ↦ all_yes x l e t n ] in
+      agree-back x y z (one y i) (one z k)
+
+  pub by-pairs : (l : List (Down S V)) → ((y z : Down S V) → Among y l → Among z l → Agree y z) → all_agree by.rule l ≡ true
+  unfolding all_agree
+  by-pairs [] f = refl
+  by-pairs (x ∷ l) f = yes-all x l (λ y i. f x y (inl refl) (inr i))
+
+-- ---- tests that passed
+every_door-at : (f : ℕ → ℕ → Bool) (j : ℕ) (ts : Outs) (k m b : ℕ) → j + k ≡ m → every_door f j ts ≡ true → get_or ts k 0 ≡ suc b → f m b ≡ true
+unfolding every_door
+every_door-at f j [] k m b h t e = absurd (omega arith)
+every_door-at f j (s ∷ ts) k m b h t e = grind (arith, t, e, every_door-at f (suc j) ts)
+
+pub every_arc-at : (f : ℕ → ℕ → ℕ → Bool) (c : ℕ) (L : Layer) (a m j b : ℕ) → c + a ≡ m → every_arc f c L ≡ true → target (node L a) j ≡ suc b → f m j b ≡ true
+unfolding every_arc
+every_arc-at f c [] a m j b h t e = absurd (grind (arith, e))
+every_arc-at f c (nd ∷ L) a m j b h t e = grind (arith, t, e, every_door-at (f c) 1 nd, every_arc-at f (suc c) L)
+
+module _ {S V : Type 0} {Keeps : List ℕ → Type 0} {Stands : S → List ℕ → Type 0} {Allows : ℕ → V → Type 0} (by : Setting S V) (ruled : RuleLaws by.round.n by.rule Keeps Stands) (tallied : TallyLaws by.round.n by.tally Allows) where
+  -- ---- what is gathered from arrivals that agree agrees with each
+  same-gather : (l : List (Down S V)) (m x : Down S V) → all_agree by.rule l ≡ true → gather (merge by.rule by.tally) l ≡ Some m → Among x l → Agree by ruled x m
+  same-gather l m x e g i = gather-all (merge by.rule by.tally) (Agree by ruled x) (agree-merge by ruled x) l m (λ y k. pairs by ruled l e x y i k) g
+
+  -- the value gathered is that of some arrival
+  abbrev Attained : V → List (Down S V) → Type 0
+  Attained v l = (x : Down S V) × Among x l × (x.value ≡ v)
+
+  lesser-one : (a b : V) (l : List (Down S V)) → Attained a l → Attained b l → Attained (by.tally.lesser a b) l
+  lesser-one a b l p q = rw (tallied.lesser_is a b) (cond_both (by.tally.not_above a b) a b (λ v. Attained v l) (λ _. p) (λ _. q))
+
+  fold-value : (y : Down S V) (all l : List (Down S V)) → Attained y.value all → ((z : Down S V) → Among z l → Among z all) → Attained (fold (merge by.rule by.tally) y l).value all
+  unfolding merge
+  fold-value y all [] p f = p
+  fold-value y all (z ∷ l) p f = fold-value (merge by.rule by.tally y z) all l (lesser-one y.value z.value all p (z, f z (inl refl), refl)) (λ t i. f t (inr i))
+
+  value-gather : (l : List (Down S V)) (m : Down S V) → gather (merge by.rule by.tally) l ≡ Some m → Attained m.value l
+  unfolding gather
+  value-gather [] m g = absurd cc
+  value-gather (y ∷ l) m g =
+      let z : fold (merge by.rule by.tally) y l ≡ m = cc in
+      rw (← z) (fold-value y (y ∷ l) l (y, inl refl, refl) (λ t i. inr i))
+
+  -- ---- exact labels
+  pub record Sound (p : List ℕ) : Type 0 where
+    pub keeps : Keeps p
+    pub timely : KeepsHours by.round p
+    pub told : Told by ruled tallied p
+
+  pub record Exact (l : Down S V) (p : List ℕ) : Type 0 where
+    pub all : (j : ℕ) → StandsIn j p → has l.all j ≡ true
+    pub finish : l.finish ≡ (trip_after by.round by.tally p).van.finish
+    pub lasts : l.lasts ≡ bit_of (trip_after by.round by.tally p).van.last
+    pub state : l.state ≡ state_of by.rule p
+
+  sound_none : Sound []
+  sound_none = record { keeps = ruled.keeps_none; timely = each_none _; told = told_none by ruled tallied }
+
+  exact-first : Exact (first_label by.rule by.tally) []
+  exact-first = record { all = λ j i. absurd i; finish = refl; lasts = refl; state = refl }
+
+  exact_same : (x y : Down S V) (p : List ℕ) → Agree by ruled x y → Exact x p → Exact y p
+  exact_same x y p s e = record {
+    all = λ j i. rw (← s.all) (e.all j i);
+    finish = sym s.finish ∙ e.finish;
+    lasts = sym s.lasts ∙ e.lasts;
+    state = sym s.state ∙ e.state;
+  }
+
+  -- what a sweep that takes nothing says of an arc
+  pub record Clear (l : Down S V) (j : ℕ) : Type 0 where
+    pub new : has l.all j ≡ false
+    pub early : finish by.round l.finish (leg by.round l.lasts j) j ≤ (door by.round j).closes
+    pub free : by.rule.bars l.state j ≡ false
+
+  clear : (i h j : ℕ) (l : Down S V) (u : Option Up) → is_barred by.round by.rule i h j (Some l) u ≡ false → Clear l j
+  clear i h j l None e = absurd (true≢false e)
+  clear i h j l (Some u) e = record { new = grind (arith, e); early = grind (arith, nat_tests, e); free = grind (arith, e) }
+
+  -- one door on
+  pub record Onward (l : Down S V) (p : List ℕ) (j : ℕ) : Type 0 where
+    pub sound : Sound (p ++ (j ∷ []))
+    pub exact : Exact (arrival_over by l j) (p ++ (j ∷ []))
+    pub worth : l.value ≡ cost by.round by.tally p → (arrival_over by l j).value ≡ cost by.round by.tally (p ++ (j ∷ []))
+
+  onward : (l : Down S V) (p : List ℕ) (j : ℕ) → length p < 16 → IsDoor by.round.n j → Sound p → Exact l p → Clear l j → Onward l p j
+  unfolding arrival_over
+  onward l p j k d s e c =
+      let n : ¬ StandsIn j p = λ i. absurd (true≢false (sym (e.all j i) ∙ c.new)) in
+      let z = trip-snoc by.round by.tally p j in
+      let t = s.told in
+      let g : leg by.round l.lasts j ≡ drive by.round (trip_after by.round by.tally p).van.last j =
+      ap (λ (m : ℕ). leg by.round m j) e.lasts ∙ leg-one by.round (trip_after by.round by.tally p).van.last j t.here (ne_eqb (trip_after by.round by.tally p).van.last j (t.last j n d.low)) in
+      let f : finish by.round l.finish (leg by.round l.lasts j) j ≡ (next_trip by.round by.tally (trip_after by.round by.tally p) j).van.finish =
+      ap (λ (x : ℕ). finish by.round x (leg by.round l.lasts j) j) e.finish ∙ ap (λ (x : ℕ). finish by.round (trip_after by.round by.tally p).van.finish x j) g in
+      let v : finish_of by.round (p ++ (j ∷ [])) ≡ finish by.round l.finish (leg by.round l.lasts j) j =
+      ap (λ (a : Van). a.finish) (sym (trip-van by.round by.tally (p ++ (j ∷ [])))) ∙ ap (λ (q : Trip V). q.van.finish) z ∙ sym f in
+      record {
+        sound = record {
+          keeps = ruled.clear_keeps p j (record { part = t.part; door = d; new = n }) s.keeps (rw (← e.state) c.free);
+          timely = each_more _ p j s.timely (rw v c.early);
+          told = told-next by ruled tallied p j t d k n;
+        };
+        exact = record {
+          all = λ i h. elim (in-last p i j h) [ inl x ↦ or_left l.all (bit_of j) i (e.all i x) | inr y ↦ or_right l.all (bit_of j) i (rw y (one-self j)) ];
+          finish = f ∙ ap (λ (q : Trip V). q.van.finish) (sym z);
+          lasts = ap (λ (q : Trip V). bit_of q.van.last) (sym z);
+          state = ap (λ (q : S). by.rule.step q j) e.state ∙ sym (state-snoc by.rule p j);
+        };
+        worth = λ v. ap (λ (q : V). by.tally.step q j (leg by.round l.lasts j) (finish by.round l.finish (leg by.round l.lasts j) j)) v
+            ∙ ap (λ (q : ℕ). by.tally.step (cost by.round by.tally p) j q (finish by.round l.finish (leg by.round l.lasts j) j)) g
+            ∙ ap (λ (q : ℕ). by.tally.step (cost by.round by.tally p) j (drive by.round (trip_after by.round by.tally p).van.last j) q) f
+            ∙ ap (λ (q : Trip V). q.cost) (sym z);
+      }
+
+  -- ---- settled
+  settles-arc : (i : ℕ) (labs : List (Option (Down S V))) (L : Layer) (Ls : Net) (a j b : ℕ) (l : Down S V) → settles by i labs (L ∷ Ls) ≡ true
+      → target (node L a) j ≡ suc b → get_or labs a None ≡ Some l → Clear l j
+  unfolding settles keeps_all_arcs
+  settles-arc i labs L Ls a j b l s e g =
+      clear i (suc (length Ls)) j l (get_or (ups Ls) b None) (rw (← g) (not-true _ (every_arc-at (λ a j b. not (is_barred by.round by.rule i (suc (length Ls)) j (get_or labs a None) (get_or (ups Ls) b None))) 0 L a a j b (omega arith)
+      (and_parts _ _ (and_parts (agrees by labs (L ∷ Ls)) (quiet by i labs (L ∷ Ls)) s).1).0 e)))
+
+  agreed-at : (labs : List (Option (Down S V))) (L : Layer) (k b : ℕ) → places_agree by labs L k ≡ true → b < k → all_agree by.rule (arrivals_at (arrival_over by) b labs L) ≡ true
+  unfolding places_agree
+  agreed-at labs L zero b e h = absurd (not-suc-le-zero h)
+  agreed-at labs L (suc k) b e h = grind (arith, nat_tests, e, h, agreed-at labs L k b)
+
+  settles-next : (i : ℕ) (labs : List (Option (Down S V))) (L M : Layer) (Ls : Net) → settles by i labs (L ∷ M ∷ Ls) ≡ true
+      → (places_agree by labs L (length M) ≡ true) × (settles by (suc i) (labels_next by labs L (length M)) (M ∷ Ls) ≡ true)
+  unfolding settles in_arcs_agree keeps_all_arcs
+  settles-next i labs L M Ls s =
+      let p = and_parts (agrees by labs (L ∷ M ∷ Ls)) (quiet by i labs (L ∷ M ∷ Ls)) s in
+      let q = and_parts (places_agree by labs L (length M)) (agrees by (labels_next by labs L (length M)) (M ∷ Ls)) p.0 in
+      (q.0, rw q.1 (and_parts _ (quiet by (suc i) (labels_next by labs L (length M)) (M ∷ Ls)) p.1).1)
+
+  -- ---- every path is sound
+  pub paths-sound : (i : ℕ) (p w : List ℕ) (labs : List (Option (Down S V))) (Ls : Net) (a : ℕ) (l : Down S V) → length p + length Ls ≡ by.round.n → settles by i labs Ls ≡ true
+      → get_or labs a None ≡ Some l → Exact l p → Sound p → IsEven by.round.n Ls → PathFrom Ls a w → Sound (p ++ w)
+  unfolding labels_next
+  paths-sound i p [] labs [] a l t s g e o even q = rw (append-nil p) o
+  paths-sound i p (j ∷ w) labs [] a l t s g e o even q = absurd q
+  paths-sound i p [] labs (L ∷ Ls) a l t s g e o even q = absurd q
+  paths-sound i p (j ∷ []) labs (L ∷ []) a l t s g e o even q =
+      (onward l p j (omega (arith, by.round.most)) (even-door by.round L even.0 a j q.0 q.1) o e (settles-arc i labs L [] a j q.0 l s q.1 g)).sound
+  paths-sound i p (j ∷ k ∷ w) labs (L ∷ []) a l t s g e o even q = absurd q.2
+  paths-sound i p (j ∷ w) labs (L ∷ M ∷ Ls) a l t s g e o even q =
+      let b = q.0 in
+      let on = onward l p j (omega (arith, by.round.most)) (even-door by.round L even.0 a j b q.1) o e (settles-arc i labs L (M ∷ Ls) a j b l s q.1 g) in
+      let h = inside (M ∷ Ls) b w q.2 in
+      let n = next-at {A = Down S V} (merge by.rule by.tally) (λ x y. Unit {0}) (λ x. tt) (λ x y z f g. tt) (λ x y. tt) (λ x y. tt) (arrival_over by) labs L (length M) a j b l q.1 g h in
+      let sn = settles-next i labs L M Ls s in
+      let same = same-gather (arrivals_at (arrival_over by) b labs L) n.0 (arrival_over by l j) (agreed-at labs L (length M) b sn.0 h)
+      (next-some (arrival_over by) (merge by.rule by.tally) labs L (length M) b n.0 n.1) (ins-in (arrival_over by) (merge by.rule by.tally) b labs L a j l q.1 g) in
+      rw (← (snoc-assoc p w j)) (paths-sound (suc i) (p ++ (j ∷ [])) w (labels_next by labs L (length M)) (M ∷ Ls) b n.0 (omega (arith, length-snoc p j)) sn.1 n.1
+      (exact_same (arrival_over by l j) n.0 (p ++ (j ∷ [])) same on.exact) on.sound even.1 q.2)
+
+  pub paths-allowed : (D : Net) (w : List ℕ) → length D ≡ by.round.n → IsEven by.round.n D → settled by D ≡ true → PathFrom D 0 w → IsAllowed by.round Keeps w
+  unfolding settled
+  paths-allowed D w t even s q =
+      let o = paths-sound 0 [] w (first_labels by.rule by.tally) D 0 (first_label by.rule by.tally) (omega arith) s refl exact-first sound_none even q in
+      record { whole = path-length D 0 w q ∙ t; part = o.told.part; keeps = o.keeps; timely = o.timely }
+
+  -- ---- the bound is the cost of a path
+  module _ (D : Net) where
+    record Reached (Ls : Net) (k a : ℕ) (l : Down S V) : Type 0 where
+      way : List ℕ
+      leads : (w : List ℕ) → PathFrom Ls a w → PathFrom D 0 (way ++ w)
+      sound : Sound way
+      exact : Exact l way
+      worth : l.value ≡ cost by.round by.tally way
+      long : length way ≡ k
+
+    -- over an arc
+    onto : (Ls : Net) (L : Layer) (k : ℕ) (labs : List (Option (Down S V))) (b : ℕ) (x : Down S V) (f : From (arrival_over by) b labs L x)
+        (c : Reached (L ∷ Ls) k f.source f.label) → Onward f.label c.way f.door → Reached Ls (suc k) b x
+    onto Ls L k labs b x f c on = record {
+      way = c.way ++ (f.door ∷ []);
+      leads = λ w q. rw (snoc-assoc c.way w f.door) (c.leads (f.door ∷ w) (b, f.arc, q));
+      sound = on.sound;
+      exact = rw f.is on.exact;
+      worth = rw f.is (on.worth c.worth);
+      long = length-snoc c.way f.door ∙ ap suc c.long;
+    }
+
+    -- to whatever gathered it: one of the arrivals has its value
+    over : (Ls : Net) (L : Layer) (i k : ℕ) (labs : List (Option (Down S V))) (b : ℕ) (m : Down S V) → k < 16 → EvenLayer by.round.n L → settles by i labs (L ∷ Ls) ≡ true
+        → ((a : ℕ) (l : Down S V) → get_or labs a None ≡ Some l → Reached (L ∷ Ls) k a l) → gather (merge by.rule by.tally) (arrivals_at (arrival_over by) b labs L) ≡ Some m
+        → (x : Down S V) × Among x (arrivals_at (arrival_over by) b labs L) × (x.value ≡ m.value) × Reached Ls (suc k) b x
+    over Ls L i k labs b m h even s reach g =
+        let v = value-gather (arrivals_at (arrival_over by) b labs L) m g in
+        let f = ins-from (arrival_over by) b labs L v.0 v.1 in
+        let c = reach f.source f.label f.labelled in
+        let on = onward f.label c.way f.door (omega (arith, c.long)) (even-door by.round L even f.source f.door b f.arc) c.sound c.exact
+        (settles-arc i labs L Ls f.source f.door b f.label s f.arc f.labelled) in
+        (v.0, v.1, v.2, onto Ls L k labs b v.0 f c on)
+
+    attain : (i k : ℕ) (labs : List (Option (Down S V))) (Ls : Net) (l : Down S V) → k + length Ls ≡ by.round.n → settles by i labs Ls ≡ true → IsEven by.round.n Ls
+        → ((a : ℕ) (l : Down S V) → get_or labs a None ≡ Some l → Reached Ls k a l) → end_label (arrival_over by) (merge by.rule by.tally) labs Ls ≡ Some l
+        → (w : List ℕ) × PathFrom D 0 w × (cost by.round by.tally w ≡ l.value)
+    unfolding end_label labels_next
+    attain i k labs [] l t s even reach g =
+        let c = reach 0 l g in (c.way ++ [], c.leads [] refl, ap (cost by.round by.tally) (append-nil c.way) ∙ sym c.worth)
+    attain i k labs (L ∷ []) l t s even reach g =
+        let x = over [] L i k labs 0 l (omega (arith, by.round.most)) even.0 s reach (next-some (arrival_over by) (merge by.rule by.tally) labs L 1 0 l g) in
+        let c = x.3 in
+        (c.way ++ [], c.leads [] refl, ap (cost by.round by.tally) (append-nil c.way) ∙ sym c.worth ∙ x.2)
+    attain i k labs (L ∷ M ∷ Ls) l t s even reach g =
+        let sn = settles-next i labs L M Ls s in
+        attain (suc i) (suc k) (labels_next by labs L (length M)) (M ∷ Ls) l (omega arith) sn.1 even.1
+        (λ b m e.
+        let e' = next-some (arrival_over by) (merge by.rule by.tally) labs L (length M) b m e in
+        let h = next-within (arrival_over by) (merge by.rule by.tally) labs L (length M) b m e in
+        let x = over (M ∷ Ls) L i k labs b m (omega (arith, by.round.most)) even.0 s reach e' in
+        let same = same-gather (arrivals_at (arrival_over by) b labs L) m x.0 (agreed-at labs L (length M) b sn.0 h) e' x.1 in
+        let c = x.3 in
+        record { way = c.way; leads = c.leads; sound = c.sound; exact = exact_same x.0 m c.way same c.exact; worth = sym x.2 ∙ c.worth; long = c.long })
+        g
+
+    pub bound-attained : (v : V) → length D ≡ by.round.n → IsEven by.round.n D → settled by D ≡ true → bound by D ≡ Some v → (w : List ℕ) × PathFrom D 0 w × (cost by.round by.tally w ≡ v)
+    unfolding settled bound
+    bound-attained v t even s e =
+        let start = first-only (first_label by.rule by.tally) (λ a l. Reached D 0 a l) (record { way = []; leads = λ w q. q; sound = sound_none; exact = exact-first; worth = refl; long = refl }) in
+        let o = end_label (arrival_over by) (merge by.rule by.tally) (first_labels by.rule by.tally) D in
+        elim o as (λ x. o ≡ x → valueO by x ≡ Some v → (w : List ℕ) × PathFrom D 0 w × (cost by.round by.tally w ≡ v)) [
+          | None ↦ λ f g. absurd cc
+          | Some l ↦ λ f g. let y : l.value ≡ v = cc in let c = attain 0 0 (first_labels by.rule by.tally) D l (omega arith) s even start f in (c.0, c.1, c.2 ∙ y)
+        ] refl e
