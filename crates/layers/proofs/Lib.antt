@@ -2,7 +2,6 @@ pub mod Bridge
 pub mod Counts
 pub mod Flows
 pub mod Main
-pub mod Meaning
 pub mod Model
 pub mod Proper
 pub mod Shaped
