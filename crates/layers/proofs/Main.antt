@@ -305,13 +305,12 @@ record Last (D : Net) (x d b : ℕ) (w : List ℕ) : Type 0 where
   arc : target (node (get_or D d []) source) door ≡ suc b
 
 path-last : (D : Net) (x d b : ℕ) (w : List ℕ) → PathTo D x w b → length w ≡ suc d → Last D x d b w
-path-last D x d b [] q e = absurd (omega arith)
-path-last [] x d b (j ∷ w) q e = absurd q
 path-last (L ∷ Ls) x zero b (j ∷ []) q e = record { before = []; door = j; source = x; is = refl; path = refl; long = refl; arc = q.1 ∙ ap suc q.2 }
-path-last (L ∷ Ls) x zero b (j ∷ k ∷ w) q e = absurd (omega arith)
 path-last (L ∷ Ls) x (suc d) b (j ∷ w) q e =
     let s = path-last Ls q.0 d b w q.2 (omega arith) in
     record { before = j ∷ s.before; door = s.door; source = s.source; is = ap (λ (z : List ℕ). j ∷ z) s.is; path = (q.0, q.1, s.path); long = ap suc s.long; arc = s.arc }
+path-last [] x d b (j ∷ w) q e = absurd q
+path-last D x d b w q e = absurd (omega arith)
 
 even-at : (n : ℕ) (D : Net) (d : ℕ) → IsEven n D → d < length D → EvenLayer n (get_or D d [])
 even-at n [] d s h = absurd (not-suc-le-zero h)

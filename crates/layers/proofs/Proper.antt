@@ -162,18 +162,10 @@ module _ {S V : Type 0} (by : Setting S V) (self : (s : S) → by.rule.same s s 
       ]
 
   -- two groups: a first arrival, and one that disagrees with it
-  record Groups (l : List (Down S V)) : Type 0 where
-    one : Down S V
-    is_first : first_arrival l ≡ Some one
-    one_in : Among one l
-    other : Down S V
-    other_in : Among other l
-    differ : agree by.rule one other ≡ false
-
-  groups : (l : List (Down S V)) → all_agree by.rule l ≡ false → Groups l
+  groups : (l : List (Down S V)) → all_agree by.rule l ≡ false → (x : Down S V) × (first_arrival l ≡ Some x) × Among x l × (y : Down S V) × Among y l × (agree by.rule x y ≡ false)
   unfolding all_agree
   groups [] e = absurd (true≢false e)
-  groups (x ∷ l) e = let q = odd-one x l e in record { one = x; is_first = refl; one_in = inl refl; other = q.0; other_in = inr q.1; differ = q.2 }
+  groups (x ∷ l) e = let q = odd-one x l e in (x, refl, inl refl, q.0, inr q.1, q.2)
 
   module _ (a : ℕ) (labs : List (Option (Down S V))) (L M : Layer) (inn : a < length M) (two : all_agree by.rule (arrivals_at (arrival_over by) a labs L) ≡ false) where
     abbrev h : Option (Down S V)
@@ -194,21 +186,20 @@ module _ {S V : Type 0} (by : Setting S V) (self : (s : S) → by.rule.same s s 
     pub part-fed : IsFed L (length M) → IsFed (redirect f L) (length (M ++ (node M a ∷ [])))
     part-fed g c k = new (ltb c (length M)) refl (eqb c a) refl
       where
-        two' : Groups (arrivals_at (arrival_over by) a labs L)
-        two' = groups (arrivals_at (arrival_over by) a labs L) two
-
         new : (p : Bool) → ltb c (length M) ≡ p → (q : Bool) → eqb c a ≡ q → (u : ℕ) × (j : ℕ) × (target (node (redirect f L) u) j ≡ suc c)
         new true e true d =
-            let x = two'.one in
-            let w = ins-from (arrival_over by) a labs L x two'.one_in in
-            (w.source, w.door, moves-to w.source w.door a false w.arc (at_a x x two'.is_first w ∙ ap not (agree-self x)) ∙ ap suc (sym (eqb-true c a d)))
+            let g = groups (arrivals_at (arrival_over by) a labs L) two in
+            let x = g.0 in
+            let w = ins-from (arrival_over by) a labs L x g.2 in
+            (w.source, w.door, moves-to w.source w.door a false w.arc (at_a x x g.1 w ∙ ap not (agree-self x)) ∙ ap suc (sym (eqb-true c a d)))
         new true e false d =
             let s = g c (ltb-true c (length M) e) in
             (s.0, s.1, moves-to s.0 s.1 c false s.2 (ap (λ (z : Bool). z && differs_from_first by h (get_or labs s.0 None) s.1) d))
         new false e q d =
-            let w = ins-from (arrival_over by) a labs L two'.other two'.other_in in
+            let g = groups (arrivals_at (arrival_over by) a labs L) two in
+            let w = ins-from (arrival_over by) a labs L g.3 g.4 in
             let z : c ≡ length M = omega (arith, length-snoc M (node M a), ltb-false c (length M) e) in
-            (w.source, w.door, moves-to w.source w.door a true w.arc (at_a two'.one two'.other two'.is_first w ∙ ap not two'.differ) ∙ ap suc (sym z))
+            (w.source, w.door, moves-to w.source w.door a true w.arc (at_a g.0 g.3 g.1 w ∙ ap not g.5) ∙ ap suc (sym z))
 
     pub part-led : IsLed L → IsLed (redirect f L)
     part-led g u k =
@@ -302,13 +293,11 @@ both-even zero (s ∷ x) (t ∷ y) a b = absurd (omega arith)
 both-even (suc n) (s ∷ x) (t ∷ y) a b = ap suc (both-even n x y (omega arith) (omega arith))
 
 -- ---- tidying
-compress-short : (fs : List Bool) (L : Layer) (m : ℕ) → length L ≤ m → length (compress fs L) ≤ m
+compress-short : (fs : List Bool) (L : Layer) → length (compress fs L) ≤ length L
 unfolding compress
-compress-short [] L m h = omega arith
-compress-short (f ∷ fs) [] m h = omega arith
-compress-short (true ∷ fs) (x ∷ L) zero h = absurd (not-suc-le-zero h)
-compress-short (true ∷ fs) (x ∷ L) (suc m) h = let z = compress-short fs L m (le_of_suc-le-suc h) in omega arith
-compress-short (false ∷ fs) (x ∷ L) m h = compress-short fs L m (omega arith)
+compress-short [] L = omega arith
+compress-short (f ∷ fs) [] = omega arith
+compress-short (f ∷ fs) (x ∷ L) = grind (arith, compress-short fs L)
 
 tidy-less : (n W : ℕ) (fr : List (Option Mark)) (Ls : Net) → (length (tidy fr Ls) ≡ length Ls) × (IsEven n Ls → IsEven n (tidy fr Ls)) × (IsRoomy W Ls → IsRoomy W (tidy fr Ls))
 unfolding tidy
@@ -317,7 +306,7 @@ tidy-less n W fr (L ∷ Ls) =
     let r = tidy-less n W (marks_next fr L (width Ls)) Ls in
     let f : ℕ → ℕ → ℕ → ℕ = λ a j b. renumber (flags (marks_next fr L (width Ls)) (marks_up Ls)) b in
     let fs = flags fr (marks_up (L ∷ Ls)) in
-    (ap suc r.0, λ h. (even-compress n fs (redirect f L) (even-redirect n f L h.0), r.1 h.1), λ h. (compress-short fs (redirect f L) W (omega (arith, h.0, redirect-length f L)), r.2 h.1))
+    (ap suc r.0, λ h. (even-compress n fs (redirect f L) (even-redirect n f L h.0), r.1 h.1), λ h. (omega (arith, h.0, redirect-length f L, compress-short fs (redirect f L)), r.2 h.1))
 
 tidied-less : (n W : ℕ) (Ls : Net) → (length (tidied_arcs Ls) ≡ length Ls) × (width (tidied_arcs Ls) ≡ width Ls) × (IsEven n Ls → IsEven n (tidied_arcs Ls)) × (IsRoomy W Ls → IsRoomy W (tidied_arcs Ls))
 unfolding tidied_arcs
@@ -342,9 +331,6 @@ tied-ranged (L ∷ []) t = (t, tt)
 tied-ranged (L ∷ M ∷ Ls) t = (t.0, tied-ranged (M ∷ Ls) t.3)
 
 -- ---- arcs taken out, layer by layer
-less-ranged : (t : ℕ → ℕ → ℕ → Bool) (L : Layer) (m : ℕ) → IsRanged L m → IsRanged (redirect (λ a j b. cond (t a j b) 0 (suc b)) L) m
-less-ranged t L m h a j c e = h a j c (kept-back t L a j c e)
-
 -- what is left has the form of what was there
 pub record Less (n W : ℕ) (Ls Ms : Net) : Type 0 where
   pub deep : length Ms ≡ length Ls
@@ -359,7 +345,7 @@ less-layer n W t L Ls Ms l = record {
   wide = redirect-length (λ a j b. cond (t a j b) 0 (suc b)) L;
   even = λ h. (even-redirect n (λ a j b. cond (t a j b) 0 (suc b)) L h.0, l.even h.1);
   roomy = λ h. (omega (arith, h.0, redirect-length (λ a j b. cond (t a j b) 0 (suc b)) L), l.roomy h.1);
-  ranged = λ h. (rw l.wide (less-ranged t L (width Ls) h.0), l.ranged h.1);
+  ranged = λ h. (rw l.wide (λ a j c e. h.0 a j c (kept-back t L a j c e)), l.ranged h.1);
 }
 
 less_refl : (n W : ℕ) (Ls : Net) → Less n W Ls Ls
@@ -452,12 +438,11 @@ module _ {S V : Type 0} (by : Setting S V) (w : 1 ≤ by.width) where
       evens zero = tt
       evens (suc k) = (λ a h. let z : a ≡ 0 = omega arith in rw z (table-long by.round.n (λ m. 1)), evens k)
 
-  pub proper-tidied : (Ls : Net) → length Ls ≡ by.round.n → width Ls ≡ 1 → IsEven by.round.n Ls → IsRoomy by.width Ls → IsLawful by.round.n by.width (tidied_arcs Ls)
-  proper-tidied Ls a b c d = let t = tidied-less by.round.n by.width Ls in record { deep = t.0 ∙ a; one_first = t.1 ∙ b; even = t.2 c; roomy = t.3 d; tied = tidied-tied Ls }
-
   -- what is left of a proper net, tidied, is proper
   pub proper-less : (Ls Ms : Net) → Less by.round.n by.width Ls Ms → IsLawful by.round.n by.width Ls → IsLawful by.round.n by.width (tidied_arcs Ms)
-  proper-less Ls Ms l p = proper-tidied Ms (l.deep ∙ p.deep) (l.wide ∙ p.one_first) (l.even p.even) (l.roomy p.roomy)
+  proper-less Ls Ms l p =
+      let t = tidied-less by.round.n by.width Ms in
+      record { deep = t.0 ∙ l.deep ∙ p.deep; one_first = t.1 ∙ l.wide ∙ p.one_first; even = t.2 (l.even p.even); roomy = t.3 (l.roomy p.roomy); tied = tidied-tied Ms }
 
   pub proper-kept : (goes : ℕ → ℕ → ℕ → Option (Down S V) → Option Up → Bool) (Ls : Net) (labs : List (LayerLabels S V)) → IsLawful by.round.n by.width Ls → IsLawful by.round.n by.width (tidied_arcs (kept_arcs goes 0 Ls labs))
   proper-kept goes Ls labs p = proper-less Ls _ (kept-less by.round.n by.width goes 0 Ls labs) p
@@ -484,8 +469,3 @@ module _ {S V : Type 0} (by : Setting S V) (w : 1 ≤ by.width) where
   pub proper-parted-at : ((s : S) → by.rule.same s s ≡ true) → (d a : ℕ) (labs : List (Option (Down S V))) (Ls : Net) → a < length (get_or Ls (suc d) []) → length (get_or Ls (suc d) []) < by.width
       → all_agree by.rule (arrivals_at (arrival_over by) a labs (get_or Ls d [])) ≡ false → IsLawful by.round.n by.width Ls → IsLawful by.round.n by.width (parted_arcs by d a labs Ls)
   proper-parted-at self d a labs Ls x y z p = edited-lawful (part-edited self d a labs Ls x y z) p
-
--- parting, by the laws of the rule: an arrival agrees with itself
-module _ {S V : Type 0} (by : Setting S V) (self : (s : S) → by.rule.same s s ≡ true) (w : 1 ≤ by.width) where
-  pub proper-part : (d a : ℕ) (Ls : Net) → a < length (get_or Ls (suc d) []) → length (get_or Ls (suc d) []) < by.width → one_group by d a (first_labels by.rule by.tally) Ls ≡ false → IsLawful by.round.n by.width Ls → IsLawful by.round.n by.width (part_at by d a (first_labels by.rule by.tally) Ls)
-  proper-part d a Ls x y z p = proper-parted-at by w self d a (labels_at by d (first_labels by.rule by.tally) Ls) Ls x y z p

@@ -18,7 +18,7 @@ use Rattle.layers.specs.Calls.{EachCut, kept_arcs, nodes, arcs, labels, layer, r
 use Rattle.layers.proofs.Model.{kept, sweep, cut, one_group, part_at, agrees, settles, bound as boundOf, settled as settled_of, labels_at}
 use Rattle.layers.proofs.Counts.{same_bool, kept-same, sweep-fewer, settled-yes, settled-if}
 use Rattle.layers.proofs.Bridge.{Full, stood, map-table, full-first, layers-laid, drawn-stood, kept-stood, agrees-stood, stood-at, value-stood, laid-long, later-stays}
-use Rattle.layers.proofs.Proper.{proper-opened, proper-kept, proper-part, proper-join}
+use Rattle.layers.proofs.Proper.{proper-opened, proper-kept, proper-parted-at, proper-join}
 use Rattle.layers.specs.Settings.{Setting}
 
 -- ---- what sweep, part, join and cut each keep, every list of calls keeps
@@ -207,7 +207,7 @@ module _ {S V : Type 0} (by : Setting S V) (w : 1 ≤ by.width) (later : List (N
         → (r : Reached P xs) → P (part_at by d c first r.net) → Reached P (parted_records by i a xs)
     reached-part i a d c xs e f hi inn apart room r h = record {
       net = part_at by d c first r.net;
-      well = proper-part by self w d c r.net (omega (arith, count-of P xs r i d e hi)) (omega (arith, count-of P xs r i d e hi)) (sym (group-of P xs r i a d c e f hi) ∙ apart) r.well;
+      well = proper-parted-at by w self d c (labels_at by d first r.net) r.net (omega (arith, count-of P xs r i d e hi)) (omega (arith, count-of P xs r i d e hi)) (sym (group-of P xs r i a d c e f hi) ∙ apart) r.well;
       is = ap (parted_records by i a) r.is ∙ split-X i a d c r.net r.well e f hi;
       holds = h;
     }

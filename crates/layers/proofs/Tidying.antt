@@ -238,15 +238,12 @@ count-full P zero h b lt = absurd (omega arith)
 count-full P (suc m) (inl h) b lt = elim (cases_eq b m) [ inl e ↦ rw e h.0 | inr ne ↦ count-full P m h.1 b (omega arith) ]
 count-full P (suc m) (inr h) b lt = absurd (omega (arith, count-le P m (suc m) h.1))
 
--- a place from which a path leads on is within its layer, or the end
-place-within : (D : Net) (i c : ℕ) (v : List ℕ) → PathFrom (drop i D) c v → (c < length (layer_of D i)) ⊎ (c ≡ 0)
-place-within [] zero c [] p = inr p
-place-within [] zero c (j ∷ v) p = absurd p
-place-within [] (suc i) c [] p = inr p
-place-within [] (suc i) c (j ∷ v) p = absurd p
-place-within (L ∷ D) zero c [] p = absurd p
-place-within (L ∷ D) zero c (j ∷ v) p = inl (has-arc L c j p.0 p.1)
-place-within (L ∷ D) (suc i) c v p = place-within D i c v p
+-- a layer is as wide as it has nodes, and past the last there is the end
+width-at : (D : Net) (i : ℕ) → (width (drop i D) ≡ length (layer_of D i)) ⊎ (width (drop i D) ≡ 1)
+width-at [] zero = inr refl
+width-at [] (suc i) = inr refl
+width-at (L ∷ D) zero = inl refl
+width-at (L ∷ D) (suc i) = width-at D i
 
 -- where all stay, each keeps its place
 own-place : (D : Net) (i b k : ℕ) → ((c : ℕ) → c < b → Stays D i c) → CountBelow (Stays D i) b k → b ≡ k
@@ -290,7 +287,7 @@ tidy-same D t = record {
     stays (suc i) b lt = t.nodes i b lt
 
     before : (i c : ℕ) → IsOnPath D (suc i) c → (b : ℕ) → b < c → IsOnPath D (suc i) b
-    before i c o b lt = elim (place-within D (suc i) c o.on.0 o.on.1) [ inl h ↦ t.nodes i b (omega arith) | inr e ↦ absurd (omega arith) ]
+    before i c o b lt = let h = inside (drop (suc i) D) c o.on.0 o.on.1 in elim (width-at D (suc i)) [ inl e ↦ t.nodes i b (omega arith) | inr e ↦ absurd (omega arith) ]
 
 pub tidy-stays : TidyStays
 tidy-stays D = (λ t. sym ((tidy-means D D).0 (tidy-same D t)), λ e. same-tidy D ((tidy-means D D).1 (sym e)))

@@ -87,11 +87,10 @@ rank_lt (f ∷ fs) (x ∷ X) b e h = grind (arith, e, rank_lt fs X)
 
 pub compress-back : (fs : List Bool) (X : Layer) (c : ℕ) → c < length (compress fs X) → (b : ℕ) × (get_or fs b false ≡ true) × (rank fs b ≡ c) × (b < length X)
 unfolding rank compress
-compress-back [] X c h = absurd (not-suc-le-zero h)
-compress-back (f ∷ fs) [] c h = absurd (not-suc-le-zero h)
 compress-back (true ∷ fs) (x ∷ X) zero h = (0, refl, refl, omega arith)
 compress-back (true ∷ fs) (x ∷ X) (suc c) h = let q = compress-back fs X c (le_of_suc-le-suc h) in (suc q.0, q.1, ap suc q.2, omega arith)
 compress-back (false ∷ fs) (x ∷ X) c h = let q = compress-back fs X c h in (suc q.0, q.1, q.2, omega arith)
+compress-back fs X c h = absurd (omega arith)
 
 pub renumber-back : (fs : List Bool) (b c : ℕ) → renumber fs b ≡ suc c → (get_or fs b false ≡ true) × (rank fs b ≡ c)
 unfolding renumber

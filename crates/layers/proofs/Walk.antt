@@ -117,14 +117,7 @@ module _ {S V : Type 0} {Keeps : List ℕ → Type 0} {Stands : S → List ℕ �
 
   less-left : (x y : Down S V) → Less x (merge by.rule by.tally x y)
   unfolding Less merge
-  less-left x y p f = record {
-    part = f.part;
-    sets = tells-left x.all x.some y.all y.some p f.sets;
-    finish = omega (arith, f.finish);
-    lasts = or_left x.lasts y.lasts (trip_after by.round by.tally p).van.last f.lasts;
-    state = ruled.cover_left x.state y.state p f.part f.state;
-    value = tallied.order_chain _ x.value _ (lesser-left x.value y.value) f.value;
-  }
+  less-left x y p f = grind (arith, f, tells-left, or_left, ruled.cover_left, tallied.order_chain, lesser-left)
 
   less-right : (x y : Down S V) → Less y (merge by.rule by.tally x y)
   unfolding Less merge
@@ -319,13 +312,7 @@ module _ {S V : Type 0} {Keeps : List ℕ → Type 0} {Stands : S → List ℕ �
 
   pub agree-yes : (x y : Down S V) → agree by.rule x y ≡ true → Agree x y
   unfolding agree
-  agree-yes x y e = record {
-    all = grind (arith, nat_tests, e);
-    some = grind (arith, nat_tests, e);
-    finish = grind (arith, nat_tests, e);
-    lasts = grind (arith, nat_tests, e);
-    state = ruled.same_is x.state y.state (grind (arith, nat_tests, e));
-  }
+  agree-yes x y e = grind (arith, nat_tests, e, ruled.same_is)
 
   yes-agree : (x y : Down S V) → Agree x y → agree by.rule x y ≡ true
   unfolding agree
@@ -340,23 +327,11 @@ module _ {S V : Type 0} {Keeps : List ℕ → Type 0} {Stands : S → List ℕ �
   -- merging what agrees gives the same
   pub agree-merge : (x y z : Down S V) → Agree x y → Agree x z → Agree x (merge by.rule by.tally y z)
   unfolding merge
-  agree-merge x y z p q = record {
-    all = sym (and_self x.all) ∙ ap (λ (t : ℕ). bit_and t x.all) p.all ∙ ap (bit_and y.all) q.all;
-    some = sym (or_self x.some) ∙ ap (λ (t : ℕ). bit_or t x.some) p.some ∙ ap (bit_or y.some) q.some;
-    finish = omega (arith, p.finish, q.finish);
-    lasts = sym (or_self x.lasts) ∙ ap (λ (t : ℕ). bit_or t x.lasts) p.lasts ∙ ap (bit_or y.lasts) q.lasts;
-    state = sym (ruled.cover_same x.state) ∙ ap (λ (t : S). by.rule.cover t x.state) p.state ∙ ap (by.rule.cover y.state) q.state;
-  }
+  agree-merge x y z p q = grind (arith, p, q, and_self, or_self, ruled.cover_same)
 
   pub agree-arrive : (x y : Down S V) (j : ℕ) → Agree x y → Agree (arrival_over by x j) (arrival_over by y j)
   unfolding arrival_over
-  agree-arrive x y j p = record {
-    all = ap (λ (t : ℕ). bit_or t (bit_of j)) p.all;
-    some = ap (λ (t : ℕ). bit_or t (bit_of j)) p.some;
-    finish = rw p.finish (ap (λ (t : ℕ). finish by.round y.finish (leg by.round t j) j) p.lasts);
-    lasts = refl;
-    state = ap (λ (t : S). by.rule.step t j) p.state;
-  }
+  agree-arrive x y j p = grind (arith, p)
 
   -- a list of arrivals agrees if any two do
   all_yes : (x : Down S V) (l : List (Down S V)) → agrees_with_all by.rule x l ≡ true → (y : Down S V) → Among y l → Agree x y
@@ -435,12 +410,7 @@ module _ {S V : Type 0} {Keeps : List ℕ → Type 0} {Stands : S → List ℕ �
   exact-first = record { all = λ j i. absurd i; finish = refl; lasts = refl; state = refl }
 
   exact_same : (x y : Down S V) (p : List ℕ) → Agree by ruled x y → Exact x p → Exact y p
-  exact_same x y p s e = record {
-    all = λ j i. rw (← s.all) (e.all j i);
-    finish = sym s.finish ∙ e.finish;
-    lasts = sym s.lasts ∙ e.lasts;
-    state = sym s.state ∙ e.state;
-  }
+  exact_same x y p s e = grind (arith, s, e)
 
   -- what a sweep that takes nothing says of an arc
   pub record Clear (l : Down S V) (j : ℕ) : Type 0 where
@@ -501,39 +471,40 @@ module _ {S V : Type 0} {Keeps : List ℕ → Type 0} {Stands : S → List ℕ �
   agreed-at labs L zero b e h = absurd (not-suc-le-zero h)
   agreed-at labs L (suc k) b e h = grind (arith, nat_tests, e, h, agreed-at labs L k b)
 
-  settles-next : (i : ℕ) (labs : List (Option (Down S V))) (L M : Layer) (Ls : Net) → settles by i labs (L ∷ M ∷ Ls) ≡ true
-      → (places_agree by labs L (length M) ≡ true) × (settles by (suc i) (labels_next by labs L (length M)) (M ∷ Ls) ≡ true)
+  settles-next : (i : ℕ) (labs : List (Option (Down S V))) (L : Layer) (Ls : Net) → settles by i labs (L ∷ Ls) ≡ true
+      → (1 ≤ length Ls → places_agree by labs L (width Ls) ≡ true) × (settles by (suc i) (labels_next by labs L (width Ls)) Ls ≡ true)
   unfolding settles in_arcs_agree keeps_all_arcs
-  settles-next i labs L M Ls s =
+  settles-next i labs L [] s = (λ h. absurd (omega arith), refl)
+  settles-next i labs L (M ∷ Ls) s =
       let p = and_parts (agrees by labs (L ∷ M ∷ Ls)) (quiet by i labs (L ∷ M ∷ Ls)) s in
       let q = and_parts (places_agree by labs L (length M)) (agrees by (labels_next by labs L (length M)) (M ∷ Ls)) p.0 in
-      (q.0, rw q.1 (and_parts _ (quiet by (suc i) (labels_next by labs L (length M)) (M ∷ Ls)) p.1).1)
+      (λ h. q.0, rw q.1 (and_parts _ (quiet by (suc i) (labels_next by labs L (length M)) (M ∷ Ls)) p.1).1)
+
+  -- what gathers arrivals at a node, all of one label but the value, is as exact as each
+  exact-next : (i : ℕ) (labs : List (Option (Down S V))) (L : Layer) (Ls : Net) (b : ℕ) (m x : Down S V) (p : List ℕ) → settles by i labs (L ∷ Ls) ≡ true → get_or (labels_next by labs L (width Ls)) b None ≡ Some m
+      → Among x (arrivals_at (arrival_over by) b labs L) → Exact x p → 1 ≤ length Ls → Exact m p
+  unfolding labels_next
+  exact-next i labs L Ls b m x p s e k o h =
+      let n = next-within (arrival_over by) (merge by.rule by.tally) labs L (width Ls) b m e in
+      exact_same x m p (same-gather (arrivals_at (arrival_over by) b labs L) m x (agreed-at labs L (width Ls) b ((settles-next i labs L Ls s).0 h) n) (next-some (arrival_over by) (merge by.rule by.tally) labs L (width Ls) b m e) k) o
 
   -- ---- every path is sound
   pub paths-sound : (i : ℕ) (p w : List ℕ) (labs : List (Option (Down S V))) (Ls : Net) (a : ℕ) (l : Down S V) → length p + length Ls ≡ by.round.n → settles by i labs Ls ≡ true
-      → get_or labs a None ≡ Some l → Exact l p → Sound p → IsEven by.round.n Ls → PathFrom Ls a w → Sound (p ++ w)
+      → get_or labs a None ≡ Some l → (1 ≤ length Ls → Exact l p) → Sound p → IsEven by.round.n Ls → PathFrom Ls a w → Sound (p ++ w)
   unfolding labels_next
   paths-sound i p [] labs [] a l t s g e o even q = rw (append-nil p) o
-  paths-sound i p (j ∷ w) labs [] a l t s g e o even q = absurd q
-  paths-sound i p [] labs (L ∷ Ls) a l t s g e o even q = absurd q
-  paths-sound i p (j ∷ []) labs (L ∷ []) a l t s g e o even q =
-      (onward l p j (omega (arith, by.round.most)) (even-door by.round L even.0 a j q.0 q.1) o e (settles-arc i labs L [] a j q.0 l s q.1 g)).sound
-  paths-sound i p (j ∷ k ∷ w) labs (L ∷ []) a l t s g e o even q = absurd q.2
-  paths-sound i p (j ∷ w) labs (L ∷ M ∷ Ls) a l t s g e o even q =
+  paths-sound i p (j ∷ w) labs (L ∷ Ls) a l t s g e o even q =
       let b = q.0 in
-      let on = onward l p j (omega (arith, by.round.most)) (even-door by.round L even.0 a j b q.1) o e (settles-arc i labs L (M ∷ Ls) a j b l s q.1 g) in
-      let h = inside (M ∷ Ls) b w q.2 in
-      let n = next-at {A = Down S V} (merge by.rule by.tally) (λ x y. Unit {0}) (λ x. tt) (λ x y z f g. tt) (λ x y. tt) (λ x y. tt) (arrival_over by) labs L (length M) a j b l q.1 g h in
-      let sn = settles-next i labs L M Ls s in
-      let same = same-gather (arrivals_at (arrival_over by) b labs L) n.0 (arrival_over by l j) (agreed-at labs L (length M) b sn.0 h)
-      (next-some (arrival_over by) (merge by.rule by.tally) labs L (length M) b n.0 n.1) (ins-in (arrival_over by) (merge by.rule by.tally) b labs L a j l q.1 g) in
-      rw (← (snoc-assoc p w j)) (paths-sound (suc i) (p ++ (j ∷ [])) w (labels_next by labs L (length M)) (M ∷ Ls) b n.0 (omega (arith, length-snoc p j)) sn.1 n.1
-      (exact_same (arrival_over by l j) n.0 (p ++ (j ∷ [])) same on.exact) on.sound even.1 q.2)
+      let on = onward l p j (omega (arith, by.round.most)) (even-door by.round L even.0 a j b q.1) o (e (omega arith)) (settles-arc i labs L Ls a j b l s q.1 g) in
+      let n = next-at {A = Down S V} (merge by.rule by.tally) (λ x y. Unit {0}) (λ x. tt) (λ x y z f g. tt) (λ x y. tt) (λ x y. tt) (arrival_over by) labs L (width Ls) a j b l q.1 g (inside Ls b w q.2) in
+      rw (← (snoc-assoc p w j)) (paths-sound (suc i) (p ++ (j ∷ [])) w (labels_next by labs L (width Ls)) Ls b n.0 (omega (arith, length-snoc p j)) (settles-next i labs L Ls s).1 n.1
+      (exact-next i labs L Ls b n.0 (arrival_over by l j) (p ++ (j ∷ [])) s n.1 (ins-in (arrival_over by) (merge by.rule by.tally) b labs L a j l q.1 g) on.exact) on.sound even.1 q.2)
+  paths-sound i p w labs Ls a l t s g e o even q = absurd q
 
   pub paths-allowed : (D : Net) (w : List ℕ) → length D ≡ by.round.n → IsEven by.round.n D → settled by D ≡ true → PathFrom D 0 w → IsAllowed by.round Keeps w
   unfolding settled
   paths-allowed D w t even s q =
-      let o = paths-sound 0 [] w (first_labels by.rule by.tally) D 0 (first_label by.rule by.tally) (omega arith) s refl exact-first sound_none even q in
+      let o = paths-sound 0 [] w (first_labels by.rule by.tally) D 0 (first_label by.rule by.tally) (omega arith) s refl (λ h. exact-first) sound_none even q in
       record { whole = path-length D 0 w q ∙ t; part = o.told.part; keeps = o.keeps; timely = o.timely }
 
   -- ---- the bound is the cost of a path
@@ -542,60 +513,40 @@ module _ {S V : Type 0} {Keeps : List ℕ → Type 0} {Stands : S → List ℕ �
       way : List ℕ
       leads : (w : List ℕ) → PathFrom Ls a w → PathFrom D 0 (way ++ w)
       sound : Sound way
-      exact : Exact l way
+      exact : 1 ≤ length Ls → Exact l way
       worth : l.value ≡ cost by.round by.tally way
       long : length way ≡ k
 
-    -- over an arc
-    onto : (Ls : Net) (L : Layer) (k : ℕ) (labs : List (Option (Down S V))) (b : ℕ) (x : Down S V) (f : From (arrival_over by) b labs L x)
-        (c : Reached (L ∷ Ls) k f.source f.label) → Onward f.label c.way f.door → Reached Ls (suc k) b x
-    onto Ls L k labs b x f c on = record {
-      way = c.way ++ (f.door ∷ []);
-      leads = λ w q. rw (snoc-assoc c.way w f.door) (c.leads (f.door ∷ w) (b, f.arc, q));
-      sound = on.sound;
-      exact = rw f.is on.exact;
-      worth = rw f.is (on.worth c.worth);
-      long = length-snoc c.way f.door ∙ ap suc c.long;
-    }
-
     -- to whatever gathered it: one of the arrivals has its value
     over : (Ls : Net) (L : Layer) (i k : ℕ) (labs : List (Option (Down S V))) (b : ℕ) (m : Down S V) → k < 16 → EvenLayer by.round.n L → settles by i labs (L ∷ Ls) ≡ true
-        → ((a : ℕ) (l : Down S V) → get_or labs a None ≡ Some l → Reached (L ∷ Ls) k a l) → gather (merge by.rule by.tally) (arrivals_at (arrival_over by) b labs L) ≡ Some m
-        → (x : Down S V) × Among x (arrivals_at (arrival_over by) b labs L) × (x.value ≡ m.value) × Reached Ls (suc k) b x
-    over Ls L i k labs b m h even s reach g =
-        let v = value-gather (arrivals_at (arrival_over by) b labs L) m g in
+        → ((a : ℕ) (l : Down S V) → get_or labs a None ≡ Some l → Reached (L ∷ Ls) k a l) → get_or (labels_next by labs L (width Ls)) b None ≡ Some m → Reached Ls (suc k) b m
+    unfolding labels_next
+    over Ls L i k labs b m h even s reach e =
+        let v = value-gather (arrivals_at (arrival_over by) b labs L) m (next-some (arrival_over by) (merge by.rule by.tally) labs L (width Ls) b m e) in
         let f = ins-from (arrival_over by) b labs L v.0 v.1 in
         let c = reach f.source f.label f.labelled in
-        let on = onward f.label c.way f.door (omega (arith, c.long)) (even-door by.round L even f.source f.door b f.arc) c.sound c.exact
-        (settles-arc i labs L Ls f.source f.door b f.label s f.arc f.labelled) in
-        (v.0, v.1, v.2, onto Ls L k labs b v.0 f c on)
+        let on = onward f.label c.way f.door (omega (arith, c.long)) (even-door by.round L even f.source f.door b f.arc) c.sound (c.exact (omega arith))
+        (settles-arc i labs L Ls f.source f.door b f.label s f.arc f.labelled) in record {
+          way = c.way ++ (f.door ∷ []);
+          leads = λ w q. rw (snoc-assoc c.way w f.door) (c.leads (f.door ∷ w) (b, f.arc, q));
+          sound = on.sound;
+          exact = exact-next i labs L Ls b m v.0 (c.way ++ (f.door ∷ [])) s e v.1 (subst (λ (x : Down S V). Exact x (c.way ++ (f.door ∷ []))) (sym f.is) on.exact);
+          worth = sym v.2 ∙ ap (λ (x : Down S V). x.value) f.is ∙ on.worth c.worth;
+          long = length-snoc c.way f.door ∙ ap suc c.long;
+        }
 
     attain : (i k : ℕ) (labs : List (Option (Down S V))) (Ls : Net) (l : Down S V) → k + length Ls ≡ by.round.n → settles by i labs Ls ≡ true → IsEven by.round.n Ls
         → ((a : ℕ) (l : Down S V) → get_or labs a None ≡ Some l → Reached Ls k a l) → end_label (arrival_over by) (merge by.rule by.tally) labs Ls ≡ Some l
         → (w : List ℕ) × PathFrom D 0 w × (cost by.round by.tally w ≡ l.value)
     unfolding end_label labels_next
-    attain i k labs [] l t s even reach g =
-        let c = reach 0 l g in (c.way ++ [], c.leads [] refl, ap (cost by.round by.tally) (append-nil c.way) ∙ sym c.worth)
-    attain i k labs (L ∷ []) l t s even reach g =
-        let x = over [] L i k labs 0 l (omega (arith, by.round.most)) even.0 s reach (next-some (arrival_over by) (merge by.rule by.tally) labs L 1 0 l g) in
-        let c = x.3 in
-        (c.way ++ [], c.leads [] refl, ap (cost by.round by.tally) (append-nil c.way) ∙ sym c.worth ∙ x.2)
-    attain i k labs (L ∷ M ∷ Ls) l t s even reach g =
-        let sn = settles-next i labs L M Ls s in
-        attain (suc i) (suc k) (labels_next by labs L (length M)) (M ∷ Ls) l (omega arith) sn.1 even.1
-        (λ b m e.
-        let e' = next-some (arrival_over by) (merge by.rule by.tally) labs L (length M) b m e in
-        let h = next-within (arrival_over by) (merge by.rule by.tally) labs L (length M) b m e in
-        let x = over (M ∷ Ls) L i k labs b m (omega (arith, by.round.most)) even.0 s reach e' in
-        let same = same-gather (arrivals_at (arrival_over by) b labs L) m x.0 (agreed-at labs L (length M) b sn.0 h) e' x.1 in
-        let c = x.3 in
-        record { way = c.way; leads = c.leads; sound = c.sound; exact = exact_same x.0 m c.way same c.exact; worth = sym x.2 ∙ c.worth; long = c.long })
-        g
+    attain i k labs [] l t s even reach g = let c = reach 0 l g in (c.way ++ [], c.leads [] refl, ap (cost by.round by.tally) (append-nil c.way) ∙ sym c.worth)
+    attain i k labs (L ∷ Ls) l t s even reach g =
+        attain (suc i) (suc k) (labels_next by labs L (width Ls)) Ls l (omega arith) (settles-next i labs L Ls s).1 even.1 (λ b m e. over Ls L i k labs b m (omega (arith, by.round.most)) even.0 s reach e) g
 
     pub bound-attained : (v : V) → length D ≡ by.round.n → IsEven by.round.n D → settled by D ≡ true → bound by D ≡ Some v → (w : List ℕ) × PathFrom D 0 w × (cost by.round by.tally w ≡ v)
     unfolding settled bound
     bound-attained v t even s e =
-        let start = first-only (first_label by.rule by.tally) (λ a l. Reached D 0 a l) (record { way = []; leads = λ w q. q; sound = sound_none; exact = exact-first; worth = refl; long = refl }) in
+        let start = first-only (first_label by.rule by.tally) (λ a l. Reached D 0 a l) (record { way = []; leads = λ w q. q; sound = sound_none; exact = λ h. exact-first; worth = refl; long = refl }) in
         let o = end_label (arrival_over by) (merge by.rule by.tally) (first_labels by.rule by.tally) D in
         elim o as (λ x. o ≡ x → valueO by x ≡ Some v → (w : List ℕ) × PathFrom D 0 w × (cost by.round by.tally w ≡ v)) [
           | None ↦ λ f g. absurd cc

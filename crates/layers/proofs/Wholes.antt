@@ -46,10 +46,7 @@ unrank (false ∷ fs) c = suc (unrank fs c)
 unrank-rank : (fs : List Bool) (b : ℕ) → get_or fs b false ≡ true → unrank fs (rank fs b) ≡ b
 unfolding rank unrank
 unrank-rank [] b e = absurd (false≢true e)
-unrank-rank (true ∷ fs) zero e = refl
-unrank-rank (false ∷ fs) zero e = absurd (false≢true e)
-unrank-rank (true ∷ fs) (suc b) e = ap suc (unrank-rank fs b e)
-unrank-rank (false ∷ fs) (suc b) e = ap suc (unrank-rank fs b e)
+unrank-rank (f ∷ fs) b e = grind (arith, e, unrank-rank fs)
 
 -- tidying
 was-arc : (fs : List Bool) (L : Layer) (a j c : ℕ) → target (node (redirect (λ a j b. renumber fs b) L) a) j ≡ suc c → target (node L a) j ≡ suc (unrank fs c)
