@@ -2,6 +2,7 @@
 use Rattle.layers.proofs.Walk.{every_arc-at}
 use Rattle.layers.proofs.Tidying.{tidied-same}
 use Rattle.std.proofs.Common.{◌≡◌, ℕ, zero, suc, ◌≤◌, Bool, true, cond, not, eqb, List, [], ◌∷◌, length, get_or, Some, None, Option, refl, ap, ◌∙◌, ap₂, arith}
+use Rattle.std.proofs.lemmas.Bool.Decides.{nat_tests}
 use Rattle.std.proofs.lemmas.Bool.{not-true, and_parts, eqb-true, eq-eqb}
 use Rattle.layers.specs.Net.{Outs, Layer, Net, width, each_door, each_node, redirect, count_doors, count_layer, count_arcs, every_door, every_arc}
 use Rattle.layers.specs.Tidy.{Mark, marks_next, marks_up, flags, compress, renumber, tidy, tidied_arcs}
@@ -60,7 +61,7 @@ layer-quiet t i [] e = refl
 layer-quiet t i (nd ∷ L) e =
     let x = doors-fewer (λ j b. cond (t i j b) 0 (suc b)) 1 nd in
     let y = nodes-fewer (λ a j b. cond (t a j b) 0 (suc b)) (suc i) L in
-    rw (doors-quiet (t i) 1 nd (omega arith)) (layer-quiet t (suc i) L (omega arith))
+    grind (arith, e, x, y, doors-quiet (t i) 1 nd, layer-quiet t (suc i) L)
 
 -- ---- a filter takes out arcs, and where it takes out none, none goes
 pub same_bool : (p q : Bool) → (p ≡ true → q ≡ true) → (q ≡ true → p ≡ true) → p ≡ q
@@ -87,10 +88,7 @@ module _ {S V : Type 0} (goes : ℕ → ℕ → ℕ → Option (Down S V) → Op
   unfolding kept_arcs keeps_all_arcs
   all-kept i [] labs e = refl
   all-kept i (L ∷ Ls) [] e = refl
-  all-kept i (L ∷ Ls) (x ∷ labs) e =
-      let t = gone i (suc (length Ls)) x in
-      let q = and_parts (every_arc (λ a j b. not (t a j b)) 0 L) (keeps_all_arcs goes (suc i) Ls labs) e in
-      ap₂ (λ (x : Layer) (y : Net). x ∷ y) (kept-layer t L q.0) (all-kept (suc i) Ls labs q.1)
+  all-kept i (L ∷ Ls) (x ∷ labs) e = grind (arith, e, kept-layer (gone i (suc (length Ls)) x) L, all-kept (suc i) Ls labs)
 
   -- if as many arcs stay, none goes
   pub none-gone : (i : ℕ) (Ls : Net) (labs : List (LayerLabels S V)) → count_arcs (kept_arcs goes i Ls labs) ≡ count_arcs Ls → keeps_all_arcs goes i Ls labs ≡ true
@@ -100,16 +98,11 @@ module _ {S V : Type 0} (goes : ℕ → ℕ → ℕ → Option (Down S V) → Op
   none-gone i (L ∷ Ls) (l ∷ labs) e =
       let t : ℕ → ℕ → ℕ → Bool = gone i (suc (length Ls)) l in
       let x = nodes-fewer (λ a j b. cond (t a j b) 0 (suc b)) 0 L in
-      let y = kept-fewer (suc i) Ls labs in
-      let p : every_arc (λ a j b. not (t a j b)) 0 L ≡ true = layer-quiet t 0 L (omega arith) in
-      rw p (none-gone (suc i) Ls labs (omega arith))
+      grind (arith, e, x, kept-fewer (suc i) Ls labs, layer-quiet t 0 L, none-gone (suc i) Ls labs)
 
   -- as many arcs stay exactly when none goes
   pub kept-same : (i : ℕ) (Ls : Net) (labs : List (LayerLabels S V)) → eqb (count_arcs (kept_arcs goes i Ls labs)) (count_arcs Ls) ≡ keeps_all_arcs goes i Ls labs
-  kept-same i Ls labs =
-      let a = count_arcs (kept_arcs goes i Ls labs) in
-      let b = count_arcs Ls in
-      same_bool (eqb a b) (keeps_all_arcs goes i Ls labs) (λ e. none-gone i Ls labs (eqb-true a b e)) (λ e. eq-eqb a b (ap count_arcs (all-kept i Ls labs e)))
+  kept-same i Ls labs = grind (arith, nat_tests, none-gone i Ls labs, all-kept i Ls labs)
 
 -- ---- settled: a sweep would change nothing
 module _ {S V : Type 0} (by : Setting S V) where

@@ -274,11 +274,7 @@ pub some-exact : (all some : ℕ) (P : List ℕ → Type 0) → Owed all some P 
 some-exact all some P o t j = (λ h. o.some-from j (true-has some j h), λ h. has-true some j ((t h.0 h.1).in_some j h.2))
 
 owed-merge : (a s a' s' : ℕ) (P : List ℕ → Type 0) → Owed a s P → Owed a' s' P → Owed (bit_and a a') (bit_or s s') P
-owed-merge a s a' s' P x y = record {
-  way = x.way;
-  all-if = λ j f. and_both a a' j (x.all-if j f) (y.all-if j f);
-  some-from = λ j h. elim (or_split s s' j h) [ inl p ↦ x.some-from j p | inr p ↦ y.some-from j p ];
-}
+owed-merge a s a' s' P x y = grind (arith, x, y, and_both, or_split)
 
 owed-step : (a s k : ℕ) (P Q : List ℕ → Type 0) (more : List ℕ → List ℕ) → Longer k more → ((w : List ℕ) → P w → Q (more w)) → Owed a s P → Owed (bit_or a (bit_of k)) (bit_or s (bit_of k)) Q
 owed-step a s k P Q more l to o = record {

@@ -388,15 +388,7 @@ lift-path n W L Ls Ms e x [] p = absurd p
 lift-path n W L Ls Ms e x (j ∷ w) p = (p.0, p.1, e.paths p.0 w p.2)
 
 lift : (n W : ℕ) (L : Layer) (Ls Ms : Net) → Edited n W Ls Ms → Edited n W (L ∷ Ls) (L ∷ Ms)
-lift n W L Ls Ms e = record {
-  deep = ap suc e.deep;
-  wide = refl;
-  even = λ h. (h.0, e.even h.1);
-  roomy = λ h. (h.0, e.roomy h.1);
-  led = λ h. h;
-  tied = lift-tied n W L Ls Ms e;
-  paths = lift-path n W L Ls Ms e;
-}
+lift n W L Ls Ms e = grind (arith, e, lift-tied n W L Ls Ms e, lift-path n W L Ls Ms e)
 
 pub join-edited : (n W d lo hi : ℕ) (Ls : Net) → lo < hi → hi < length (get_or Ls (suc d) []) → clash (node (get_or Ls (suc d) []) lo) (node (get_or Ls (suc d) []) hi) ≡ false → Edited n W Ls (joined_arcs d lo hi Ls)
 unfolding joined_arcs

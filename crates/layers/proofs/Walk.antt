@@ -106,44 +106,24 @@ module _ {S V : Type 0} {Keeps : List ℕ → Type 0} {Stands : S → List ℕ �
   fits-first : Fits (first_label by.rule by.tally) []
   fits-first = record { part = tt; sets = record { all_in = λ j h. absurd (none_has j h); in_some = λ j i. absurd i }; finish = omega arith; lasts = refl; state = ruled.start_stands; value = tallied.order_self by.tally.start }
 
-  lesser-left : (a b : V) → by.tally.not_above (by.tally.lesser a b) a ≡ true
-  lesser-left a b = rw (tallied.lesser_is a b) (grind (arith, tallied.order_self a, tallied.order_total a b))
-
-  lesser-right : (a b : V) → by.tally.not_above (by.tally.lesser a b) b ≡ true
-  lesser-right a b = rw (tallied.lesser_is a b) (grind (arith, tallied.order_self b, tallied.order_total a b))
-
   unfoldable pub Less : Down S V → Down S V → Type 0
   Less x y = (p : List ℕ) → Fits x p → Fits y p
 
   less-left : (x y : Down S V) → Less x (merge by.rule by.tally x y)
   unfolding Less merge
-  less-left x y p f = grind (arith, f, tells-left, or_left, ruled.cover_left, tallied.order_chain, lesser-left)
+  less-left x y p f = grind (arith, f, tells-left, or_left, ruled.cover_left, tallied.order_chain, tallied.lesser_is, tallied.order_self, tallied.order_total)
 
   less-right : (x y : Down S V) → Less y (merge by.rule by.tally x y)
   unfolding Less merge
-  less-right x y p f = record {
-    part = f.part;
-    sets = tells-right x.all x.some y.all y.some p f.sets;
-    finish = omega (arith, f.finish);
-    lasts = or_right x.lasts y.lasts (trip_after by.round by.tally p).van.last f.lasts;
-    state = ruled.cover_right x.state y.state p f.part f.state;
-    value = tallied.order_chain _ y.value _ (lesser-right x.value y.value) f.value;
-  }
+  less-right x y p f = grind (arith, f, tells-right, or_right, ruled.cover_right, tallied.order_chain, tallied.lesser_is, tallied.order_self, tallied.order_total)
 
   pub told-next : (p : List ℕ) (j : ℕ) → Told p → IsDoor by.round.n j → length p < 16 → ¬ StandsIn j p → Told (p ++ (j ∷ []))
   told-next p j t d k f =
       let e = trip-snoc by.round by.tally p j in
       let le = by.round.legs (trip_after by.round by.tally p).van.last j in
       let s = (clock-laws by.round).bound (length p) (trip_after by.round by.tally p).van.finish (drive by.round (trip_after by.round by.tally p).van.last j) j t.soon le in
-      record {
-        part = next-part by.round.n p j t.part d f;
-        soon = rw (e, (length-snoc p j)) s;
-        fine = subst (λ (z : Trip V). Allows (length (p ++ (j ∷ []))) z.cost) (sym e)
-            (subst (λ (z : ℕ). Allows z (next_trip by.round by.tally (trip_after by.round by.tally p) j).cost) (sym (length-snoc p j))
-            (tallied.step_allowed (length p) (cost by.round by.tally p) j (drive by.round (trip_after by.round by.tally p).van.last j) (next_trip by.round by.tally (trip_after by.round by.tally p) j).van.finish k d le (within (length p) _ k s) t.fine));
-        here = rw e d.high;
-        last = λ i g h x. g (last-in p i j (inr (sym x ∙ ap (λ (z : Trip V). z.van.last) e)));
-      }
+      let a = tallied.step_allowed (length p) (cost by.round by.tally p) j (drive by.round (trip_after by.round by.tally p).van.last j) (next_trip by.round by.tally (trip_after by.round by.tally p) j).van.finish k d le (within (length p) _ k s) t.fine in
+      grind (arith, e, s, a, t, d, f, length-snoc p j, next-part by.round.n p j, last-in p)
 
   pub arrive-fits : (l : Down S V) (p : List ℕ) (j : ℕ) → Fits l p → Told p → Allows (length p) l.value → IsDoor by.round.n j → length p < 16 → ¬ StandsIn j p → Fits (arrival_over by l j) (p ++ (j ∷ []))
   unfolding arrival_over
