@@ -64,9 +64,6 @@ layer-quiet t i (nd ∷ L) e =
     grind (arith, e, x, y, doors-quiet (t i) 1 nd, layer-quiet t (suc i) L)
 
 -- ---- a filter takes out arcs, and where it takes out none, none goes
-pub same_bool : (p q : Bool) → (p ≡ true → q ≡ true) → (q ≡ true → p ≡ true) → p ≡ q
-same_bool p q f g = grind arith
-
 -- a layer of which no arc fails the test stays as it is
 kept-layer : (t : ℕ → ℕ → ℕ → Bool) (L : Layer) → every_arc (λ a j b. not (t a j b)) 0 L ≡ true → redirect (λ a j b. cond (t a j b) 0 (suc b)) L ≡ L
 kept-layer t L e = redirect-same (λ a j b. cond (t a j b) 0 (suc b)) L
@@ -120,21 +117,13 @@ module _ {S V : Type 0} (by : Setting S V) where
   -- a sweep that takes out no arc leaves all as it is
   pub sweep-same : (Ls : Net) → width Ls ≡ 1 → IsTied Ls → count_arcs (sweep by Ls) ≡ count_arcs Ls → sweep by Ls ≡ Ls
   unfolding sweep
-  sweep-same Ls w t c =
-      let x = tidied-fewer (kept_arcs Tests 0 Ls (All Ls)) in
-      let y = kept-fewer Tests 0 Ls (All Ls) in
-      ap tidied_arcs (all-kept Tests 0 Ls (All Ls) (none-gone Tests 0 Ls (All Ls) (omega arith))) ∙ tidied-same Ls w t
+  sweep-same Ls w t c = grind (arith, c, tidied-fewer (kept_arcs Tests 0 Ls (All Ls)), kept-fewer Tests 0 Ls (All Ls), all-kept Tests 0 Ls (All Ls), none-gone Tests 0 Ls (All Ls), tidied-same Ls w t)
 
   -- settled is yes exactly when the in-arcs agree and a sweep would answer 0
   pub settled-yes : (Ls : Net) → width Ls ≡ 1 → IsTied Ls → settled by Ls ≡ true → (agrees by (first_labels by.rule by.tally) Ls ≡ true) × (sweep by Ls ≡ Ls)
   unfolding settled settles sweep
-  settled-yes Ls w t e =
-      let p = and_parts (agrees by (first_labels by.rule by.tally) Ls) (quiet by 0 (first_labels by.rule by.tally) Ls) e in
-      (p.0, ap tidied_arcs (all-kept Tests 0 Ls (All Ls) p.1) ∙ tidied-same Ls w t)
+  settled-yes Ls w t e = grind (arith, e, all-kept Tests 0 Ls (All Ls), tidied-same Ls w t)
 
   pub settled-if : (Ls : Net) → agrees by (first_labels by.rule by.tally) Ls ≡ true → count_arcs (sweep by Ls) ≡ count_arcs Ls → settled by Ls ≡ true
   unfolding settled settles sweep
-  settled-if Ls a c =
-      let x = tidied-fewer (kept_arcs Tests 0 Ls (All Ls)) in
-      let y = kept-fewer Tests 0 Ls (All Ls) in
-      rw a (none-gone Tests 0 Ls (All Ls) (omega arith))
+  settled-if Ls a c = grind (arith, a, c, tidied-fewer (kept_arcs Tests 0 Ls (All Ls)), kept-fewer Tests 0 Ls (All Ls), none-gone Tests 0 Ls (All Ls))

@@ -121,10 +121,8 @@ module _ {S V : Type 0} {Keeps : List ℕ → Type 0} {Stands : S → List ℕ �
       let rest = cost-rises (p ++ (j ∷ [])) w (going_next by ruled tallied p w j g) (told-next by ruled tallied p j t facts.0 facts.2 facts.1) in
       let dl = by.round.legs (trip_after by.round by.tally p).van.last j in
       let s = (clock-laws by.round).bound (length p) (trip_after by.round by.tally p).van.finish (drive by.round (trip_after by.round by.tally p).van.last j) j t.soon dl in
-      tallied.order_chain (cost by.round by.tally p) (cost by.round by.tally (p ++ (j ∷ []))) (cost by.round by.tally (p ++ (j ∷ w)))
-      (subst (λ (z : Trip V). by.tally.not_above (cost by.round by.tally p) z.cost ≡ true) (sym (trip-snoc by.round by.tally p j))
-      (tallied.step_above (length p) (cost by.round by.tally p) j (drive by.round (trip_after by.round by.tally p).van.last j) (next_trip by.round by.tally (trip_after by.round by.tally p) j).van.finish facts.2 facts.0 dl (within (length p) _ facts.2 s) t.fine))
-      (subst (λ (q : List ℕ). by.tally.not_above (cost by.round by.tally (p ++ (j ∷ []))) (cost by.round by.tally q) ≡ true) (snoc-assoc p w j) rest)
+      let a = tallied.step_above (length p) (cost by.round by.tally p) j (drive by.round (trip_after by.round by.tally p).van.last j) (next_trip by.round by.tally (trip_after by.round by.tally p) j).van.finish facts.2 facts.0 dl (within (length p) _ facts.2 s) t.fine in
+      grind (arith, a, rest, trip-snoc by.round by.tally p j, snoc-assoc p w j, tallied.order_chain)
 
   cut_keeps : (c : V) (w : List ℕ) (Ls : Net) → IsAllowed by.round Keeps w → by.tally.not_above (cost by.round by.tally w) c ≡ true → IsEven by.round.n Ls → PathFrom Ls 0 w → PathFrom (cut by c Ls) 0 w
   unfolding cut arrival_over

@@ -276,21 +276,16 @@ even-compress : (n : ℕ) (fs : List Bool) (L : Layer) → EvenLayer n L → Eve
 even-compress n fs L h c k = let q = compress-back fs L c k in rw (← q.2, compress-at fs L q.0 q.1) (h q.0 q.3)
 
 even-set : (n : ℕ) (L : Layer) (i : ℕ) (v : Outs) → length v ≡ n → EvenLayer n L → EvenLayer n (set L i v)
-even-set n L i v g h a k =
-    let in' : a < length L = omega (arith, length-set L i v) in
-    elim (cases_eq a i) [ inl e ↦ rw (e, get_or-set_same L i v [] (omega arith)) g | inr e ↦ rw (get_or-set_other L i a v [] e) (h a in') ]
+even-set n L i v g h a k = grind (arith, g, h, k, length-set L i v, get_or-set_same L i v [], get_or-set_other L i a v [])
 
 even-drop : (n i : ℕ) (L : Layer) → i < length L → EvenLayer n L → EvenLayer n (without_place i L)
-even-drop n i L inn h a k =
-    let m = drop-length i L inn in
-    elim (cases_lt a i) [ inl x ↦ rw (drop-below i a L x) (h a (omega arith)) | inr x ↦ rw (drop-above i a L x) (h (suc a) (omega arith)) ]
+even-drop n i L inn h a k = grind (arith, h, k, drop-length i L inn, drop-below i a L, drop-above i a L, cases_lt a i)
 
 both-even : (n : ℕ) (x y : Outs) → length x ≡ n → length y ≡ n → length (both_out x y) ≡ n
 unfolding both_out
 both-even n [] y a b = b
 both-even n (s ∷ x) [] a b = a
-both-even zero (s ∷ x) (t ∷ y) a b = absurd (omega arith)
-both-even (suc n) (s ∷ x) (t ∷ y) a b = ap suc (both-even n x y (omega arith) (omega arith))
+both-even n (s ∷ x) (t ∷ y) a b = grind (arith, a, b, both-even (length x) x y)
 
 -- ---- tidying
 compress-short : (fs : List Bool) (L : Layer) → length (compress fs L) ≤ length L

@@ -239,8 +239,7 @@ all-table P (suc m) f h = (h 0, all-table P m (λ k. f (suc k)) (λ k. h (suc k)
 
 most-at : {A : Type 0} (f : A → ℕ) (m : ℕ) (xs : List A) → All (λ x. f x ≤ m) xs → (k : ℕ) → get_or (map f xs) k 0 ≤ m
 most-at f m [] h k = omega arith
-most-at f m (x ∷ xs) h zero = h.0
-most-at f m (x ∷ xs) h (suc k) = most-at f m xs h.1 k
+most-at f m (x ∷ xs) h k = grind (arith, h, most-at f m xs)
 
 module _ {S V : Type 0} (by : Setting S V) where
   -- ---- no finish of the labels is above what the clock allows after i steps
@@ -259,10 +258,7 @@ module _ {S V : Type 0} (by : Setting S V) where
   -- a place of such a layer; a blank one has finish 0
   soon-place : (i : ℕ) (labs : List (Option (Down S V))) → i ≤ 15 → Soon i labs → (k : ℕ) → (or_blank by.rule by.tally (get_or labs k None)).finish ≤ latest_finish 15
   unfolding Soon
-  soon-place i labs h soon k = elim (get_or labs k None) as (λ o. get_or labs k None ≡ o → (or_blank by.rule by.tally o).finish ≤ latest_finish 15) [
-    | None ↦ λ e. omega arith
-    | Some l ↦ λ e. omega (arith, soon k l e)
-  ] refl
+  soon-place i labs h soon k = grind (arith, h, soon k)
 
   -- ---- the places of all layers before the end, from layer i on
   abbrev Early : Node S V → Type 0

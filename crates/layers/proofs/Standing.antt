@@ -16,7 +16,7 @@ use Rattle.layers.specs.declared.call.Call.{Call}
 use Rattle.layers.specs.declared.call.Call.TheVariants.{Sweep, Part, Join, Cut, Refine}
 use Rattle.layers.specs.Calls.{EachCut, kept_arcs, nodes, arcs, labels, layer, records_with, after_open, arcs_lost, after_sweep, sweep_answer, after_cut, count_of, part_answer, parted_records, after_part, join_answer, after_join, parts_of_layer, refinement_from, after_sweeps, refinement, after_call, after_calls, bound, is_settled, in_arcs_agree, value_in, one_group as oneGroupIn}
 use Rattle.layers.proofs.Model.{kept, sweep, cut, one_group, part_at, agrees, settles, bound as boundOf, settled as settled_of, labels_at}
-use Rattle.layers.proofs.Counts.{same_bool, kept-same, sweep-fewer, settled-yes, settled-if}
+use Rattle.layers.proofs.Counts.{kept-same, sweep-fewer, settled-yes, settled-if}
 use Rattle.layers.proofs.Bridge.{Full, stood, map-table, full-first, layers-laid, drawn-stood, kept-stood, agrees-stood, stood-at, value-stood, laid-long, later-stays}
 use Rattle.layers.proofs.Proper.{proper-opened, proper-kept, proper-parted-at, proper-join}
 use Rattle.layers.specs.Settings.{Setting}
@@ -79,9 +79,6 @@ any-cut : {V : Type 0} (cs : List (Call V)) → EachCut (λ c. Unit {0}) cs
 any-cut [] = tt
 any-cut (Cut c ∷ cs) = (tt, any-cut cs)
 any-cut (c ∷ cs) = any-cut cs
-
-nothing-less : (m k : ℕ) → k ≤ m → eqb (m - k) 0 ≡ eqb k m
-nothing-less m k h = grind (arith, nat_tests)
 
 module _ {S V : Type 0} (by : Setting S V) (w : 1 ≤ by.width) (later : List (Node S V)) where
   abbrev Well : Net → Type 0
@@ -174,13 +171,7 @@ module _ {S V : Type 0} (by : Setting S V) (w : 1 ≤ by.width) (later : List (N
 
   -- settled is yes exactly when the in-arcs agree and a sweep would answer 0
   pub settled-means-X : (Ls : Net) → Well Ls → is_settled by (X Ls) ≡ (in_arcs_agree by (arcs by.round.n by.width (X Ls)) (labels by.round.n by.width (X Ls)) && eqb (sweep_answer by (X Ls)) 0)
-  settled-means-X Ls p =
-      let b = count_arcs (sweep by Ls) in
-      let m = count_arcs Ls in
-      settled-X Ls p ∙ same_bool (settled_of by Ls) (agrees by first Ls && eqb b m)
-      (λ e. let q = settled-yes by Ls p.one_first p.tied e in ap₂ ◌&&◌ q.0 (eq-eqb b m (ap count_arcs q.1)))
-      (λ e. let q = and_parts (agrees by first Ls) (eqb b m) e in settled-if by Ls q.0 (eqb-true b m q.1))
-      ∙ sym (ap₂ ◌&&◌ (agrees-X Ls p) (ap (λ (k : ℕ). eqb k 0) (answer-X Ls p) ∙ nothing-less m b (sweep-fewer by Ls)))
+  settled-means-X Ls p = grind (arith, nat_tests, settled-X Ls p, settled-yes by Ls p.one_first p.tied, settled-if by Ls, agrees-X Ls p, answer-X Ls p, sweep-fewer by Ls)
 
   -- ---- records that are those of proper arcs, of which P holds
   pub record Reached (P : Net → Type 0) (xs : List (Node S V)) : Type 0 where

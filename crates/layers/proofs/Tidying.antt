@@ -38,10 +38,7 @@ rank-step (f ∷ fs) (suc b) = grind (arith, rank-step fs b)
 -- a rank is the count of the flags before
 count-rank : (P : ℕ → Type 0) (fs : List Bool) → ((b : ℕ) → get_or fs b false ≡ true → P b) → ((b : ℕ) → P b → get_or fs b false ≡ true) → (b : ℕ) → CountBelow P b (rank fs b)
 count-rank P fs f g zero = rank-zero fs
-count-rank P fs f g (suc b) = let h = count-rank P fs f g b in elim (get_or fs b false) as (λ q. get_or fs b false ≡ q → CountBelow P (suc b) (rank fs (suc b))) [
-  | true ↦ λ e. rw (rank-step fs b, e) (inl (f b e, h))
-  | false ↦ λ e. rw (rank-step fs b, e) (count-skip P b (rank fs b) (λ p. true≢false (sym (g b p) ∙ e)) h)
-] refl
+count-rank P fs f g (suc b) = grind (arith, f b, g b, rank-step fs b, count-skip P b (rank fs b), count-rank P fs f g b)
 
 compress-long : (fs : List Bool) (X : Layer) → length (compress fs X) ≡ rank fs (length X)
 unfolding compress rank

@@ -50,19 +50,11 @@ redirect-long f L a = each_node-long f 0 L a
 pub redirect-cong : (f g : ℕ → ℕ → ℕ → ℕ) (L : Layer) → ((a j b : ℕ) → target (node L a) j ≡ suc b → f a j b ≡ g a j b) → redirect f L ≡ redirect g L
 redirect-cong f g L h = ext_get_or [] (redirect f L) (redirect g L) (redirect-length f L ∙ sym (redirect-length g L)) (λ a lt.
     ext_get_or 0 (node (redirect f L) a) (node (redirect g L) a) (redirect-long f L a ∙ sym (redirect-long g L a))
-    (λ k in'. redirect-get f L a (suc k) ∙ go a (suc k) (target (node L a) (suc k)) refl ∙ sym (redirect-get g L a (suc k))))
-  where
-    go : (a j t : ℕ) → target (node L a) j ≡ t → at_door (f a) j t ≡ at_door (g a) j t
-    go a j zero e = refl
-    go a j (suc b) e = h a j b e
+    (λ k in'. grind (arith, redirect-get f L a (suc k), redirect-get g L a (suc k), h a (suc k))))
 
 pub redirect-same : (f : ℕ → ℕ → ℕ → ℕ) (L : Layer) → ((a j b : ℕ) → target (node L a) j ≡ suc b → f a j b ≡ suc b) → redirect f L ≡ L
 redirect-same f L h = ext_get_or [] (redirect f L) L (redirect-length f L) (λ a lt.
-    ext_get_or 0 (node (redirect f L) a) (node L a) (redirect-long f L a) (λ k in'. redirect-get f L a (suc k) ∙ go a (suc k) (target (node L a) (suc k)) refl))
-  where
-    go : (a j t : ℕ) → target (node L a) j ≡ t → at_door (f a) j t ≡ t
-    go a j zero e = refl
-    go a j (suc b) e = h a j b e
+    ext_get_or 0 (node (redirect f L) a) (node L a) (redirect-long f L a) (λ k in'. grind (arith, redirect-get f L a (suc k), h a (suc k))))
 
 -- ---- flags
 pub flags-back : (fr us : List (Option Mark)) (a : ℕ) → get_or (flags fr us) a false ≡ true → (get_or fr a None ≡ Some tt) × (get_or us a None ≡ Some tt)

@@ -134,16 +134,9 @@ module _ {S V : Type 0} {Keeps : List ℕ → Type 0} {Stands : S → List ℕ �
       let dl = by.round.legs (trip_after by.round by.tally p).van.last j in
       let early = (clock-laws by.round).later l.finish (trip_after by.round by.tally p).van.finish (leg by.round l.lasts j) (drive by.round (trip_after by.round by.tally p).van.last j) j f.finish g in
       let s = (clock-laws by.round).bound (length p) (trip_after by.round by.tally p).van.finish (drive by.round (trip_after by.round by.tally p).van.last j) j t.soon dl in
-      record {
-        part = (told-next p j t d k n).part;
-        sets = tells-step l.all l.some j (λ p. p ++ (j ∷ [])) p (at_back j) f.sets;
-        finish = rw e early;
-        lasts = rw e (one-self j);
-        state = ruled.step_stands l.state p j (record { part = t.part; door = d; new = n }) f.state;
-        value = subst (λ (z : Trip V). by.tally.not_above (by.tally.step l.value j (leg by.round l.lasts j) (finish by.round l.finish (leg by.round l.lasts j) j)) z.cost ≡ true) (sym e)
-            (tallied.step_rises (length p) l.value (cost by.round by.tally p) j (leg by.round l.lasts j) (drive by.round (trip_after by.round by.tally p).van.last j) (finish by.round l.finish (leg by.round l.lasts j) j) (next_trip by.round by.tally (trip_after by.round by.tally p) j).van.finish
-            k d g dl early (within (length p) _ k s) fine t.fine f.value);
-      }
+      let a = tallied.step_rises (length p) l.value (cost by.round by.tally p) j (leg by.round l.lasts j) (drive by.round (trip_after by.round by.tally p).van.last j) (finish by.round l.finish (leg by.round l.lasts j) j) (next_trip by.round by.tally (trip_after by.round by.tally p) j).van.finish
+      k d g dl early (within (length p) _ k s) fine t.fine f.value in
+      grind (arith, e, a, early, told-next p j t d k n, tells-step l.all l.some j (λ p. p ++ (j ∷ [])) p (at_back j) f.sets, one-self j, ruled.step_stands l.state p j (record { part = t.part; door = d; new = n }) f.state)
 
   -- ---- every label's value is one that the tally allows
   unfoldable pub Good : ℕ → List (Option (Down S V)) → Type 0
@@ -183,9 +176,6 @@ path-length [] a [] p = refl
 path-length (L ∷ Ls) a (j ∷ w) p = ap suc (path-length Ls p.0 w p.2)
 path-length Ls a w p = absurd p
 
-or-none : (a b c d e f : Bool) → a ≡ false → b ≡ false → c ≡ false → d ≡ false → e ≡ false → f ≡ false → (a || (b || (c || (d || (e || f))))) ≡ false
-or-none a b c d e f p q s t u v = rw (p, q, s, t, u, v)
-
 module _ {S V : Type 0} {Keeps : List ℕ → Type 0} {Stands : S → List ℕ → Type 0} {Allows : ℕ → V → Type 0} (by : Setting S V) (ruled : RuleLaws by.round.n by.rule Keeps Stands) (tallied : TallyLaws by.round.n by.tally Allows) where
   pub going-facts : (p w : List ℕ) (j : ℕ) → Going by ruled tallied p (j ∷ w) → IsDoor by.round.n j × (¬ StandsIn j p) × (length p < 16)
   going-facts p w j g =
@@ -197,17 +187,12 @@ module _ {S V : Type 0} {Keeps : List ℕ → Type 0} {Stands : S → List ℕ �
   unfolding arrival_over
   not-barred p w j l u g t f a fu =
       let facts = going-facts p w j g in
-      or-none (has l.all j) (ltb (ones (bit_or l.some (bit_of j))) (suc (length p))) (ltb (door by.round j).closes (finish by.round l.finish (leg by.round l.lasts j) j))
-      (by.rule.bars l.state j) (has u.allup j) (ltb (ones (bit_or u.someup (bit_of j))) (suc (length w)))
-      (false_from_ne_true (has l.all j) (λ h. facts.1 (f.sets.all_in j h)))
-      (le-ltb (ones (bit_or l.some (bit_of j))) (suc (length p))
-      (rw (← (length-snoc p j)) (ones_in by.round.n (bit_or l.some (bit_of j)) (p ++ (j ∷ [])) a.part a.sets.in_some)))
-      (le-ltb (door by.round j).closes (finish by.round l.finish (leg by.round l.lasts j) j) (le_trans a.finish closing))
-      (false_from_ne_true (by.rule.bars l.state j) (λ h. ruled.bars_breaks l.state p j (part-next by.round.n p j w g.part) f.state h
-      (ruled.keeps_front (p ++ (j ∷ [])) w (rw (snoc-assoc p w j) g.part) (rw (snoc-assoc p w j) g.keeps))))
-      (false_from_ne_true (has u.allup j) (λ h. (part-tail by.round.n p (j ∷ w) g.part).1 (fu.all_in j h)))
-      (le-ltb (ones (bit_or u.someup (bit_of j))) (suc (length w))
-      (ones_in by.round.n (bit_or u.someup (bit_of j)) (j ∷ w) (part-tail by.round.n p (j ∷ w) g.part) (tells-step u.allup u.someup j (λ w. j ∷ w) w (at_front j) fu).in_some))
+      let tail = part-tail by.round.n p (j ∷ w) g.part in
+      let c = ruled.bars_breaks l.state p j (part-next by.round.n p j w g.part) f.state in
+      let keeps = ruled.keeps_front (p ++ (j ∷ [])) w (rw (snoc-assoc p w j) g.part) (rw (snoc-assoc p w j) g.keeps) in
+      let x = ones_in by.round.n (bit_or l.some (bit_of j)) (p ++ (j ∷ [])) a.part a.sets.in_some in
+      let y = ones_in by.round.n (bit_or u.someup (bit_of j)) (j ∷ w) tail (tells-step u.allup u.someup j (λ w. j ∷ w) w (at_front j) fu).in_some in
+      grind (arith, nat_tests, facts, f, fu, a, closing, tail, c, keeps, x, y, length-snoc p j)
     where
       closing : (trip_after by.round by.tally (p ++ (j ∷ []))).van.finish ≤ (door by.round j).closes
       closing = rw (← (sym (van-snoc by.round p j) ∙ sym (trip-van by.round by.tally (p ++ (j ∷ []))))) g.timely.0
@@ -399,8 +384,7 @@ module _ {S V : Type 0} {Keeps : List ℕ → Type 0} {Stands : S → List ℕ �
     pub free : by.rule.bars l.state j ≡ false
 
   clear : (i h j : ℕ) (l : Down S V) (u : Option Up) → is_barred by.round by.rule i h j (Some l) u ≡ false → Clear l j
-  clear i h j l None e = absurd (true≢false e)
-  clear i h j l (Some u) e = record { new = grind (arith, e); early = grind (arith, nat_tests, e); free = grind (arith, e) }
+  clear i h j l u e = grind (arith, nat_tests, e)
 
   -- one door on
   pub record Onward (l : Down S V) (p : List ℕ) (j : ℕ) : Type 0 where
@@ -455,10 +439,7 @@ module _ {S V : Type 0} {Keeps : List ℕ → Type 0} {Stands : S → List ℕ �
       → (1 ≤ length Ls → places_agree by labs L (width Ls) ≡ true) × (settles by (suc i) (labels_next by labs L (width Ls)) Ls ≡ true)
   unfolding settles in_arcs_agree keeps_all_arcs
   settles-next i labs L [] s = (λ h. absurd (omega arith), refl)
-  settles-next i labs L (M ∷ Ls) s =
-      let p = and_parts (agrees by labs (L ∷ M ∷ Ls)) (quiet by i labs (L ∷ M ∷ Ls)) s in
-      let q = and_parts (places_agree by labs L (length M)) (agrees by (labels_next by labs L (length M)) (M ∷ Ls)) p.0 in
-      (λ h. q.0, rw q.1 (and_parts _ (quiet by (suc i) (labels_next by labs L (length M)) (M ∷ Ls)) p.1).1)
+  settles-next i labs L (M ∷ Ls) s = grind (arith, s)
 
   -- what gathers arrivals at a node, all of one label but the value, is as exact as each
   exact-next : (i : ℕ) (labs : List (Option (Down S V))) (L : Layer) (Ls : Net) (b : ℕ) (m x : Down S V) (p : List ℕ) → settles by i labs (L ∷ Ls) ≡ true → get_or (labels_next by labs L (width Ls)) b None ≡ Some m
