@@ -163,14 +163,12 @@ module _ {S V : Type 0} (by : Setting S V) (w : 1 ≤ by.width) where
       let n = next-at {A = Down S V} (merge by.rule by.tally) (λ x y. Unit {0}) (λ x. tt) (λ x y z f g. tt) (λ x y. tt) (λ x y. tt) (arrival_over by) labs L 1 a j b l.0 e l.1 (t a j b e) in
       let n0 : get_or (next (arrival_over by) (merge by.rule by.tally) labs L 1) 0 None ≡ Some n.0 = ap (λ (k : ℕ). get_or (next (arrival_over by) (merge by.rule by.tally) labs L 1) k None) (sym z) ∙ n.1 in
       let q = lasting-next labs L 1 0 n.0 n0 in
-      ap (λ (x : List (Node S V)). get_or (ups_in x) b None) (end-top (next (arrival_over by) (merge by.rule by.tally) labs L 1) n.0 n0 q)
-      ∙ ap (λ (k : ℕ). get_or {A = Option Up} (Some no_up ∷ []) k None) z ∙ sym (ups-end b z)
+      grind (arith, z, q, n0, end-top (next (arrival_over by) (merge by.rule by.tally) labs L 1) n.0, ups-end b)
 
   tops-inner : (labs : Labs) (M : Layer) (Ls : Net) (b : ℕ) → IsLed M → IsTied (M ∷ Ls) → b < length M → get_or (ups_in (top labs (M ∷ Ls))) b None ≡ get_or (ups (M ∷ Ls)) b None
   tops-inner labs M Ls b led t h =
       let x = ups-full M Ls led t b h in
-      ap (λ (z : List (Option Up)). get_or z b None) (map-table (λ (x : Node S V). Some x.label.up) (length M) (record_of_place by M labs (ups (M ∷ Ls))))
-      ∙ table_at (length M) b (λ k. Some (or_no_up (get_or (ups (M ∷ Ls)) k None))) None h ∙ ap (λ (o : Option Up). Some (or_no_up o)) x.1 ∙ sym x.1
+      grind (arith, x, map-table (λ (x : Node S V). Some x.label.up) (length M) (record_of_place by M labs (ups (M ∷ Ls))), table_at (length M) b (λ k. Some (or_no_up (get_or (ups (M ∷ Ls)) k None))) None h)
 
   full_from : (labs : Labs) (L : Layer) (Ls : Net) → Filled labs (length L) → IsTied (L ∷ Ls) → IsRoomy by.width (L ∷ Ls) → IsEven by.round.n (L ∷ Ls) → Full labs (L ∷ Ls)
   full_from labs L [] f t room even = (record { filled = f; room = room.0; even = even.0; tops = tops-end labs L f t }, lasting-next labs L 1)
@@ -185,8 +183,8 @@ module _ {S V : Type 0} (by : Setting S V) (w : 1 ≤ by.width) where
   -- ---- reading the records
   one-row : (labs : Labs) (L : Layer) (Ls : Net) → Fit labs L Ls → nodes_in (table by.width (record_of_place by L labs (ups (L ∷ Ls)))) ≡ top labs (L ∷ Ls)
   one-row labs L Ls f = stand-table by.width (length L) (record_of_place by L labs (ups (L ∷ Ls))) f.room
-      (λ k h. let x = f.filled.there k h in rw x.1 (ap not (f.filled.lasting k x.0 x.1)))
-      (λ h. ap (λ (o : Option (Down S V)). not (eqb (or_blank by.rule by.tally o).lasts 0)) f.filled.beyond)
+      (λ k h. let x = f.filled.there k h in grind (arith, x, f.filled.lasting k))
+      (λ h. grind (arith, f.filled.beyond))
 
   pub layers-laid : (later : List (Node S V)) (labs : Labs) (Ls : Net) → Full labs Ls → layers by.width (length Ls) (labelled_from by labs Ls ++ later) ≡ stood labs Ls
   unfolding labelled_from
@@ -225,8 +223,7 @@ module _ {S V : Type 0} (by : Setting S V) (w : 1 ≤ by.width) where
   unfolding in_arcs_agree
   agrees-stood labs [] f = refl
   agrees-stood labs (L ∷ []) f = refl
-  agrees-stood labs (L ∷ M ∷ Ls) f =
-      ap₂ ◌&&◌ (ap (λ (x : Labs). places_agree by x L (length M)) (row-downs labs L (M ∷ Ls) f.0)) (agrees-stood (labels_next by labs L (length M)) (M ∷ Ls) f.1)
+  agrees-stood labs (L ∷ M ∷ Ls) f = grind (arith, row-downs labs L (M ∷ Ls) f.0, agrees-stood (labels_next by labs L (length M)) (M ∷ Ls) f.1)
 
   pub stood-at : (d : ℕ) (labs : Labs) (Ls : Net) → Full labs Ls → d < length Ls
       → (downs_in (get_or (stood labs Ls) d []) ≡ labels_at by d labs Ls) × (arcs_in by.round.n (get_or (stood labs Ls) d []) ≡ get_or Ls d []) × (length (get_or (stood labs Ls) d []) ≡ length (get_or Ls d []))
@@ -237,11 +234,7 @@ module _ {S V : Type 0} (by : Setting S V) (w : 1 ≤ by.width) where
   -- the end's value
   pub value-stood : (labs : Labs) (Ls : Net) → Full labs Ls → value_in (get_or (stood labs Ls) (length Ls) []) ≡ valueO by (end_label (arrival_over by) (merge by.rule by.tally) labs Ls)
   unfolding end_label labels_next
-  value-stood labs [] f = go (get_or labs 0 None) refl
-    where
-      go : (o : Option (Down S V)) → get_or labs 0 None ≡ o → value_in (top labs []) ≡ valueO by o
-      go None e = rw e
-      go (Some l) e = ap value_in (end-top labs l e (f 0 l e))
+  value-stood labs [] f = grind (arith, end-top labs, f 0)
   value-stood labs (L ∷ Ls) f = value-stood (labels_next by labs L (width Ls)) Ls f.1
 
   -- ---- later places

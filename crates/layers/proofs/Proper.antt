@@ -131,7 +131,7 @@ module _ (M : Layer) (a : ℕ) (inn : a < length M) where
       grind (arith, e, q, h c j b, h a j b)
 
   pub more-even : (n : ℕ) → EvenLayer n M → EvenLayer n (M ++ (node M a ∷ []))
-  more-even n h c k = elim (more-back M (node M a) c (omega (arith, length-snoc M (node M a)))) [ inl x ↦ rw x.1 (h c x.0) | inr x ↦ rw x.1 (h a inn) ]
+  more-even n h c k = grind (arith, more-back M (node M a) c, length-snoc M (node M a), h c, h a, inn, k)
 
   pub more-led : IsLed M → IsLed (M ++ (node M a ∷ []))
   more-led h c k =

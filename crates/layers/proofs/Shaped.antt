@@ -212,12 +212,10 @@ module _ {S V : Type 0} (by : Setting S V) (w : 1 ≤ by.width) (xs : List (Node
       rw (nodes-X by w (drop (by.round.n * by.width + 1) xs) Ls p) (end_of by w Ls by.round.n p.deep by.round.one p.tied (full by w (drop (by.round.n * by.width + 1) xs) Ls p) a j b (rw (← arcs-relaid) e))
 
   ended' : HasEnd by.round.n by.width (records_with by xs Ls)
-  ended' =
-      let L = get_or (arcs by.round.n by.width (records_with by xs Ls)) (by.round.n - 1) [] in
-      ⊎_elim
-      (λ (none : count_layer L < 1). omega arith)
-      (λ (some : 1 ≤ count_layer L). let q = counted-arc L some in let z = stands-at-end q.0 q.1 q.2 q.3 in omega arith)
-      (cases_lt (count_layer L) 1)
+  ended' = elim (cases_lt (count_layer (get_or (arcs by.round.n by.width (records_with by xs Ls)) (by.round.n - 1) [])) 1) [
+    | inl none ↦ omega arith
+    | inr some ↦ (let q = counted-arc (get_or (arcs by.round.n by.width (records_with by xs Ls)) (by.round.n - 1) []) some in let z = stands-at-end q.0 q.1 q.2 q.3 in omega arith)
+  ]
 
   pub relaid-shaped : IsShaped by.round.n by.width (records_with by xs Ls)
   unfolding records_with

@@ -164,10 +164,7 @@ module _ {S V : Type 0} (by : Setting S V) (w : 1 ≤ by.width) (later : List (N
 
   pub settled-X : (Ls : Net) → Well Ls → is_settled by (X Ls) ≡ settled_of by Ls
   unfolding is_settled settled_of settles
-  settled-X Ls p =
-      let k = kept-stood by w (is_barred by.round by.rule) 0 first Ls (full Ls p) in
-      let t = kept-same (is_barred by.round by.rule) 0 Ls in
-      ap₂ ◌&&◌ (agrees-X Ls p) (rw (arcs-X Ls p, nodes-X Ls p) (sym (t _) ∙ ap (λ (z : Net). eqb (count_arcs z) (count_arcs Ls)) k ∙ t _))
+  settled-X Ls p = grind (arith, agrees-X Ls p, arcs-X Ls p, nodes-X Ls p, kept-stood by w (is_barred by.round by.rule) 0 first Ls (full Ls p), kept-same {V = V} (is_barred by.round by.rule) 0 Ls)
 
   -- settled is yes exactly when the in-arcs agree and a sweep would answer 0
   pub settled-means-X : (Ls : Net) → Well Ls → is_settled by (X Ls) ≡ (in_arcs_agree by (arcs by.round.n by.width (X Ls)) (labels by.round.n by.width (X Ls)) && eqb (sweep_answer by (X Ls)) 0)

@@ -312,9 +312,7 @@ module _ {S V : Type 0} {Keeps : List ℕ → Type 0} {Stands : S → List ℕ �
   pub pairs : (l : List (Down S V)) → all_agree by.rule l ≡ true → (y z : Down S V) → Among y l → Among z l → Agree y z
   unfolding all_agree
   pairs [] e y z i k = absurd i
-  pairs (x ∷ l) e y z i k =
-      let one : (t : Down S V) → Among t (x ∷ l) → Agree x t = λ t m. elim m [ inl f ↦ rw f (agree-self x) | inr n ↦ all_yes x l e t n ] in
-      agree-back x y z (one y i) (one z k)
+  pairs (x ∷ l) e y z i k = grind (arith, i, k, all_yes x l e, agree-self x, agree-back x y z)
 
   pub by-pairs : (l : List (Down S V)) → ((y z : Down S V) → Among y l → Among z l → Agree y z) → all_agree by.rule l ≡ true
   unfolding all_agree
@@ -400,27 +398,10 @@ module _ {S V : Type 0} {Keeps : List ℕ → Type 0} {Stands : S → List ℕ �
       let t = s.told in
       let g : leg by.round l.lasts j ≡ drive by.round (trip_after by.round by.tally p).van.last j =
       ap (λ (m : ℕ). leg by.round m j) e.lasts ∙ leg-one by.round (trip_after by.round by.tally p).van.last j t.here (ne_eqb (trip_after by.round by.tally p).van.last j (t.last j n d.low)) in
-      let f : finish by.round l.finish (leg by.round l.lasts j) j ≡ (next_trip by.round by.tally (trip_after by.round by.tally p) j).van.finish =
-      ap (λ (x : ℕ). finish by.round x (leg by.round l.lasts j) j) e.finish ∙ ap (λ (x : ℕ). finish by.round (trip_after by.round by.tally p).van.finish x j) g in
-      let v : finish_of by.round (p ++ (j ∷ [])) ≡ finish by.round l.finish (leg by.round l.lasts j) j =
-      ap (λ (a : Van). a.finish) (sym (trip-van by.round by.tally (p ++ (j ∷ [])))) ∙ ap (λ (q : Trip V). q.van.finish) z ∙ sym f in
-      record {
-        sound = record {
-          keeps = ruled.clear_keeps p j (record { part = t.part; door = d; new = n }) s.keeps (rw (← e.state) c.free);
-          timely = each_more _ p j s.timely (rw v c.early);
-          told = told-next by ruled tallied p j t d k n;
-        };
-        exact = record {
-          all = λ i h. elim (in-last p i j h) [ inl x ↦ or_left l.all (bit_of j) i (e.all i x) | inr y ↦ or_right l.all (bit_of j) i (rw y (one-self j)) ];
-          finish = f ∙ ap (λ (q : Trip V). q.van.finish) (sym z);
-          lasts = ap (λ (q : Trip V). bit_of q.van.last) (sym z);
-          state = ap (λ (q : S). by.rule.step q j) e.state ∙ sym (state-snoc by.rule p j);
-        };
-        worth = λ v. ap (λ (q : V). by.tally.step q j (leg by.round l.lasts j) (finish by.round l.finish (leg by.round l.lasts j) j)) v
-            ∙ ap (λ (q : ℕ). by.tally.step (cost by.round by.tally p) j q (finish by.round l.finish (leg by.round l.lasts j) j)) g
-            ∙ ap (λ (q : ℕ). by.tally.step (cost by.round by.tally p) j (drive by.round (trip_after by.round by.tally p).van.last j) q) f
-            ∙ ap (λ (q : Trip V). q.cost) (sym z);
-      }
+      let v = trip-van by.round by.tally (p ++ (j ∷ [])) in
+      let q = ruled.clear_keeps p j (record { part = t.part; door = d; new = n }) s.keeps in
+      let m = each_more (λ w i. finish_of by.round (w ++ (i ∷ [])) ≤ (door by.round i).closes) p j s.timely in
+      grind (arith, z, g, v, q, m, e, c, told-next by ruled tallied p j t d k n, in-last p, or_left l.all (bit_of j), or_right l.all (bit_of j), one-self j, state-snoc by.rule p j)
 
   -- ---- settled
   settles-arc : (i : ℕ) (labs : List (Option (Down S V))) (L : Layer) (Ls : Net) (a j b : ℕ) (l : Down S V) → settles by i labs (L ∷ Ls) ≡ true
@@ -432,7 +413,7 @@ module _ {S V : Type 0} {Keeps : List ℕ → Type 0} {Stands : S → List ℕ �
 
   agreed-at : (labs : List (Option (Down S V))) (L : Layer) (k b : ℕ) → places_agree by labs L k ≡ true → b < k → all_agree by.rule (arrivals_at (arrival_over by) b labs L) ≡ true
   unfolding places_agree
-  agreed-at labs L zero b e h = absurd (not-suc-le-zero h)
+  agreed-at labs L zero b e h = absurd (omega arith)
   agreed-at labs L (suc k) b e h = grind (arith, nat_tests, e, h, agreed-at labs L k b)
 
   settles-next : (i : ℕ) (labs : List (Option (Down S V))) (L : Layer) (Ls : Net) → settles by i labs (L ∷ Ls) ≡ true
