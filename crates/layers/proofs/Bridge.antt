@@ -151,9 +151,7 @@ module _ {S V : Type 0} (by : Setting S V) (w : 1 ≤ by.width) where
 
   -- the end's node
   pub end-top : (labs : Labs) (l : Down S V) → get_or labs 0 None ≡ Some l → eqb l.lasts 0 ≡ false → top labs [] ≡ record { arcs = record { to = padded_targets [] }; label = record { down = l; up = no_up } } ∷ []
-  end-top labs l e q =
-      let P : Option (Down S V) → Node S V = λ o. record { arcs = record { to = padded_targets [] }; label = record { down = or_blank by.rule by.tally o; up = no_up } } in
-      rw e (ap (λ (z : Bool). cond (not z) (P (Some l) ∷ []) []) q)
+  end-top labs l e q = grind (arith, e, q)
 
   tops-end : (labs : Labs) (L : Layer) → Filled labs (length L) → IsTied (L ∷ []) → (a j b : ℕ) → target (node L a) j ≡ suc b → get_or (ups_in (top (labels_next by labs L 1) [])) b None ≡ get_or (ups []) b None
   unfolding labels_next
@@ -192,14 +190,12 @@ module _ {S V : Type 0} (by : Setting S V) (w : 1 ≤ by.width) where
   layers-laid later labs (L ∷ Ls) f =
       let f' = record_of_place by L labs (ups (L ∷ Ls)) in
       let X = labelled_from by (labels_next by labs L (width Ls)) Ls in
-      ap₂ (λ (x y : List (Node S V)). nodes_in x ∷ layers by.width (length Ls) y)
-      (ap (take by.width) (append_assoc (table by.width f') X later) ∙ take_at (table by.width f') (X ++ later) by.width (table-long by.width f'))
-      (ap (drop by.width) (append_assoc (table by.width f') X later) ∙ drop_at (table by.width f') (X ++ later) by.width (table-long by.width f'))
-      ∙ ap₂ (λ (x : List (Node S V)) (y : List (List (Node S V))). x ∷ y) (one-row labs L Ls f.0) (layers-laid later (labels_next by labs L (width Ls)) Ls f.1)
+      grind (arith, append_assoc (table by.width f') X later, take_at (table by.width f') (X ++ later) by.width (table-long by.width f'), drop_at (table by.width f') (X ++ later) by.width (table-long by.width f'),
+      one-row labs L Ls f.0, layers-laid later (labels_next by labs L (width Ls)) Ls f.1)
 
   pub drawn-stood : (labs : Labs) (Ls : Net) → Full labs Ls → arcs_of_layers by.round.n (stood labs Ls) ≡ Ls
   drawn-stood labs [] f = refl
-  drawn-stood labs (L ∷ Ls) f = ap₂ (λ (x : Layer) (y : Net). x ∷ y) (row-arcs labs L Ls f.0) (drawn-stood (labels_next by labs L (width Ls)) Ls f.1)
+  drawn-stood labs (L ∷ Ls) f = grind (arith, row-arcs labs L Ls f.0, drawn-stood (labels_next by labs L (width Ls)) Ls f.1)
 
   -- ---- the calls with the labels that stand
   abbrev pub Standing : Labs → Net → List (LayerLabels S V)

@@ -159,32 +159,31 @@ pub renumber-at : (fs : List Bool) (b : ℕ) → get_or fs b false ≡ true → 
 unfolding renumber
 renumber-at fs b e = rw e
 
+-- over an arc that stays
+arc-stays : (fr : List (Option Mark)) (L : Layer) (Ls : Net) (a j b : ℕ) (w : List ℕ) → get_or fr a None ≡ Some tt → target (node L a) j ≡ suc b → PathFrom Ls b w → let fr' = marks_next fr L (width Ls) in let fs = flags fr' (marks_up Ls) in
+    (get_or fr' b None ≡ Some tt) × (target (node (redirect (λ x y c. renumber fs c) L) a) j ≡ suc (rank fs b))
+arc-stays fr L Ls a j b w g e p =
+    let fr' = marks_next fr L (width Ls) in
+    let fs = flags fr' (marks_up Ls) in
+    let g' = mark-next fr L (width Ls) a j b e g (inside Ls b w p) in
+    (g', redirect-arc (λ x y c. renumber fs c) L a j b e ∙ renumber-at fs b (flags-at fr' (marks_up Ls) b g' (mark-up Ls b w p)))
+
 tidy-from : (fr : List (Option Mark)) (Ls : Net) (a : ℕ) (w : List ℕ) → get_or fr a None ≡ Some tt → PathFrom Ls a w → PathFrom (tidy fr Ls) (rank (flags fr (marks_up Ls)) a) w
 unfolding tidy
 tidy-from fr [] a [] g p = ap (rank (flags fr (marks_up []))) p ∙ rank-zero (flags fr (marks_up []))
 tidy-from fr (L ∷ Ls) a (j ∷ w) g p =
-    let b = p.0 in
-    let fr' = marks_next fr L (width Ls) in
-    let g' = mark-next fr L (width Ls) a j b p.1 g (inside Ls b w p.2) in
-    let fs = flags fr' (marks_up Ls) in
+    let fs = flags (marks_next fr L (width Ls)) (marks_up Ls) in
+    let s = arc-stays fr L Ls a j p.0 w g p.1 p.2 in
     let here = flags-at fr (marks_up (L ∷ Ls)) a g (mark-up (L ∷ Ls) a (j ∷ w) p) in
-    let there = flags-at fr' (marks_up Ls) b g' (mark-up Ls b w p.2) in (
-      rank fs b,
-      rw (compress-at (flags fr (marks_up (L ∷ Ls))) (redirect (λ x y c. renumber fs c) L) a here) (redirect-arc (λ x y c. renumber fs c) L a j b p.1 ∙ renumber-at fs b there),
-      tidy-from fr' Ls b w g' p.2,
-    )
+    (rank fs p.0, rw (compress-at (flags fr (marks_up (L ∷ Ls))) (redirect (λ x y c. renumber fs c) L) a here) s.1, tidy-from (marks_next fr L (width Ls)) Ls p.0 w s.0 p.2)
 tidy-from fr Ls a w g p = absurd p
 
 pub tidy-keeps : (Ls : Net) (w : List ℕ) → PathFrom Ls 0 w → PathFrom (tidied_arcs Ls) 0 w
 unfolding tidied_arcs
 tidy-keeps [] w p = p
 tidy-keeps (L ∷ Ls) (j ∷ w) p =
-    let b = p.0 in
-    let fr = marks_next (Some tt ∷ []) L (width Ls) in
-    let fs = flags fr (marks_up Ls) in
-    let g = mark-next (Some tt ∷ []) L (width Ls) 0 j b p.1 refl (inside Ls b w p.2) in
-    let there = flags-at fr (marks_up Ls) b g (mark-up Ls b w p.2) in
-    (rank fs b, redirect-arc (λ x y c. renumber fs c) L 0 j b p.1 ∙ renumber-at fs b there, tidy-from fr Ls b w g p.2)
+    let s = arc-stays (Some tt ∷ []) L Ls 0 j p.0 w refl p.1 p.2 in
+    (rank (flags (marks_next (Some tt ∷ []) L (width Ls)) (marks_up Ls)) p.0, s.1, tidy-from (marks_next (Some tt ∷ []) L (width Ls)) Ls p.0 w s.0 p.2)
 tidy-keeps Ls w p = absurd p
 
 -- ---- where an arrival comes from

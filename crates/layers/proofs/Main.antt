@@ -377,15 +377,11 @@ tells-up Ls a u e w p =
 
 -- the sets of a node, also of one from which no path leads to the end
 pub up-exact : (Ls : Net) (a : ℕ) → let u = or_no_up (get_or (ups Ls) a None) in Exactly u.allup (OnEvery (PathFrom Ls a)) × Exactly u.someup (OnOne (PathFrom Ls a))
-up-exact Ls a = go (get_or (ups Ls) a None) refl
-  where
-    go : (o : Option Up) → get_or (ups Ls) a None ≡ o → Exactly (or_no_up o).allup (OnEvery (PathFrom Ls a)) × Exactly (or_no_up o).someup (OnOne (PathFrom Ls a))
-    go None e =
-        let no : (w : List ℕ) → PathFrom Ls a w → ⊥ = λ w p. let q = path-up Ls a w p in let z : ◌≡◌ {A = ℕ} 0 1 = cc q.1 in omega arith in
-        (λ j. (λ h. absurd (none_has j (true-has 0 j h)), λ h. absurd (no h.0.0 h.0.1)), λ j. (λ h. absurd (none_has j (true-has 0 j h)), λ h. absurd (no h.0 h.1)))
-    go (Some u) e =
-        let o = owed-up Ls a u e in let t = tells-up Ls a u e in
-        (all-exact u.allup u.someup (PathFrom Ls a) o t, some-exact u.allup u.someup (PathFrom Ls a) o t)
+up-exact Ls a = elim (get_or (ups Ls) a None) as (λ o. get_or (ups Ls) a None ≡ o → Exactly (or_no_up o).allup (OnEvery (PathFrom Ls a)) × Exactly (or_no_up o).someup (OnOne (PathFrom Ls a))) [
+  | None ↦ λ e. let no : (w : List ℕ) → PathFrom Ls a w → ⊥ = λ w p. let q = path-up Ls a w p in let z : ◌≡◌ {A = ℕ} 0 1 = cc q.1 in omega arith in
+      (λ j. (λ h. absurd (none_has j (true-has 0 j h)), λ h. absurd (no h.0.0 h.0.1)), λ j. (λ h. absurd (none_has j (true-has 0 j h)), λ h. absurd (no h.0 h.1)))
+  | Some u ↦ λ e. let o = owed-up Ls a u e in let t = tells-up Ls a u e in (all-exact u.allup u.someup (PathFrom Ls a) o t, some-exact u.allup u.someup (PathFrom Ls a) o t)
+] refl
 
 module _ {S V : Type 0} {Keeps : List ℕ → Type 0} {Stands : S → List ℕ → Type 0} (by : Setting S V) (ruled : RuleLaws by.round.n by.rule Keeps Stands) (w1 : 1 ≤ by.width) where
   -- a record that stands in the first of these layers has the labels worked out

@@ -59,16 +59,13 @@ clash-get (s ∷ x) [] k n = grind arith
 clash-get (s ∷ x) (t ∷ y) k n = grind (arith, n, clash-get x y)
 
 target_left : (x y : Outs) (k c : ℕ) → target x k ≡ suc c → target (both_out x y) k ≡ suc c
-target_left x y zero c e = e
-target_left x y (suc k) c e = both-get x y k ∙ grind (arith, e)
+target_left x y k c e = grind (arith, e, both-get x y)
 
 target_right : (x y : Outs) (k c : ℕ) → clash x y ≡ false → target y k ≡ suc c → target (both_out x y) k ≡ suc c
-target_right x y zero c n e = e
-target_right x y (suc k) c n e = both-get x y k ∙ grind (arith, nat_tests, e, clash-get x y k n)
+target_right x y k c n e = grind (arith, nat_tests, e, clash-get x y, n, both-get x y)
 
 target-back : (x y : Outs) (j b : ℕ) → target (both_out x y) j ≡ suc b → (target x j ≡ suc b) ⊎ (target y j ≡ suc b)
-target-back x y zero b e = inl e
-target-back x y (suc k) b e = grind (arith, e, both-get x y k)
+target-back x y k b e = grind (arith, e, both-get x y)
 
 join-node : (M : Layer) (lo hi b k c : ℕ) → lo < hi → hi < length M → clash (node M lo) (node M hi) ≡ false → target (node M b) k ≡ suc c
     → target (node (without_place hi (set M lo (both_out (node M lo) (node M hi)))) (place_after_join lo hi b)) k ≡ suc c

@@ -175,22 +175,14 @@ some-there [] o b u e = absurd cc
 some-there (x ∷ xs) o b u e = omega arith
 
 module _ {S V : Type 0} (by : Setting S V) (w : 1 ≤ by.width) where
-  end-stands : (labs : List (Option (Down S V))) (L : Layer) (Ms : Net) → IsTied (L ∷ Ms) → Full by w labs (L ∷ Ms) → (a j b : ℕ) → target (node (get_or (L ∷ Ms) (length Ms) []) a) j ≡ suc b
-      → length (get_or (stood by w labs (L ∷ Ms)) (suc (length Ms)) []) ≡ 1
-  end-stands labs L [] t f a j b e =
-      let E = top by w (labels_next by labs L 1) [] in
+  end-stands : (labs : List (Option (Down S V))) (Ls : Net) (k : ℕ) → suc k ≡ length Ls → IsTied Ls → Full by w labs Ls → (a j b : ℕ) → target (node (get_or Ls k []) a) j ≡ suc b → length (get_or (stood by w labs Ls) (suc k) []) ≡ 1
+  end-stands labs (L ∷ []) zero d t f a j b e =
       let z : b ≡ 0 = omega (arith, t a j b e) in
-      let lo = some-there E (λ x. Some x.label.up) b no_up (f.0.tops a j b e ∙ ups-end b z) in
+      let lo = some-there (top by w (labels_next by labs L 1) []) (λ x. Some x.label.up) b no_up (f.0.tops a j b e ∙ ups-end b z) in
       let hi = standing-short (record_of_place by [] (labels_next by labs L 1) [] 0 ∷ []) in
       omega arith
-  end-stands labs L (M ∷ Ms) t f a j b e = end-stands (labels_next by labs L (length M)) M Ms t.3 f.1 a j b e
-
-  end_of : (Ls : Net) (n : ℕ) → length Ls ≡ n → 1 ≤ n → IsTied Ls → Full by w (first_labels by.rule by.tally) Ls → (a j b : ℕ) → target (node (get_or Ls (n - 1) []) a) j ≡ suc b → length (get_or (stood by w (first_labels by.rule by.tally) Ls) n []) ≡ 1
-  end_of [] n d h t f a j b e = absurd (omega arith)
-  end_of (L ∷ Ms) n d h t f a j b e =
-      let z : n - 1 ≡ length Ms = omega arith in
-      let y : n ≡ suc (length Ms) = sym d in
-      rw y (end-stands (first_labels by.rule by.tally) L Ms t f a j b (rw (← z) e))
+  end-stands labs (L ∷ M ∷ Ls) (suc k) d t f a j b e = end-stands (labels_next by labs L (length M)) (M ∷ Ls) k (omega arith) t.3 f.1 a j b e
+  end-stands labs Ls k d t f a j b e = absurd (omega arith)
 
 -- ---- the end's place is in use if an arc leads to it
 pub ended-one : {S V : Type 0} (n W : ℕ) (xs : List (Node S V)) → HasEnd n W xs → (a j b : ℕ) → target (node (get_or (arcs n W xs) (n - 1) []) a) j ≡ suc b → length (layer n W n xs) ≡ 1
@@ -209,7 +201,9 @@ module _ {S V : Type 0} (by : Setting S V) (w : 1 ≤ by.width) (xs : List (Node
   stands-at-end : (a j b : ℕ) → target (node (get_or (arcs by.round.n by.width (records_with by xs Ls)) (by.round.n - 1) []) a) j ≡ suc b → length (layer by.round.n by.width by.round.n (records_with by xs Ls)) ≡ 1
   unfolding records_with
   stands-at-end a j b e =
-      rw (nodes-X by w (drop (by.round.n * by.width + 1) xs) Ls p) (end_of by w Ls by.round.n p.deep by.round.one p.tied (full by w (drop (by.round.n * by.width + 1) xs) Ls p) a j b (rw (← arcs-relaid) e))
+      let z : suc (by.round.n - 1) ≡ by.round.n = omega (arith, by.round.one) in
+      let x = end-stands by w (first_labels by.rule by.tally) Ls (by.round.n - 1) (omega (arith, p.deep, by.round.one)) p.tied (full by w (drop (by.round.n * by.width + 1) xs) Ls p) a j b (rw (← arcs-relaid) e) in
+      grind (arith, z, x, nodes-X by w (drop (by.round.n * by.width + 1) xs) Ls p)
 
   ended' : HasEnd by.round.n by.width (records_with by xs Ls)
   ended' = elim (cases_lt (count_layer (get_or (arcs by.round.n by.width (records_with by xs Ls)) (by.round.n - 1) [])) 1) [

@@ -11,7 +11,7 @@ use Rattle.layers.specs.LabelLaws.{PathTo}
 use Rattle.layers.specs.TidyLaws.{layer_of, IsOnPath, Stays, CountBelow, Becomes, IsRenumbered, IsTidied, TidyMeans, IsTidy, TidyStays}
 use Rattle.layers.proofs.Flows.{first-only, has-arc, inside, redirect-arc, mark-next, mark-up, flags-at, compress-at, rank-zero, renumber-at, tidy-keeps}
 use Rattle.layers.proofs.Proper.{tidied-length}
-use Rattle.layers.proofs.Tied.{redirect-back, redirect-length, redirect-long, flags-back, renumber-back, marked_from, climbs-from}
+use Rattle.layers.proofs.Tied.{stayed-arc, redirect-length, redirect-long, flags-back, marked_from, climbs-from}
 
 -- ---- counting
 count-only : (P : ℕ → Type 0) (b k m : ℕ) → CountBelow P b k → CountBelow P b m → k ≡ m
@@ -132,8 +132,7 @@ module _ (D : Net) where
       record {
         doors = redirect-long f L a;
         arcs = λ j c. (
-          (λ e. let q = redirect-back f L a j c e in let h = renumber-back (F (suc i)) q.0 c q.2 in
-              (q.0, q.1, record { stays = on-path (suc i) q.0 h.0; before = subst (CountBelow (Stays D (suc i)) q.0) h.1 (counted i q.0) })),
+          (λ e. let q = stayed-arc (F (suc i)) L a j c e in (q.0, q.1, record { stays = on-path (suc i) q.0 q.2; before = subst (CountBelow (Stays D (suc i)) q.0) q.3 (counted i q.0) })),
           (λ s. redirect-arc f L a j s.0 s.1 ∙ renumber-at (F (suc i)) s.0 (flagged (suc i) s.0 s.2.stays)
               ∙ ap suc (count-only (Stays D (suc i)) s.0 (rank (F (suc i)) s.0) c (counted i s.0) s.2.before)),
         );
@@ -144,7 +143,7 @@ module _ (D : Net) where
   as-many (suc i) =
       let f : ℕ → ℕ → ℕ → ℕ = λ a j b. renumber (F (suc (suc i))) b in
       let n = redirect-length f (layer_of D (suc i)) in
-      rw (later-at D i) (subst (CountBelow (Stays D (suc i)) (length (layer_of D (suc i)))) (ap (rank (F (suc i))) (sym n) ∙ sym (compress-long (F (suc i)) (redirect f (layer_of D (suc i))))) (counted i (length (layer_of D (suc i)))))
+      grind (arith, later-at D i, n, compress-long (F (suc i)) (redirect f (layer_of D (suc i))), counted i (length (layer_of D (suc i))))
 
   place : (i b : ℕ) → b < length (layer_of D i) → Stays D i b → (k : ℕ) × Becomes D i b k × IsRenumbered D i (node (layer_of D i) b) (node (layer_of (tidied_arcs D) i) k)
   place zero b h s = (b, record { stays = tt; before = count-each (Stays D 0) b (λ c h. tt) }, rw (first-at D) (renumbered 0 (layer_of D 0) b))
@@ -160,10 +159,8 @@ tidy-back fr [] a [] f p = end-only a (flags-back fr (marks_up []) a f).1
 tidy-back fr (L ∷ Ls) a (j ∷ w) f p =
     let fr' = marks_next fr L (width Ls) in
     let fs = flags fr' (marks_up Ls) in
-    let r : ℕ → ℕ → ℕ → ℕ = λ a j b. renumber fs b in
-    let q = redirect-back r L a j p.0 (sym (ap (λ (nd : List ℕ). target nd j) (compress-at (flags fr (marks_up (L ∷ Ls))) (redirect r L) a f)) ∙ p.1) in
-    let h = renumber-back fs q.0 p.0 q.2 in
-    (q.0, q.1, tidy-back fr' Ls q.0 w h.0 (subst (λ (c : ℕ). PathFrom (tidy fr' Ls) c w) (sym h.1) p.2))
+    let q = stayed-arc fs L a j p.0 (rw (compress-at (flags fr (marks_up (L ∷ Ls))) (redirect (λ a j b. renumber fs b) L) a f) at p.1) in
+    (q.0, q.1, tidy-back fr' Ls q.0 w q.2 (subst (λ (c : ℕ). PathFrom (tidy fr' Ls) c w) (sym q.3) p.2))
 tidy-back fr Ls a w f p = absurd p
 
 pub tidied-back : (Ls : Net) (w : List ℕ) → PathFrom (tidied_arcs Ls) 0 w → PathFrom Ls 0 w
@@ -172,9 +169,8 @@ tidied-back [] w p = p
 tidied-back (L ∷ Ls) (j ∷ w) p =
     let fr = marks_next start L (width Ls) in
     let fs = flags fr (marks_up Ls) in
-    let q = redirect-back (λ a j b. renumber fs b) L 0 j p.0 p.1 in
-    let h = renumber-back fs q.0 p.0 q.2 in
-    (q.0, q.1, tidy-back fr Ls q.0 w h.0 (subst (λ (c : ℕ). PathFrom (tidy fr Ls) c w) (sym h.1) p.2))
+    let q = stayed-arc fs L 0 j p.0 p.1 in
+    (q.0, q.1, tidy-back fr Ls q.0 w q.2 (subst (λ (c : ℕ). PathFrom (tidy fr Ls) c w) (sym q.3) p.2))
 tidied-back Ls w p = absurd p
 
 tidies : (D : Net) → IsTidied D (tidied_arcs D)

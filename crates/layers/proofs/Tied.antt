@@ -84,9 +84,10 @@ compress-back (true ∷ fs) (x ∷ X) (suc c) h = let q = compress-back fs X c (
 compress-back (false ∷ fs) (x ∷ X) c h = let q = compress-back fs X c h in (suc q.0, q.1, q.2, omega arith)
 compress-back fs X c h = absurd (omega arith)
 
-pub renumber-back : (fs : List Bool) (b c : ℕ) → renumber fs b ≡ suc c → (get_or fs b false ≡ true) × (rank fs b ≡ c)
+-- an arc that is left, renumbered
+pub stayed-arc : (fs : List Bool) (L : Layer) (a j c : ℕ) → target (node (redirect (λ a j b. renumber fs b) L) a) j ≡ suc c → (b : ℕ) × (target (node L a) j ≡ suc b) × (get_or fs b false ≡ true) × (rank fs b ≡ c)
 unfolding renumber
-renumber-back fs b c e = grind (arith, e)
+stayed-arc fs L a j c e = let q = redirect-back (λ a j b. renumber fs b) L a j c e in let x = q.2 in (q.0, q.1, grind (arith, x), grind (arith, x))
 
 -- ---- what marks say
 pub marked_from : (fr : List (Option Mark)) (L : Layer) (count b : ℕ) → get_or (marks_next fr L count) b None ≡ Some tt → (a : ℕ) × (j : ℕ) × (target (node L a) j ≡ suc b) × (get_or fr a None ≡ Some tt)
@@ -118,10 +119,9 @@ module _ (fr : List (Option Mark)) (L : Layer) (Ls : Net) where
   -- every arc that is left leads to a node that is left
   arcs-lead : (X : Layer) → length X ≡ width Ls → IsRanged RL (length (compress fs X))
   arcs-lead X n a j c e =
-      let q = redirect-back (λ a j b. renumber fs b) L a j c e in
-      let h = renumber-back fs q.0 c q.2 in
-      let w = flag-within q.0 h.0 in
-      rw (← h.1) (rank_lt fs X q.0 h.0 (omega arith))
+      let q = stayed-arc fs L a j c e in
+      let w = flag-within q.0 q.2 in
+      rw (← q.3) (rank_lt fs X q.0 q.2 (omega arith))
 
   -- every node that is left is led to, from a node that is left
   fed_by : (X : Layer) (c : ℕ) → c < length (compress fs X) → (a : ℕ) × (j : ℕ) × (target (node RL a) j ≡ suc c) × (get_or fr a None ≡ Some tt) × (get_or (marks_up (L ∷ Ls)) a None ≡ Some tt)
@@ -156,12 +156,10 @@ ranged-compress gs X m h c j b e =
 
 ranged-end : (fr : List (Option Mark)) (L : Layer) → IsRanged (RL fr L []) 1
 ranged-end fr L a j c e =
-    let q = redirect-back (λ a j b. renumber (fs fr L []) b) L a j c e in
-    let h = renumber-back (fs fr L []) q.0 c q.2 in
-    let w = flag-within fr L [] q.0 h.0 in
-    let z : q.0 ≡ 0 = omega arith in
-    let y = ap (rank (fs fr L [])) (sym z) ∙ h.1 in
-    omega (arith, rank-zero (fs fr L []), y)
+    let q = stayed-arc (fs fr L []) L a j c e in
+    let w = flag-within fr L [] q.0 q.2 in
+    let y = q.3 in
+    grind (arith, w, y, rank-zero (fs fr L []))
 
 tidy-tied : (fr : List (Option Mark)) (Ls : Net) → IsTied (tidy fr Ls)
 unfolding tidy

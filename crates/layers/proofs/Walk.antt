@@ -319,6 +319,10 @@ module _ {S V : Type 0} {Keeps : List ℕ → Type 0} {Stands : S → List ℕ �
   by-pairs [] f = refl
   by-pairs (x ∷ l) f = yes-all x l (λ y i. f x y (inl refl) (inr i))
 
+  -- ---- what is gathered from arrivals that agree agrees with each
+  pub same-gather : (l : List (Down S V)) (m x : Down S V) → all_agree by.rule l ≡ true → gather (merge by.rule by.tally) l ≡ Some m → Among x l → Agree x m
+  same-gather l m x e g i = gather-all (merge by.rule by.tally) (Agree x) (agree-merge x) l m (λ y k. pairs l e x y i k) g
+
 -- ---- tests that passed
 every_door-at : (f : ℕ → ℕ → Bool) (j : ℕ) (ts : Outs) (k m b : ℕ) → j + k ≡ m → every_door f j ts ≡ true → get_or ts k 0 ≡ suc b → f m b ≡ true
 unfolding every_door
@@ -331,10 +335,6 @@ every_arc-at f c [] a m j b h t e = absurd (grind (arith, e))
 every_arc-at f c (nd ∷ L) a m j b h t e = grind (arith, t, e, every_door-at (f c) 1 nd, every_arc-at f (suc c) L)
 
 module _ {S V : Type 0} {Keeps : List ℕ → Type 0} {Stands : S → List ℕ → Type 0} {Allows : ℕ → V → Type 0} (by : Setting S V) (ruled : RuleLaws by.round.n by.rule Keeps Stands) (tallied : TallyLaws by.round.n by.tally Allows) where
-  -- ---- what is gathered from arrivals that agree agrees with each
-  same-gather : (l : List (Down S V)) (m x : Down S V) → all_agree by.rule l ≡ true → gather (merge by.rule by.tally) l ≡ Some m → Among x l → Agree by ruled x m
-  same-gather l m x e g i = gather-all (merge by.rule by.tally) (Agree by ruled x) (agree-merge by ruled x) l m (λ y k. pairs by ruled l e x y i k) g
-
   -- the value gathered is that of some arrival
   abbrev Attained : V → List (Down S V) → Type 0
   Attained v l = (x : Down S V) × Among x l × (x.value ≡ v)
@@ -428,7 +428,7 @@ module _ {S V : Type 0} {Keeps : List ℕ → Type 0} {Stands : S → List ℕ �
   unfolding labels_next
   exact-next i labs L Ls b m x p s e k o h =
       let n = next-within (arrival_over by) (merge by.rule by.tally) labs L (width Ls) b m e in
-      exact_same x m p (same-gather (arrivals_at (arrival_over by) b labs L) m x (agreed-at labs L (width Ls) b ((settles-next i labs L Ls s).0 h) n) (next-some (arrival_over by) (merge by.rule by.tally) labs L (width Ls) b m e) k) o
+      exact_same x m p (same-gather by ruled (arrivals_at (arrival_over by) b labs L) m x (agreed-at labs L (width Ls) b ((settles-next i labs L Ls s).0 h) n) (next-some (arrival_over by) (merge by.rule by.tally) labs L (width Ls) b m e) k) o
 
   -- ---- every path is sound
   pub paths-sound : (i : ℕ) (p w : List ℕ) (labs : List (Option (Down S V))) (Ls : Net) (a : ℕ) (l : Down S V) → length p + length Ls ≡ by.round.n → settles by i labs Ls ≡ true

@@ -1,5 +1,5 @@
 -- Refine that answers whole settles, and its last sweep leaves nothing to sweep out: a key for each node of the first layers, such that every arc leads from key to key.
-use Rattle.layers.proofs.Walk.{Agree, agree-self, agree-back, agree-merge, agree-arrive, by-pairs, agree-yes, pairs}
+use Rattle.layers.proofs.Walk.{same-gather, Agree, agree-self, agree-back, agree-merge, agree-arrive, by-pairs, agree-yes, pairs}
 use Rattle.layers.proofs.Proper.{more-back}
 use Rattle.std.proofs.lemmas.Bool.Decides.{nat_tests}
 use Rattle.std.proofs.Common.{◌≡◌, ℕ, zero, suc, ◌≤◌, Bool, true, false, cond, eqb, List, [], ◌∷◌, ◌++◌, length, get_or, Some, None, Option, sym, refl, ap, ◌∙◌, arith, ◌+◌, ◌-◌, ◌<◌, leb, ltb, ◌⊎◌, subst, inl, inr, not-suc-le-zero}
@@ -13,7 +13,7 @@ use Rattle.layers.specs.Labels.{ups, first_label, first_labels, arrival_over, me
 use Rattle.layers.proofs.Flows.{first-only, Among, has-arc, ins-from, next-some, gather-all, compress-at, ins-in, next-at}
 use Rattle.layers.proofs.Ways.{length-snoc}
 use Rattle.layers.proofs.Model.{sweeps, sweep, part_at, agrees, moved, one_group, or_blank}
-use Rattle.layers.proofs.Tied.{redirect-back, compress-back, renumber-back, kept-back, redirect-length}
+use Rattle.layers.proofs.Tied.{redirect-back, compress-back, stayed-arc, kept-back, redirect-length}
 use Rattle.layers.specs.Calls.{places_agree, kept_arcs, parted_arcs, in_arcs_agree, arcs, after_sweep, sweep_answer, count_of, one_group as oneGroupIn, parted_records, parts_of_layer, refinement_from, after_sweeps, refinement, after_open, after_calls, is_settled}
 use Rattle.layers.specs.Settings.{Setting, setting}
 use Rattle.layers.specs.declared.node.Down.{Down}
@@ -51,9 +51,8 @@ unrank-rank (f ∷ fs) b e = grind (arith, e, unrank-rank fs)
 -- tidying
 was-arc : (fs : List Bool) (L : Layer) (a j c : ℕ) → target (node (redirect (λ a j b. renumber fs b) L) a) j ≡ suc c → target (node L a) j ≡ suc (unrank fs c)
 was-arc fs L a j c e =
-    let s = redirect-back (λ a j b. renumber fs b) L a j c e in
-    let h = renumber-back fs s.0 c s.2 in
-    s.1 ∙ ap suc (sym (unrank-rank fs s.0 h.0) ∙ ap (unrank fs) h.1)
+    let s = stayed-arc fs L a j c e in
+    s.1 ∙ ap suc (sym (unrank-rank fs s.0 s.2) ∙ ap (unrank fs) s.3)
 
 was-node : (gs : List Bool) (X : Layer) (c j b : ℕ) → target (node (compress gs X) c) j ≡ suc b → target (node X (unrank gs c)) j ≡ suc b
 was-node gs X c j b e =
@@ -260,14 +259,11 @@ module _ {S V : Type 0} {Keeps : List ℕ → Type 0} {Stands : S → List ℕ �
             let l = full a (has-arc L a j b e) in
             let h = t.0 a j b e in
             let n = next-at {A = Down S V} (merge by.rule by.tally) (λ x y. Unit {0}) (λ x. tt) (λ x y z f g. tt) (λ x y. tt) (λ x y. tt) (arrival_over by) labs L (length M) a j b l.0 e l.1 h in
-            let l0 = arrivals_at (arrival_over by) b labs L in
-            let x = arrival_over by (K a) j in
-            let y = arrival_over by l.0 j in
             let p = agree-arrive by ruled (K a) l.0 j (fit a l.0 l.1) in
-            let m = gather-all (merge by.rule by.tally) (Agree by ruled x) (agree-merge by ruled x) l0 n.0
-            (λ z i. agree-back by ruled y x z (agree-back by ruled x y x p (agree-self by ruled x)) (pairs by ruled l0 (g b h) y z (ins-in (arrival_over by) (merge by.rule by.tally) b labs L a j l.0 e l.1) i))
-            (next-some (arrival_over by) (merge by.rule by.tally) labs L (length M) b n.0 n.1) in
-            rw n.1 m
+            let q = same-gather by ruled (arrivals_at (arrival_over by) b labs L) n.0 (arrival_over by l.0 j) (g b h) (next-some (arrival_over by) (merge by.rule by.tally) labs L (length M) b n.0 n.1)
+            (ins-in (arrival_over by) (merge by.rule by.tally) b labs L a j l.0 e l.1) in
+            let z = n.1 in
+            grind (arith, p, q, z)
     keyed-more (suc d) K labs (L ∷ M ∷ Ls) t fit full k g =
         (k.0, k.1, keyed-more d k.0 (labels_next by labs L (length M)) (M ∷ Ls) t.3 (fit_next by ruled labs K k.0 fit L k.1 (length M)) (labels_full by w labs L M Ls t full) k.2 g)
     keyed-more d K labs Ls t fit full k g = tt
