@@ -1,5 +1,5 @@
 -- What stands in records that were laid: their arcs can be read back, and the labels that stand are those worked out from the arcs.
-use Rattle.std.proofs.Common.{◌≡◌, ℕ, zero, suc, ◌+◌, ◌*◌, ◌<◌, ◌≤◌, Bool, true, false, cond, not, ◌&&◌, eqb, List, [], ◌∷◌, ◌++◌, map, length, get_or, take, drop, Some, None, Option, sym, refl, ap, ◌∙◌, ap₂, append_assoc, le_of_suc-le-suc, not-suc-le-zero, suc-mul, zero-mul, arith, length-append}
+use Rattle.std.proofs.Common.{◌≡◌, ℕ, zero, suc, ◌+◌, ◌*◌, ◌<◌, ◌≤◌, Bool, true, false, cond, eqb, List, [], ◌∷◌, ◌++◌, map, length, get_or, take, drop, Some, None, Option, sym, refl, ap, ◌∙◌, ap₂, append_assoc, le_of_suc-le-suc, not-suc-le-zero, suc-mul, zero-mul, arith, length-append}
 use Rattle.std.proofs.lemmas.Bool.{ne_eqb}
 use Rattle.std.proofs.lemmas.List.{drop_at, take_at}
 use Rattle.doors.specs.Sets.{has}
@@ -10,7 +10,7 @@ use Rattle.layers.specs.Flow.{arrivals_at, gather, next, up, end_label}
 use Rattle.layers.specs.Lawful.{IsLed, IsTied, IsRoomy}
 use Rattle.layers.specs.Labels.{first_label, first_labels, arrival_over, merge, labels_next, no_up, ups, climb, merge_up}
 use Rattle.layers.specs.Records.{is_used, nodes_in, layers, arcs_in, downs_in, ups_in, arcs_of_layers, padded_targets, record_of_place, labelled_from, labelled_records}
-use Rattle.layers.specs.Calls.{places_agree, in_arcs_agree, value_in, labels_in, LayerLabels, kept_arcs}
+use Rattle.layers.specs.Calls.{in_arcs_agree, value_in, labels_in, LayerLabels, kept_arcs}
 use Rattle.layers.proofs.Flows.{first-only, next-all, next-at, table_at, has-arc, up_at}
 use Rattle.layers.proofs.Ways.{or_left, one-self, none_has}
 use Rattle.layers.proofs.Model.{kept, agrees, valueO, or_blank, or_no_up, labels_at}
@@ -190,8 +190,10 @@ module _ {S V : Type 0} (by : Setting S V) (w : 1 ≤ by.width) where
   layers-laid later labs (L ∷ Ls) f =
       let f' = record_of_place by L labs (ups (L ∷ Ls)) in
       let X = labelled_from by (labels_next by labs L (width Ls)) Ls in
-      grind (arith, append_assoc (table by.width f') X later, take_at (table by.width f') (X ++ later) by.width (table-long by.width f'), drop_at (table by.width f') (X ++ later) by.width (table-long by.width f'),
-      one-row labs L Ls f.0, layers-laid later (labels_next by labs L (width Ls)) Ls f.1)
+      let e = append_assoc (table by.width f') X later in
+      let t = take_at (table by.width f') (X ++ later) by.width (table-long by.width f') in
+      let u = drop_at (table by.width f') (X ++ later) by.width (table-long by.width f') in
+      grind (arith, e, t, u, one-row labs L Ls f.0, layers-laid later (labels_next by labs L (width Ls)) Ls f.1)
 
   pub drawn-stood : (labs : Labs) (Ls : Net) → Full labs Ls → arcs_of_layers by.round.n (stood labs Ls) ≡ Ls
   drawn-stood labs [] f = refl

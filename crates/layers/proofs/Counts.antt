@@ -1,14 +1,14 @@
 -- A sweep adds no arc, and where it takes out none, none is one that it takes out.
 use Rattle.layers.proofs.Walk.{every_arc-at}
 use Rattle.layers.proofs.Tidying.{tidied-same}
-use Rattle.std.proofs.Common.{◌≡◌, ℕ, zero, suc, ◌≤◌, Bool, true, cond, not, eqb, List, [], ◌∷◌, length, get_or, Some, None, Option, refl, ap, ◌∙◌, ap₂, arith}
+use Rattle.std.proofs.Common.{◌≡◌, ℕ, suc, ◌≤◌, Bool, true, cond, not, eqb, List, [], ◌∷◌, length, get_or, Some, None, Option, refl, ap, arith}
 use Rattle.std.proofs.lemmas.Bool.Decides.{nat_tests}
-use Rattle.std.proofs.lemmas.Bool.{not-true, and_parts, eqb-true, eq-eqb}
+use Rattle.std.proofs.lemmas.Bool.{not-true}
 use Rattle.layers.specs.Net.{Outs, Layer, Net, width, each_door, each_node, redirect, count_doors, count_layer, count_arcs, every_door, every_arc}
 use Rattle.layers.specs.Tidy.{Mark, marks_next, marks_up, flags, compress, renumber, tidy, tidied_arcs}
 use Rattle.layers.specs.Lawful.{IsTied}
 use Rattle.layers.specs.Labels.{first_labels, is_barred}
-use Rattle.layers.proofs.Model.{labels_from, sweep, settles, settled, agrees, quiet}
+use Rattle.layers.proofs.Model.{labels_from, sweep, settles, settled, agrees}
 use Rattle.layers.proofs.Tied.{redirect-same}
 use Rattle.layers.specs.Settings.{Setting}
 use Rattle.layers.specs.declared.node.Down.{Down}

@@ -1,16 +1,16 @@
 -- The claim: no call loses an allowed order that no ceiling rules out, what must answers, what a settled diagram shows, and what the labels mean.
-use Rattle.std.proofs.Common.{◌≡◌, ℕ, ◌≤◌, true, List, [], ◌∷◌, Some, sym, ap, ◌∙◌, inl, inr, arith, zero, suc, Bool, false, cond, not, ◌++◌, length, get_or, None, Option, refl, subst, append-nil, ◌+◌, eqb, ◌⊎◌, fold, ◌<◌, drop, le_of_suc-le-suc, not-suc-le-zero}
+use Rattle.std.proofs.Common.{◌≡◌, ℕ, ◌≤◌, true, List, [], ◌∷◌, Some, sym, ap, ◌∙◌, inl, inr, arith, zero, suc, Bool, false, not, ◌++◌, length, get_or, None, Option, refl, subst, append-nil, ◌+◌, eqb, ◌⊎◌, fold, ◌<◌, drop, le_of_suc-le-suc, not-suc-le-zero}
 use Rattle.std.proofs.lemmas.Bool.Decides.{nat_tests}
 use Rattle.std.proofs.lemmas.Bool.{both_ways, not-true, not-false, false≢true, eqb-true, eq-eqb, and_parts, or_cases, cases_eq}
 use Rattle.rules.specs.Rules.{RuleLaws, RuleSense}
 use Rattle.tallies.specs.Tallies.{TallyLaws, TallySense}
 use Rattle.orders.specs.Allowed.{IsAllowed}
-use Rattle.orders.specs.Costs.{cost, Trip, next_trip, trip_after}
+use Rattle.orders.specs.Costs.{cost, next_trip, trip_after}
 use Rattle.layers.specs.Lawful.{IsEven, IsLawful, IsTied}
 use Rattle.layers.specs.declared.node.Node.{Node}
 use Rattle.layers.specs.Net.{Layer, Net, PathFrom, has_path_with, table, target, width, Outs, node, still_sought, is_nil, any_door}
 use Rattle.layers.specs.declared.call.Call.{Call}
-use Rattle.layers.specs.Calls.{arcs, after_open, after_calls, records_with, bound, must, is_settled, EachCut, kept_arcs, layer}
+use Rattle.layers.specs.Calls.{arcs, after_open, after_calls, records_with, bound, must, is_settled, EachCut, layer}
 use Rattle.layers.specs.Claim.{MustMeans, NothingLost, NothingFalse, ClaimAlwaysHolds, LabelsStand, SettledMeans, StandsAhead}
 use Rattle.layers.proofs.Model.{bound as boundOf, settled as settled_of, cuts, cut, valueO, labels_at, or_blank, or_no_up}
 use Rattle.layers.proofs.Standing.{Reached, arcs-of, bound-X, settled-X, settled-means-X, after_end, run-reached, KeptOnArcs, reached, opened-reached, X, full, nodes-X, arcs-X}
@@ -18,10 +18,10 @@ use Rattle.layers.specs.Settings.{Setting, setting}
 use Rattle.doors.specs.Orders.{IsDoor, IsPartOrder, StandsIn}
 use Rattle.round.proofs.Clocks.{clock-laws}
 use Rattle.round.specs.Clock.{drive, latest_finish}
-use Rattle.layers.specs.Flow.{end_label, up, arrivals_at, gather, climbs_of}
+use Rattle.layers.specs.Flow.{end_label, up}
 use Rattle.layers.specs.Labels.{arrival_over, merge, first_labels, labels_next, is_above_ceiling, opening_arcs, all_doors, ups, no_up, bit_of, climb, merge_up, first_label}
-use Rattle.layers.proofs.Flows.{redirect-arc, inside, table_at, tidy-keeps, first-only, EvenLayer, next-all, up-all, next-at}
-use Rattle.layers.proofs.Ways.{trip-snoc, length-snoc, snoc-assoc, or_left, or_right, or_split, and_left, and_right, one-self, one_only, none_has}
+use Rattle.layers.proofs.Flows.{table_at, tidy-keeps, first-only, EvenLayer, next-all, up-all, next-at}
+use Rattle.layers.proofs.Ways.{trip-snoc, length-snoc, snoc-assoc, or_left, or_right, or_split, one-self, one_only, none_has}
 use Rattle.layers.proofs.Walk.{within, Going, going_next, Told, told-next, At, going-facts, OnWay, way_next, way-fits, filter-keeps, setting-out, sweep-keeps, paths-allowed, bound-attained, Good, path-up, good-first, good-next, Tells, Longer, at_front, at_back, tells-step, tells-left, tells-right}
 use Rattle.layers.proofs.Proper.{part-edited, join-edited}
 use Rattle.layers.specs.declared.node.Down.{Down}

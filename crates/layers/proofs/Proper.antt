@@ -7,14 +7,14 @@ use Rattle.layers.specs.Net.{table, Outs, Layer, Net, node, target, redirect, wi
 use Rattle.layers.specs.Flow.{arrivals_at}
 use Rattle.layers.specs.Join.{clash, either_target, both_out, without_place, place_after_join, joined_arcs, targets_differ}
 use Rattle.layers.specs.Lawful.{IsRanged, IsFed, IsLed, IsTied, IsRoomy, IsEven, IsLawful}
-use Rattle.layers.specs.Labels.{arrival_over, agree, agrees_with_all, all_agree, differs_from_first, first_arrival, opening_arcs, all_doors, labels_next, first_labels}
+use Rattle.layers.specs.Labels.{arrival_over, agree, agrees_with_all, all_agree, differs_from_first, first_arrival, opening_arcs, all_doors}
 use Rattle.layers.specs.Calls.{parted_arcs, arrivals, LayerLabels, kept_arcs}
 use Rattle.layers.proofs.Flows.{EvenLayer, Among, redirect-arc, has-arc, table_at, From, ins-from, table-long, compress-at}
 use Rattle.layers.proofs.Ways.{length-snoc}
 use Rattle.layers.proofs.Tied.{redirect-back, redirect-length, redirect-long, compress-back, tidied-tied, kept-back}
 use Rattle.layers.specs.Settings.{Setting}
 use Rattle.layers.specs.declared.node.Down.{Down}
-use Rattle.layers.proofs.Model.{part_at, moved, one_group, labels_at}
+use Rattle.layers.proofs.Model.{moved}
 use Rattle.layers.specs.Tidy.{Mark, marks_next, marks_up, flags, compress, renumber, tidy, tidied_arcs}
 use Rattle.layers.specs.declared.node.Up.{Up}
 

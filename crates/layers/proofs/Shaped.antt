@@ -1,7 +1,8 @@
 -- Where the nodes stand in the flat list. Records of the shape of a diagram have lawful arcs, and lawful arcs that are laid out anew have that shape, and finishes in time.
 use Rattle.std.proofs.Common.{◌≡◌, ℕ, zero, suc, ◌+◌, ◌-◌, ◌*◌, ◌<◌, ◌≤◌, Bool, cond, List, [], ◌∷◌, ◌++◌, map, length, get_or, take, drop, Some, None, Option, sym, refl, ap, ◌∙◌, inl, inr, ⊎_elim, suc-mul, suc-add, zero-add, arith, eqb, le_of_suc-le-suc, not-suc-le-zero, zero-mul, subst, append_assoc}
 use lib.ListN.{length-map}
-use Rattle.std.proofs.lemmas.List.{length-take, length-take-le, drop-drop, drop_more}
+use Rattle.std.proofs.lemmas.Bool.Decides.{nat_tests}
+use Rattle.std.proofs.lemmas.List.{length-take, length-take-le, drop-drop, drop_more, take-take, drop-take}
 use Rattle.std.proofs.lemmas.Bool.{cases_lt, eq-eqb, ne_eqb}
 use Rattle.round.specs.declared.table.Round.{Round}
 use Rattle.layers.specs.declared.node.Node.{Node}
@@ -21,10 +22,9 @@ use Rattle.layers.proofs.Standing.{full, nodes-X, arcs-X, written}
 use Rattle.layers.specs.Settings.{Setting}
 use Rattle.layers.specs.declared.node.Down.{Down}
 use Rattle.std.specs.List.{AllByRecursion as All}
-use Rattle.std.proofs.ByRecursion.{All-append}
+use Rattle.std.proofs.ByRecursion.{All-append, All-take, All-drop, All-map}
 use Rattle.round.proofs.Clocks.{clock-laws}
 use Rattle.round.specs.Clock.{latest_finish}
-use Rattle.layers.specs.Flow.{arrivals_at}
 use Rattle.layers.proofs.Ways.{leg-bound}
 use Rattle.layers.proofs.Model.{or_blank}
 
@@ -45,14 +45,11 @@ unfolding bound
 bound_at {S} {V} n W xs d h = ap value_in (end-at W n xs ∙ ap (λ (ys : List (Node S V)). nodes_in (take 1 ys)) (drop_more xs (n * W) d h)) ∙ grind arith
 
 module _ {S V : Type 0} (n W : ℕ) (xs : List (Node S V)) (x : Node S V) (h : n * W < length xs) (is : x ≡ get_or xs (n * W) x) where
-  read-bound : bound n W xs ≡ cond (eqb x.label.down.lasts 0) None (Some x.label.down.value)
-  read-bound = bound_at n W xs x h ∙ ap (λ (y : Node S V). cond (eqb y.label.down.lasts 0) None (Some y.label.down.value)) (sym is)
-
   pub bound-none : x.label.down.lasts ≡ 0 → None ≡ bound n W xs
-  bound-none e = sym (read-bound ∙ ap (λ (q : Bool). cond q None (Some x.label.down.value)) (eq-eqb x.label.down.lasts 0 e))
+  bound-none e = grind (arith, nat_tests, e, is, bound_at n W xs x h)
 
   pub bound_some : (x.label.down.lasts ≡ 0 → ⊥) → Some x.label.down.value ≡ bound n W xs
-  bound_some e = sym (read-bound ∙ ap (λ (q : Bool). cond q None (Some x.label.down.value)) (ne_eqb x.label.down.lasts 0 e))
+  bound_some e = grind (arith, nat_tests, e, is, bound_at n W xs x h)
 
 -- ---- the nodes that stand are the first of their places
 pub standing-at : {S V : Type 0} (us : List (Node S V)) (a : ℕ) (d : Node S V) → a < length (nodes_in us) → get_or (nodes_in us) a d ≡ get_or us a d
@@ -64,17 +61,17 @@ pub standing-short : {S V : Type 0} (us : List (Node S V)) → length (nodes_in 
 standing-short [] = omega arith
 standing-short (u ∷ us) = grind (arith, standing-short us)
 
-take-among : {A : Type 0} (m k : ℕ) (xs : List A) (x : A) → m ≤ k → Among x (take m xs) → Among x (take k xs)
-take-among zero k xs x h i = absurd i
-take-among (suc m) (suc k) (y ∷ xs) x h i = grind (arith, h, i, take-among m k xs x)
-take-among (suc m) (suc k) [] x h i = i
-take-among (suc m) zero xs x h i = absurd (omega arith)
+-- ---- what holds of each item
+all-table : {A : Type 0} (P : A → Type 0) (m : ℕ) (f : ℕ → A) → ((k : ℕ) → P (f k)) → All P (table m f)
+all-table P zero f h = tt
+all-table P (suc m) f h = (h 0, all-table P m (λ k. f (suc k)) (λ k. h (suc k)))
 
-drop-among : {A : Type 0} (w m : ℕ) (xs : List A) (x : A) → Among x (take m (drop w xs)) → Among x (take (w + m) xs)
-drop-among zero m xs x i = rw (zero-add m) i
-drop-among (suc w) zero [] x i = absurd i
-drop-among (suc w) (suc m) [] x i = absurd i
-drop-among (suc w) m (y ∷ xs) x i = rw (suc-add w m) (inr (drop-among w m xs x i))
+-- of the first of them, and of those past the first
+all-front : {A : Type 0} (P : A → Type 0) (w m : ℕ) (xs : List A) → w ≤ m → All P (take m xs) → All P (take w xs)
+all-front P w m xs h a = rw (← (take-take w m xs h)) (All-take P w (take m xs) a)
+
+all-rest : {A : Type 0} (P : A → Type 0) (w m : ℕ) (xs : List A) → All P (take (w + m) xs) → All P (take m (drop w xs))
+all-rest P w m xs a = rw (← (drop-take w m xs)) (All-drop P w (take (w + m) xs) a)
 
 module _ {S V : Type 0} (n W : ℕ) where
   pub drawn-deep : (k : ℕ) (xs : List (Node S V)) → length (arcs_of_layers n (layers W k xs)) ≡ k
@@ -91,43 +88,32 @@ module _ {S V : Type 0} (n W : ℕ) where
   drawn-roomy (suc (suc k)) xs = (arcs-short xs, drawn-roomy (suc k) (drop W xs))
 
   -- ---- sixteen targets to a record, so n of them to a node
-  abbrev Long : List (Node S V) → Type 0
-  Long us = (x : Node S V) → Among x us → length x.arcs.to ≡ 16
+  abbrev Long : Node S V → Type 0
+  Long x = length x.arcs.to ≡ 16
 
-  standing-among : (us : List (Node S V)) (x : Node S V) → Among x (nodes_in us) → Among x us
-  standing-among [] x i = i
-  standing-among (u ∷ us) x i = grind (arith, i, standing-among us x)
-
-  arcs-even : (us : List (Node S V)) → n ≤ 16 → Long us → EvenLayer n (arcs_in n us)
+  arcs-even : (us : List (Node S V)) → n ≤ 16 → All Long us → EvenLayer n (arcs_in n (nodes_in us))
   arcs-even [] h l a k = absurd (omega arith)
-  arcs-even (u ∷ us) h l zero k = length-take-le n u.arcs.to (omega (arith, l u (inl refl)))
-  arcs-even (u ∷ us) h l (suc a) k = arcs-even us h (λ x j. l x (inr j)) a (omega arith)
+  arcs-even (u ∷ us) h l a k = let z = length-take-le n u.arcs.to (omega (arith, h, l.0)) in grind (arith, k, z, arcs-even us h l.1)
 
-  drawn-even : (k : ℕ) (xs : List (Node S V)) → n ≤ 16 → Long (take (k * W + 1) xs) → IsEven n (arcs_of_layers n (layers W k xs))
+  drawn-even : (k : ℕ) (xs : List (Node S V)) → n ≤ 16 → All Long (take (k * W + 1) xs) → IsEven n (arcs_of_layers n (layers W k xs))
   drawn-even zero xs h l = tt
-  drawn-even (suc zero) xs h l = (arcs-even (nodes_in (take W xs)) h (λ x i. l x (take-among W (suc 0 * W + 1) xs x (omega (arith, suc-mul 0 W)) (standing-among (take W xs) x i))), tt)
+  drawn-even (suc zero) xs h l = (arcs-even (take W xs) h (all-front Long W (suc 0 * W + 1) xs (omega (arith, suc-mul 0 W)) l), tt)
   drawn-even (suc (suc k)) xs h l =
       let m = suc k * W + 1 in
-      let e : W + m ≡ suc (suc k) * W + 1 = omega (arith, suc-mul (suc k) W) in (
-        arcs-even (nodes_in (take W xs)) h (λ x i. l x (take-among W (suc (suc k) * W + 1) xs x (omega (arith, e)) (standing-among (take W xs) x i))),
-        drawn-even (suc k) (drop W xs) h (λ x i. l x (rw (← e) (drop-among W m xs x i))),
-      )
+      let e : suc (suc k) * W + 1 ≡ W + m = omega (arith, suc-mul (suc k) W) in
+      (arcs-even (take W xs) h (all-front Long W (suc (suc k) * W + 1) xs (omega (arith, e)) l), drawn-even (suc k) (drop W xs) h (all-rest Long W m xs (rw e at l)))
 
 -- all of the laid arcs have sixteen targets
-laid-sixteen : (W : ℕ) (Ls : Net) (ts : List ℕ) → Among ts (targets_of (laid_arcs W Ls)) → length ts ≡ 16
-laid-sixteen W [] ts (inl e) = ap length e ∙ table-long 16 (λ k. get_or {A = ℕ} [] k 0)
-laid-sixteen W [] ts (inr i) = absurd i
-laid-sixteen W (L ∷ Ls) ts i = go W (λ k. k) i (λ h. laid-sixteen W Ls ts h)
+laid-sixteen : (W : ℕ) (Ls : Net) → All (λ ts. length ts ≡ 16) (targets_of (laid_arcs W Ls))
+laid-sixteen W Ls = All-map (λ ts. length ts ≡ 16) (λ a. a.to) (laid_arcs W Ls) (each Ls)
   where
-    go : (m : ℕ) (f : ℕ → ℕ) → Among ts (targets_of (table m (λ k. arcs_at L (f k)) ++ laid_arcs W Ls)) → (Among ts (targets_of (laid_arcs W Ls)) → length ts ≡ 16) → length ts ≡ 16
-    go zero f h g = g h
-    go (suc m) f (inl e) g = ap length e ∙ table-long 16 (λ k. get_or (get_or L (f 0) []) k 0)
-    go (suc m) f (inr h) g = go m (λ k. f (suc k)) h g
+    each : (Ls : Net) → All (λ a. length a.to ≡ 16) (laid_arcs W Ls)
+    each [] = (table-long 16 (λ k. get_or {A = ℕ} [] k 0), tt)
+    each (L ∷ Ls) = All-append _ (table W (arcs_at L)) _ (all-table _ W (arcs_at L) (λ k. table-long 16 (λ i. get_or (get_or L k []) i 0))) (each Ls)
 
-targets-among : {S V : Type 0} (us : List (Node S V)) (x : Node S V) → Among x us → Among x.arcs.to (targets_of (arcs_read us))
-targets-among [] x i = i
-targets-among (u ∷ us) x (inl e) = inl (ap (λ (y : Node _ _). y.arcs.to) e)
-targets-among (u ∷ us) x (inr i) = inr (targets-among us x i)
+long-if : {S V : Type 0} (us : List (Node S V)) → All (λ ts. length ts ≡ 16) (targets_of (arcs_read us)) → All (λ x. length x.arcs.to ≡ 16) us
+long-if [] h = tt
+long-if (u ∷ us) h = (h.0, long-if us h.1)
 
 -- ---- the arcs of records of that shape
 module _ {S V : Type 0} (r : Round) (W : ℕ) (xs : List (Node S V)) where
@@ -135,7 +121,7 @@ module _ {S V : Type 0} (r : Round) (W : ℕ) (xs : List (Node S V)) where
   shaped-proper s = record {
     deep = drawn-deep r.n W r.n xs;
     one_first = s.first;
-    even = drawn-even r.n W r.n xs r.most (λ x i. laid-sixteen W (arcs r.n W xs) x.arcs.to (rw (← s.written) (targets-among (take (r.n * W + 1) xs) x i)));
+    even = drawn-even r.n W r.n xs r.most (long-if (take (r.n * W + 1) xs) (rw s.written (laid-sixteen W (arcs r.n W xs))));
     roomy = drawn-roomy r.n W r.n xs;
     tied = rw (← s.tidy) (tidied-tied (arcs r.n W xs));
   }
@@ -224,10 +210,6 @@ module _ {S V : Type 0} (by : Setting S V) (w : 1 ≤ by.width) (xs : List (Node
 take_past : {A : Type 0} (m k : ℕ) (f : ℕ → A) (xs : List A) → take (m + k) (table m f ++ xs) ≡ table m f ++ take k xs
 take_past zero k f xs = ap (λ (c : ℕ). take c xs) (zero-add k)
 take_past (suc m) k f xs = rw (suc-add m k) (ap (λ (l : List _). f 0 ∷ l) (take_past m k (λ i. f (suc i)) xs))
-
-all-table : {A : Type 0} (P : A → Type 0) (m : ℕ) (f : ℕ → A) → ((k : ℕ) → P (f k)) → All P (table m f)
-all-table P zero f h = tt
-all-table P (suc m) f h = (h 0, all-table P m (λ k. f (suc k)) (λ k. h (suc k)))
 
 most-at : {A : Type 0} (f : A → ℕ) (m : ℕ) (xs : List A) → All (λ x. f x ≤ m) xs → (k : ℕ) → get_or (map f xs) k 0 ≤ m
 most-at f m [] h k = omega arith

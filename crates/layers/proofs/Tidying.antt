@@ -2,7 +2,7 @@
 use Rattle.layers.proofs.Ways.{length-snoc}
 use Rattle.layers.specs.Lawful.{IsLed, IsTied, IsRanged}
 use Rattle.std.proofs.Common.{◌≡◌, ℕ, zero, suc, ◌<◌, ◌≤◌, Bool, true, false, cond, ◌⊎◌, List, [], ◌∷◌, length, get_or, drop, Some, None, Option, sym, refl, ap, ◌∙◌, subst, inl, inr, not-suc-le-zero, arith, ◌++◌, le_of_suc-le-suc}
-use Rattle.std.proofs.lemmas.Bool.{true≢false, false≢true, cases_eq}
+use Rattle.std.proofs.lemmas.Bool.{false≢true, cases_eq}
 use Rattle.std.proofs.lemmas.List.{ext_get_or}
 use Rattle.layers.specs.Net.{Outs, Layer, Net, node, target, width, PathFrom, each_node, redirect}
 use Rattle.layers.specs.Flow.{up}

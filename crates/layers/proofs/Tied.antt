@@ -5,7 +5,7 @@ use Rattle.std.proofs.lemmas.Bool.{false≢true}
 use Rattle.std.proofs.lemmas.Option.{none-some}
 use Rattle.std.proofs.lemmas.List.{ext_get_or}
 use Rattle.layers.specs.Net.{Outs, Layer, Net, node, target, width, each_door, each_node, redirect}
-use Rattle.layers.specs.Flow.{arrivals_at, gather, climbs_of, up}
+use Rattle.layers.specs.Flow.{gather, climbs_of, up}
 use Rattle.layers.specs.Tidy.{Mark, marks_next, marks_up, flags, rank, compress, renumber, tidy, tidied_arcs}
 use Rattle.layers.specs.Lawful.{IsRanged, IsLed, IsTied}
 use Rattle.layers.specs.Targets.{at_door}

@@ -1,8 +1,7 @@
 -- A label on the way agrees with the beginning that leads to it, so no arc of an allowed order is swept or cut; and while settled answers yes, the labels are exact.
-use Rattle.std.proofs.Common.{◌≡◌, ℕ, zero, suc, ◌+◌, ◌<◌, ◌≤◌, Bool, true, false, cond, ◌||◌, ltb, ◌⊎◌, List, [], ◌∷◌, ◌++◌, length, get_or, Some, None, Option, sym, refl, ap, ◌∙◌, subst, inl, inr, le_trans, arith, not, fold, append-nil, not-suc-le-zero}
+use Rattle.std.proofs.Common.{◌≡◌, ℕ, zero, suc, ◌+◌, ◌<◌, ◌≤◌, Bool, true, false, cond, ◌⊎◌, List, [], ◌∷◌, ◌++◌, length, get_or, Some, None, Option, sym, refl, ap, ◌∙◌, subst, inl, inr, arith, not, fold, append-nil}
 use lib.Bits.{bit_and, bit_or, and_self, or_self}
-use lib.Count.{ones}
-use Rattle.std.proofs.lemmas.Bool.{le-ltb, ne_eqb, false_from_ne_true, true≢false, not-true, and_parts, cond_both}
+use Rattle.std.proofs.lemmas.Bool.{ne_eqb, true≢false, not-true, and_parts, cond_both}
 use Rattle.doors.proofs.Orders.{in-last, last-in, part-next, next-part, each_none, each_more}
 use Rattle.doors.specs.Orders.{IsDoor, StandsIn, IsPartOrder}
 use Rattle.doors.specs.Sets.{has}
@@ -13,21 +12,20 @@ use Rattle.rules.specs.Rules.{RuleLaws, state_of}
 use Rattle.tallies.specs.Tallies.{TallyLaws}
 use Rattle.orders.proofs.Times.{trip-van}
 use Rattle.orders.specs.Allowed.{IsAllowed}
-use Rattle.orders.specs.Costs.{Trip, cost, next_trip, trip_after}
+use Rattle.orders.specs.Costs.{cost, next_trip, trip_after}
 use Rattle.orders.specs.Times.{van_after, finish_of, KeepsHours}
 use Rattle.layers.specs.Lawful.{IsEven}
 use Rattle.layers.specs.declared.node.Up.{Up}
 use Rattle.layers.specs.Net.{Outs, Layer, Net, node, target, width, PathFrom, every_door, every_arc}
 use Rattle.layers.specs.Flow.{arrivals_at, up, end_label, gather}
 use Rattle.layers.specs.Labels.{bit_of, leg, climb, merge_up, no_up, ups, first_label, arrival_over, merge, first_labels, labels_next, is_barred, all_agree, agree, agrees_with_all}
-use Rattle.layers.proofs.Flows.{EvenLayer, redirect-arc, inside, has-arc, next-at, up_at, tidy-keeps, next-all, first-only, Among, From, ins-in, ins-from, next-some, next-within, gather-all}
+use Rattle.layers.proofs.Flows.{EvenLayer, redirect-arc, inside, has-arc, next-at, up_at, tidy-keeps, next-all, first-only, Among, ins-in, ins-from, next-some, next-within, gather-all}
 use Rattle.layers.proofs.Ways.{or_left, or_right, or_split, and_left, and_right, one-self, one_only, none_has, ones_in, part-tail, trip-snoc, van-snoc, length-snoc, snoc-assoc, TimelyFrom, timely-from, leg-le, leg-bound, state-snoc, leg-one}
 use Rattle.layers.proofs.Model.{kept, sweeps, sweep, agrees, quiet, settles, settled, bound, valueO}
 use Rattle.layers.specs.Settings.{Setting}
 use Rattle.layers.specs.declared.node.Down.{Down}
 use Rattle.layers.specs.Calls.{kept_arcs, places_agree, in_arcs_agree, keeps_all_arcs}
 use Rattle.std.proofs.lemmas.Bool.Decides.{nat_tests}
-use Rattle.orders.specs.declared.van.Van.{Van}
 
 pub within : (k f : ℕ) → k < 16 → f ≤ latest_finish (suc k) → f ≤ latest_finish 16
 within k f h e = omega arith

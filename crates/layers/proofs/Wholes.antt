@@ -2,7 +2,7 @@
 use Rattle.layers.proofs.Walk.{same-gather, Agree, agree-self, agree-back, agree-merge, agree-arrive, by-pairs, agree-yes, pairs}
 use Rattle.layers.proofs.Proper.{more-back}
 use Rattle.std.proofs.lemmas.Bool.Decides.{nat_tests}
-use Rattle.std.proofs.Common.{◌≡◌, ℕ, zero, suc, ◌≤◌, Bool, true, false, cond, eqb, List, [], ◌∷◌, ◌++◌, length, get_or, Some, None, Option, sym, refl, ap, ◌∙◌, arith, ◌+◌, ◌-◌, ◌<◌, leb, ltb, ◌⊎◌, subst, inl, inr, not-suc-le-zero}
+use Rattle.std.proofs.Common.{◌≡◌, ℕ, zero, suc, ◌≤◌, Bool, true, false, cond, eqb, List, [], ◌∷◌, ◌++◌, length, get_or, Some, None, Option, sym, refl, ap, ◌∙◌, arith, ◌+◌, ◌-◌, ◌<◌, leb, ltb, subst, inl, inr, not-suc-le-zero}
 use Rattle.std.proofs.lemmas.Bool.{false≢true, true≢false, leb-false, ltb-true, ltb-false, eqb-true, eqb-false, cases_eq, cond_both}
 use Rattle.rules.specs.Rules.{RuleLaws, RuleSense}
 use Rattle.layers.specs.Net.{Layer, Net, node, target, width, redirect, count_arcs}
