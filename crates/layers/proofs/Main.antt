@@ -394,14 +394,13 @@ module _ {S V : Type 0} {Keeps : List ℕ → Type 0} {Stands : S → List ℕ �
 
   top-at : (labs : Labs by w1) (Ls : Net) (a : ℕ) (other : Node S V) → Full by w1 labs Ls → a < length (top by w1 labs Ls)
       → Stands-at labs Ls a (get_or (top by w1 labs Ls) a other)
-  top-at labs [] a other f h = go (get_or labs 0 None) refl
-    where
-      go : (o : Option (Down S V)) → get_or labs 0 None ≡ o → Stands-at labs [] a (get_or (top by w1 labs []) a other)
-      go None e = absurd (omega (arith, rw e at h))
-      go (Some l) e =
-          let s = end-top by w1 labs l e (f 0 l e) in
-          let z : a ≡ 0 = omega (arith, ap (λ (N : List (Node S V)). length N) s) in
-          rw (s, z) (record { inner = omega arith; label = l; labelled = e; down = refl; up = unfold ups up in refl })
+  top-at labs [] a other f h = elim (get_or labs 0 None) as (λ o. get_or labs 0 None ≡ o → Stands-at labs [] a (get_or (top by w1 labs []) a other)) [
+    | None ↦ λ e. absurd (omega (arith, rw e at h))
+    | Some l ↦ λ e.
+        let s = end-top by w1 labs l e (f 0 l e) in
+        let z : a ≡ 0 = omega (arith, ap (λ (N : List (Node S V)). length N) s) in
+        rw (s, z) (record { inner = omega arith; label = l; labelled = e; down = refl; up = unfold ups up in refl })
+  ] refl
   top-at labs (L ∷ Ls) a other f h =
       let F = record_of_place by L labs (ups (L ∷ Ls)) in
       let k : a < length L = omega (arith, table-long (length L) F) in

@@ -1,7 +1,7 @@
 -- The arcs that opening lays are lawful, and filters, parting and joining keep lawful arcs so; part and join keep every path.
 use Rattle.std.proofs.Common.{◌≡◌, ℕ, zero, suc, ◌-◌, ◌<◌, ◌≤◌, Bool, true, false, cond, not, ◌&&◌, eqb, ltb, ◌⊎◌, List, [], ◌∷◌, ◌++◌, length, get_or, set, Some, None, Option, sym, refl, ap, ◌∙◌, inl, inr, le_of_suc-le-suc, not-suc-le-zero, arith, length-set}
 use Rattle.std.proofs.lemmas.Bool.Decides.{nat_tests}
-use Rattle.std.proofs.lemmas.Bool.{true≢false, ltb-true, ltb-false, eqb-true, eq-eqb, cases_lt, cases_eq, and_cases, and_parts}
+use Rattle.std.proofs.lemmas.Bool.{true≢false, eqb-true, eq-eqb, ne_eqb, cases_lt, cases_eq, and_cases, and_parts}
 use Rattle.std.proofs.lemmas.List.{get_or_append_left, get_or_push, get_or-set_same, get_or-set_other}
 use Rattle.layers.specs.Net.{table, Outs, Layer, Net, node, target, redirect, width, PathFrom}
 use Rattle.layers.specs.Flow.{arrivals_at}
@@ -103,17 +103,7 @@ module _ {S V : Type 0} (by : Setting S V) where
   open-fed b h = let z : b ≡ 0 = omega arith in (0, 1, first-door ∙ ap suc (sym z))
 
   open-led : IsLed (all_doors by.round.n ∷ [])
-  open-led zero h = (1, 0, first-door)
-  open-led (suc a) h = absurd (not-suc-le-zero (le_of_suc-le-suc h))
-
-  pub opened-tied : IsTied (opening_arcs by.round.n)
-  unfolding opening_arcs
-  opened-tied = go by.round.n
-    where
-      go : (k : ℕ) → IsTied (table k (λ i. all_doors by.round.n ∷ []))
-      go zero = tt
-      go (suc zero) = open-ranged
-      go (suc (suc k)) = (open-ranged, open-fed, open-led, go (suc k))
+  open-led a h = let z : a ≡ 0 = omega arith in (1, 0, rw z first-door)
 
 -- ---- part
 -- the nodes of a layer with one more are those of the layer
@@ -181,22 +171,17 @@ module _ {S V : Type 0} (by : Setting S V) (self : (s : S) → by.rule.same s s 
     at_a x y e w = rw (eq-eqb a a refl, e, w.labelled) (ap (λ (z : Down S V). not (agree by.rule x z)) (sym w.is))
 
     pub part-fed : IsFed L (length M) → IsFed (redirect f L) (length (M ++ (node M a ∷ [])))
-    part-fed g c k = new (ltb c (length M)) refl (eqb c a) refl
-      where
-        new : (p : Bool) → ltb c (length M) ≡ p → (q : Bool) → eqb c a ≡ q → (u : ℕ) × (j : ℕ) × (target (node (redirect f L) u) j ≡ suc c)
-        new true e true d =
-            let g = groups (arrivals_at (arrival_over by) a labs L) two in
-            let x = g.0 in
-            let w = ins-from (arrival_over by) a labs L x g.2 in
-            (w.source, w.door, moves-to w.source w.door a false w.arc (at_a x x g.1 w ∙ ap not (agree-self x)) ∙ ap suc (sym (eqb-true c a d)))
-        new true e false d =
-            let s = g c (ltb-true c (length M) e) in
-            (s.0, s.1, moves-to s.0 s.1 c false s.2 (ap (λ (z : Bool). z && differs_from_first by h (get_or labs s.0 None) s.1) d))
-        new false e q d =
-            let g = groups (arrivals_at (arrival_over by) a labs L) two in
-            let w = ins-from (arrival_over by) a labs L g.3 g.4 in
-            let z : c ≡ length M = omega (arith, length-snoc M (node M a), ltb-false c (length M) e) in
-            (w.source, w.door, moves-to w.source w.door a true w.arc (at_a g.0 g.3 g.1 w ∙ ap not g.5) ∙ ap suc (sym z))
+    part-fed g c k =
+        let q = groups (arrivals_at (arrival_over by) a labs L) two in
+        let v = ins-from (arrival_over by) a labs L q.0 q.2 in
+        let w = ins-from (arrival_over by) a labs L q.3 q.4 in
+        elim (cases_lt c (length M)) [
+          | inl lt ↦ elim (cases_eq c a) [
+            | inl e ↦ (v.source, v.door, moves-to v.source v.door a false v.arc (at_a q.0 q.0 q.1 v ∙ ap not (agree-self q.0)) ∙ ap suc (sym e))
+            | inr n ↦ (let s = g c lt in (s.0, s.1, moves-to s.0 s.1 c false s.2 (ap (λ (z : Bool). z && differs_from_first by h (get_or labs s.0 None) s.1) (ne_eqb c a n))))
+          ]
+          | inr ge ↦ (let z : length M ≡ c = omega (arith, length-snoc M (node M a)) in (w.source, w.door, moves-to w.source w.door a true w.arc (at_a q.0 q.3 q.1 w ∙ ap not q.5) ∙ ap suc z))
+        ]
 
     pub part-led : IsLed L → IsLed (redirect f L)
     part-led g u k =
@@ -401,26 +386,19 @@ join-edited n W (suc d) lo hi (L ∷ Ls) a b c = lift n W L Ls _ (join-edited n 
 join-edited n W d lo hi Ls a b c = absurd (omega arith)
 
 module _ {S V : Type 0} (by : Setting S V) (w : 1 ≤ by.width) where
-  roomy-open : (k : ℕ) → IsRoomy by.width (table k (λ i. all_doors by.round.n ∷ []))
-  roomy-open zero = tt
-  roomy-open (suc k) = (w, roomy-open k)
+  open-even : EvenLayer by.round.n (all_doors by.round.n ∷ [])
+  open-even a h = let z : a ≡ 0 = omega arith in rw z (table-long by.round.n (λ m. 1))
+
+  opens : (k : ℕ) → let D = table k (λ i. all_doors by.round.n ∷ []) in (width D ≡ 1) × IsEven by.round.n D × IsRoomy by.width D × IsTied D
+  opens zero = (refl, tt, tt, tt)
+  opens (suc zero) = (refl, (open-even, tt), (w, tt), open-ranged by)
+  opens (suc (suc k)) = let r = opens (suc k) in (refl, (open-even, r.1), (w, r.2), (open-ranged by, open-fed by, open-led by, r.3))
 
   pub proper-opened : IsLawful by.round.n by.width (opening_arcs by.round.n)
-  proper-opened = record {
-    deep = unfold opening_arcs in table-long by.round.n (λ i. all_doors by.round.n ∷ []);
-    one_first = unfold opening_arcs in wide by.round.n;
-    even = unfold opening_arcs in evens by.round.n;
-    roomy = unfold opening_arcs in roomy-open by.round.n;
-    tied = opened-tied by;
-  }
-    where
-      wide : (k : ℕ) → width (table k (λ i. all_doors by.round.n ∷ [])) ≡ 1
-      wide zero = refl
-      wide (suc k) = refl
-
-      evens : (k : ℕ) → IsEven by.round.n (table k (λ i. all_doors by.round.n ∷ []))
-      evens zero = tt
-      evens (suc k) = (λ a h. let z : a ≡ 0 = omega arith in rw z (table-long by.round.n (λ m. 1)), evens k)
+  unfolding opening_arcs
+  proper-opened =
+      let r = opens by.round.n in
+      record { deep = table-long by.round.n (λ i. all_doors by.round.n ∷ []); one_first = r.0; even = r.1; roomy = r.2; tied = r.3 }
 
   -- what is left of a proper net, tidied, is proper
   pub proper-less : (Ls Ms : Net) → Less by.round.n by.width Ls Ms → IsLawful by.round.n by.width Ls → IsLawful by.round.n by.width (tidied_arcs Ms)

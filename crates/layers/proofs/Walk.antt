@@ -340,17 +340,9 @@ module _ {S V : Type 0} {Keeps : List ℕ → Type 0} {Stands : S → List ℕ �
   lesser-one : (a b : V) (l : List (Down S V)) → Attained a l → Attained b l → Attained (by.tally.lesser a b) l
   lesser-one a b l p q = rw (tallied.lesser_is a b) (cond_both (by.tally.not_above a b) a b (λ v. Attained v l) (λ _. p) (λ _. q))
 
-  fold-value : (y : Down S V) (all l : List (Down S V)) → Attained y.value all → ((z : Down S V) → Among z l → Among z all) → Attained (fold (merge by.rule by.tally) y l).value all
-  unfolding merge
-  fold-value y all [] p f = p
-  fold-value y all (z ∷ l) p f = fold-value (merge by.rule by.tally y z) all l (lesser-one y.value z.value all p (z, f z (inl refl), refl)) (λ t i. f t (inr i))
-
   value-gather : (l : List (Down S V)) (m : Down S V) → gather (merge by.rule by.tally) l ≡ Some m → Attained m.value l
-  unfolding gather
-  value-gather [] m g = absurd cc
-  value-gather (y ∷ l) m g =
-      let z : fold (merge by.rule by.tally) y l ≡ m = cc in
-      rw (← z) (fold-value y (y ∷ l) l (y, inl refl, refl) (λ t i. inr i))
+  unfolding merge
+  value-gather l m = gather-all (merge by.rule by.tally) (λ x. Attained x.value l) (λ x y. lesser-one x.value y.value l) l m (λ x i. (x, i, refl))
 
   -- ---- exact labels
   pub record Sound (p : List ℕ) : Type 0 where
@@ -379,9 +371,6 @@ module _ {S V : Type 0} {Keeps : List ℕ → Type 0} {Stands : S → List ℕ �
     pub early : finish by.round l.finish (leg by.round l.lasts j) j ≤ (door by.round j).closes
     pub free : by.rule.bars l.state j ≡ false
 
-  clear : (i h j : ℕ) (l : Down S V) (u : Option Up) → is_barred by.round by.rule i h j (Some l) u ≡ false → Clear l j
-  clear i h j l u e = grind (arith, nat_tests, e)
-
   -- one door on
   pub record Onward (l : Down S V) (p : List ℕ) (j : ℕ) : Type 0 where
     pub sound : Sound (p ++ (j ∷ []))
@@ -406,8 +395,9 @@ module _ {S V : Type 0} {Keeps : List ℕ → Type 0} {Stands : S → List ℕ �
       → target (node L a) j ≡ suc b → get_or labs a None ≡ Some l → Clear l j
   unfolding settles keeps_all_arcs
   settles-arc i labs L Ls a j b l s e g =
-      clear i (suc (length Ls)) j l (get_or (ups Ls) b None) (rw (← g) (not-true _ (every_arc-at (λ a j b. not (is_barred by.round by.rule i (suc (length Ls)) j (get_or labs a None) (get_or (ups Ls) b None))) 0 L a a j b (omega arith)
-      (and_parts _ _ (and_parts (agrees by labs (L ∷ Ls)) (quiet by i labs (L ∷ Ls)) s).1).0 e)))
+      let t = every_arc-at (λ a j b. not (is_barred by.round by.rule i (suc (length Ls)) j (get_or labs a None) (get_or (ups Ls) b None))) 0 L a a j b (omega arith)
+      (and_parts _ _ (and_parts (agrees by labs (L ∷ Ls)) (quiet by i labs (L ∷ Ls)) s).1).0 e in
+      grind (arith, nat_tests, g, t)
 
   agreed-at : (labs : List (Option (Down S V))) (L : Layer) (k b : ℕ) → places_agree by labs L k ≡ true → b < k → all_agree by.rule (arrivals_at (arrival_over by) b labs L) ≡ true
   unfolding places_agree
