@@ -2,6 +2,8 @@
 use Rattle.std.proofs.lemmas.Bool.Decides.{nat_tests}
 use Rattle.std.proofs.Common.{◌≡◌, ℕ, zero, suc, ◌+◌, ◌<◌, Bool, true, false, eqb, ◌⊎◌, List, [], ◌∷◌, ◌++◌, map, length, get_or, Some, None, fold, Option, refl, ap, ◌∙◌, inl, inr, le_of_suc-le-suc, not-suc-le-zero, arith}
 use Rattle.std.proofs.lemmas.Bool.{eqb-true}
+use Rattle.std.proofs.lemmas.Option.{none-some}
+use lib.ListN.{length-map}
 use Rattle.std.proofs.lemmas.List.{get_or-map}
 use Rattle.layers.specs.Net.{table, Outs, Layer, Net, node, target, width, PathFrom, each_door, each_node, redirect}
 use Rattle.layers.specs.Flow.{put, arrivals_by_door, arrivals_at, gather, next, read, cons_if_some, climbs_of, up}
@@ -159,21 +161,34 @@ pub renumber-at : (fs : List Bool) (b : ℕ) → get_or fs b false ≡ true → 
 unfolding renumber
 renumber-at fs b e = rw e
 
--- over an arc that stays
-arc-stays : (fr : List (Option Mark)) (L : Layer) (Ls : Net) (a j b : ℕ) (w : List ℕ) → get_or fr a None ≡ Some tt → target (node L a) j ≡ suc b → PathFrom Ls b w → let fr' = marks_next fr L (width Ls) in let fs = flags fr' (marks_up Ls) in
-    (get_or fr' b None ≡ Some tt) × (target (node (redirect (λ x y c. renumber fs c) L) a) j ≡ suc (rank fs b))
-arc-stays fr L Ls a j b w g e p =
+within : (us : List (Option Mark)) (a : ℕ) → get_or us a None ≡ Some tt → a < length us
+within [] a e = absurd (none-some tt e)
+within (u ∷ us) a e = grind (arith, e, within us)
+
+ups-length : (Ls : Net) → length (marks_up Ls) ≡ width Ls
+unfolding marks_up up
+ups-length [] = refl
+ups-length (L ∷ Ls) = length-map L (λ nd. gather {A = Mark} (λ x y. tt) (climbs_of {A = Mark} (λ m k. tt) (marks_up Ls) 1 nd))
+
+-- a node that leads to the end is within its layer
+pub ups-within : (Ls : Net) (b : ℕ) → get_or (marks_up Ls) b None ≡ Some tt → b < width Ls
+ups-within Ls b e = let h = within (marks_up Ls) b e in omega (arith, ups-length Ls)
+
+-- an arc from a marked node to one that leads to the end stays
+pub arc-stays : (fr : List (Option Mark)) (L : Layer) (Ls : Net) (a j b : ℕ) → get_or fr a None ≡ Some tt → target (node L a) j ≡ suc b → get_or (marks_up Ls) b None ≡ Some tt → let fr' = marks_next fr L (width Ls) in
+    let fs = flags fr' (marks_up Ls) in (get_or fr' b None ≡ Some tt) × (target (node (redirect (λ x y c. renumber fs c) L) a) j ≡ suc (rank fs b))
+arc-stays fr L Ls a j b g e u =
     let fr' = marks_next fr L (width Ls) in
     let fs = flags fr' (marks_up Ls) in
-    let g' = mark-next fr L (width Ls) a j b e g (inside Ls b w p) in
-    (g', redirect-arc (λ x y c. renumber fs c) L a j b e ∙ renumber-at fs b (flags-at fr' (marks_up Ls) b g' (mark-up Ls b w p)))
+    let g' = mark-next fr L (width Ls) a j b e g (ups-within Ls b u) in
+    (g', redirect-arc (λ x y c. renumber fs c) L a j b e ∙ renumber-at fs b (flags-at fr' (marks_up Ls) b g' u))
 
 tidy-from : (fr : List (Option Mark)) (Ls : Net) (a : ℕ) (w : List ℕ) → get_or fr a None ≡ Some tt → PathFrom Ls a w → PathFrom (tidy fr Ls) (rank (flags fr (marks_up Ls)) a) w
 unfolding tidy
 tidy-from fr [] a [] g p = ap (rank (flags fr (marks_up []))) p ∙ rank-zero (flags fr (marks_up []))
 tidy-from fr (L ∷ Ls) a (j ∷ w) g p =
     let fs = flags (marks_next fr L (width Ls)) (marks_up Ls) in
-    let s = arc-stays fr L Ls a j p.0 w g p.1 p.2 in
+    let s = arc-stays fr L Ls a j p.0 g p.1 (mark-up Ls p.0 w p.2) in
     let here = flags-at fr (marks_up (L ∷ Ls)) a g (mark-up (L ∷ Ls) a (j ∷ w) p) in
     (rank fs p.0, rw (compress-at (flags fr (marks_up (L ∷ Ls))) (redirect (λ x y c. renumber fs c) L) a here) s.1, tidy-from (marks_next fr L (width Ls)) Ls p.0 w s.0 p.2)
 tidy-from fr Ls a w g p = absurd p
@@ -182,7 +197,7 @@ pub tidy-keeps : (Ls : Net) (w : List ℕ) → PathFrom Ls 0 w → PathFrom (tid
 unfolding tidied_arcs
 tidy-keeps [] w p = p
 tidy-keeps (L ∷ Ls) (j ∷ w) p =
-    let s = arc-stays (Some tt ∷ []) L Ls 0 j p.0 w refl p.1 p.2 in
+    let s = arc-stays (Some tt ∷ []) L Ls 0 j p.0 refl p.1 (mark-up Ls p.0 w p.2) in
     (rank (flags (marks_next (Some tt ∷ []) L (width Ls)) (marks_up Ls)) p.0, s.1, tidy-from (marks_next (Some tt ∷ []) L (width Ls)) Ls p.0 w s.0 p.2)
 tidy-keeps Ls w p = absurd p
 

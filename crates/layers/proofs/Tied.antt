@@ -9,7 +9,7 @@ use Rattle.layers.specs.Flow.{gather, climbs_of, up}
 use Rattle.layers.specs.Tidy.{Mark, marks_next, marks_up, flags, rank, compress, renumber, tidy, tidied_arcs}
 use Rattle.layers.specs.Lawful.{IsRanged, IsLed, IsTied}
 use Rattle.layers.specs.Targets.{at_door}
-use Rattle.layers.proofs.Flows.{next-all, up-all, redirect-get, redirect-arc, has-arc, up_at, mark-next, flags-at, compress-at, renumber-at, rank-zero}
+use Rattle.layers.proofs.Flows.{ups-within, arc-stays, next-all, up-all, redirect-get, redirect-arc, has-arc, up_at, mark-next, flags-at, compress-at, renumber-at, rank-zero}
 
 -- ---- redirecting, backwards
 pub redirect-back : (f : ℕ → ℕ → ℕ → ℕ) (L : Layer) (a j c : ℕ) → target (node (redirect f L) a) j ≡ suc c → (b : ℕ) × (target (node L a) j ≡ suc b) × (f a j b ≡ suc c)
@@ -62,15 +62,6 @@ unfolding flags
 flags-back (x ∷ fr) (u ∷ us) a e = grind (arith, e, flags-back fr us)
 flags-back fr us a e = absurd (false≢true e)
 
-within : (us : List (Option Mark)) (a : ℕ) → get_or us a None ≡ Some tt → a < length us
-within [] a e = absurd (none-some tt e)
-within (u ∷ us) a e = grind (arith, e, within us)
-
-ups-length : (Ls : Net) → length (marks_up Ls) ≡ width Ls
-unfolding marks_up up
-ups-length [] = refl
-ups-length (L ∷ Ls) = length-map L (λ nd. gather {A = Mark} (λ x y. tt) (climbs_of {A = Mark} (λ m k. tt) (marks_up Ls) 1 nd))
-
 rank_lt : (fs : List Bool) (X : Layer) (b : ℕ) → get_or fs b false ≡ true → b < length X → rank fs b < length (compress fs X)
 unfolding rank compress
 rank_lt [] X b e h = absurd (false≢true e)
@@ -113,14 +104,11 @@ module _ (fr : List (Option Mark)) (L : Layer) (Ls : Net) where
   abbrev RL : Layer
   RL = redirect (λ a j b. renumber fs b) L
 
-  flag-within : (b : ℕ) → get_or fs b false ≡ true → b < width Ls
-  flag-within b e = let h = within (marks_up Ls) b (flags-back fr' (marks_up Ls) b e).1 in omega (arith, ups-length Ls)
-
   -- every arc that is left leads to a node that is left
   arcs-lead : (X : Layer) → length X ≡ width Ls → IsRanged RL (length (compress fs X))
   arcs-lead X n a j c e =
       let q = stayed-arc fs L a j c e in
-      let w = flag-within q.0 q.2 in
+      let w = ups-within Ls q.0 (flags-back fr' (marks_up Ls) q.0 q.2).1 in
       rw (← q.3) (rank_lt fs X q.0 q.2 (omega arith))
 
   -- every node that is left is led to, from a node that is left
@@ -130,24 +118,16 @@ module _ (fr : List (Option Mark)) (L : Layer) (Ls : Net) where
       let b = q.0 in
       let m = flags-back fr' (marks_up Ls) b q.1 in
       let s = marked_from fr L (width Ls) b m.0 in
-      (s.0, s.1, redirect-arc (λ a j b. renumber fs b) L s.0 s.1 b s.2 ∙ renumber-at fs b q.1 ∙ ap suc q.2, s.3, climbs L Ls s.0 s.1 b s.2 m.1)
+      (s.0, s.1, (arc-stays fr L Ls s.0 s.1 b s.3 s.2 m.1).1 ∙ ap suc q.2, s.3, climbs L Ls s.0 s.1 b s.2 m.1)
 
   -- every node that is left leads on
   leads-on : IsLed (compress (flags fr (marks_up (L ∷ Ls))) RL)
   leads-on c h =
       let gs = flags fr (marks_up (L ∷ Ls)) in
       let q = compress-back gs RL c h in
-      let a = q.0 in
-      let m = flags-back fr (marks_up (L ∷ Ls)) a q.1 in
-      let s = climbs-from L Ls a m.1 in
-      let j = s.0 in let b = s.1 in
-      let w : b < width Ls = omega (arith, within (marks_up Ls) b s.3, ups-length Ls) in
-      let f = flags-at fr' (marks_up Ls) b (mark-next fr L (width Ls) a j b s.2 m.0 w) s.3 in (
-        j,
-        rank fs b,
-        ap (λ (z : ℕ). target (node (compress gs RL) z) j) (sym q.2) ∙ ap (λ (nd : Outs). target nd j) (compress-at gs RL a q.1)
-            ∙ redirect-arc (λ a j b. renumber fs b) L a j b s.2 ∙ renumber-at fs b f,
-      )
+      let m = flags-back fr (marks_up (L ∷ Ls)) q.0 q.1 in
+      let s = climbs-from L Ls q.0 m.1 in
+      (s.0, rank fs s.1, ap (λ (z : ℕ). target (node (compress gs RL) z) s.0) (sym q.2) ∙ rw (compress-at gs RL q.0 q.1) (arc-stays fr L Ls q.0 s.0 s.1 m.0 s.2 s.3).1)
 
 ranged-compress : (gs : List Bool) (X : Layer) (m : ℕ) → IsRanged X m → IsRanged (compress gs X) m
 ranged-compress gs X m h c j b e =
@@ -157,7 +137,7 @@ ranged-compress gs X m h c j b e =
 ranged-end : (fr : List (Option Mark)) (L : Layer) → IsRanged (RL fr L []) 1
 ranged-end fr L a j c e =
     let q = stayed-arc (fs fr L []) L a j c e in
-    let w = flag-within fr L [] q.0 q.2 in
+    let w = ups-within [] q.0 (flags-back (fr' fr L []) (marks_up []) q.0 q.2).1 in
     let y = q.3 in
     grind (arith, w, y, rank-zero (fs fr L []))
 
