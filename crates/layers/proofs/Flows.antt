@@ -1,6 +1,6 @@
 -- What flows along arcs, and what redirecting, tidying do to paths.
 use Rattle.std.proofs.lemmas.Bool.Decides.{nat_tests}
-use Rattle.std.proofs.Common.{◌≡◌, ℕ, zero, suc, ◌+◌, ◌<◌, Bool, true, false, eqb, ◌⊎◌, List, [], ◌∷◌, ◌++◌, map, length, get_or, Some, None, fold, Option, refl, ap, ◌∙◌, inl, inr, le_of_suc-le-suc, not-suc-le-zero, arith}
+use Rattle.std.proofs.Common.{◌≡◌, ℕ, zero, suc, ◌+◌, ◌-◌, ◌<◌, Bool, true, false, eqb, ◌⊎◌, List, [], ◌∷◌, ◌++◌, map, length, get_or, Some, None, fold, Option, refl, ap, ◌∙◌, inl, inr, le_of_suc-le-suc, not-suc-le-zero, arith}
 use Rattle.std.proofs.lemmas.Bool.{eqb-true}
 use Rattle.std.proofs.lemmas.Option.{none-some}
 use lib.ListN.{length-map}
@@ -21,8 +21,7 @@ EvenLayer n L = (a : ℕ) → a < length L → length (node L a) ≡ n
 
 pub table_at : {A : Type 0} (n k : ℕ) (f : ℕ → A) (d : A) → k < n → get_or (table n f) k d ≡ f k
 table_at zero k f d h = absurd (not-suc-le-zero h)
-table_at (suc n) zero f d h = refl
-table_at (suc n) (suc k) f d h = table_at n k (λ m. f (suc m)) d (le_of_suc-le-suc h)
+table_at (suc n) k f d h = grind (arith, h, table_at n (k - 1) (λ m. f (suc m)) d)
 
 -- the labels of a layer of one node
 pub first-only : {A : Type 0} (x : A) (P : ℕ → A → Type 0) → P 0 x → (a : ℕ) (l : A) → get_or (Some x ∷ []) a None ≡ Some l → P a l
@@ -43,8 +42,7 @@ each_node-get : (f : ℕ → ℕ → ℕ → ℕ) (c : ℕ) (L : Layer) (a m j :
 unfolding each_node
 each_node-get f c L a m zero h = refl
 each_node-get f c [] a m (suc k) h = refl
-each_node-get f c (nd ∷ L) zero m (suc k) h = each_door-get (f c) 1 nd k (suc k) (omega arith) ∙ ap (λ (x : ℕ). at_door (f x) (suc k) (get_or nd k 0)) (omega arith)
-each_node-get f c (nd ∷ L) (suc a) m (suc k) h = each_node-get f (suc c) L a m (suc k) (omega arith)
+each_node-get f c (nd ∷ L) a m (suc k) h = grind (arith, h, each_door-get (f c) 1 nd k (suc k), each_node-get f (suc c) L (a - 1) m (suc k))
 
 pub redirect-get : (f : ℕ → ℕ → ℕ → ℕ) (L : Layer) (a j : ℕ) → target (node (redirect f L) a) j ≡ at_door (f a) j (target (node L a) j)
 unfolding redirect
@@ -56,8 +54,7 @@ redirect-arc f L a j b e = redirect-get f L a j ∙ ap (at_door (f a) j) e
 -- ---- places in range
 pub has-arc : (L : Layer) (a j b : ℕ) → target (node L a) j ≡ suc b → a < length L
 has-arc [] a j b e = grind (arith, e)
-has-arc (nd ∷ L) zero j b e = omega arith
-has-arc (nd ∷ L) (suc a) j b e = let h : a < length L = has-arc L a j b e in omega arith
+has-arc (nd ∷ L) a j b e = grind (arith, e, has-arc L (a - 1) j b)
 
 pub inside : (Ls : Net) (a : ℕ) (w : List ℕ) → PathFrom Ls a w → a < width Ls
 inside [] a [] p = omega arith
@@ -77,8 +74,7 @@ module _ {A : Type 0} (arrival_over : A → ℕ → A) (merge : A → A → A) w
   ins_door-in : (b : ℕ) (l : A) (j : ℕ) (ts : Outs) (k m : ℕ) → j + k ≡ m → get_or ts k 0 ≡ suc b → Among (arrival_over l m) (arrivals_by_door arrival_over b l j ts)
   unfolding arrivals_by_door
   ins_door-in b l j [] k m h e = absurd (omega arith)
-  ins_door-in b l j (t ∷ ts) zero m h e = let z : m ≡ j = omega arith in grind (arith, nat_tests, e, z)
-  ins_door-in b l j (t ∷ ts) (suc k) m h e = grind (arith, ins_door-in b l (suc j) ts k m (omega arith) e)
+  ins_door-in b l j (t ∷ ts) k m h e = grind (arith, nat_tests, e, h, ins_door-in b l (suc j) ts (k - 1) m)
 
   pub ins-in : (b : ℕ) (labs : List (Option A)) (L : Layer) (a j : ℕ) (l : A) → target (node L a) j ≡ suc b → get_or labs a None ≡ Some l → Among (arrival_over l j) (arrivals_at arrival_over b labs L)
   unfolding arrivals_at
@@ -118,8 +114,7 @@ module _ {A : Type 0} (merge : A → A → A) (R : A → A → Type 0) (R-refl :
   outs-in : (climb : A → ℕ → A) (us : List (Option A)) (u : A) (j : ℕ) (ts : Outs) (k m b : ℕ) → j + k ≡ m → get_or ts k 0 ≡ suc b → get_or us b None ≡ Some u → Among (climb u m) (climbs_of climb us j ts)
   unfolding climbs_of
   outs-in climb us u j [] k m b h e g = absurd (omega arith)
-  outs-in climb us u j (t ∷ ts) zero m b h e g = let y : m ≡ j = omega arith in grind (arith, e, g, y)
-  outs-in climb us u j (t ∷ ts) (suc k) m b h e g = grind (arith, outs-in climb us u (suc j) ts k m b (omega arith) e g)
+  outs-in climb us u j (t ∷ ts) k m b h e g = grind (arith, e, g, h, outs-in climb us u (suc j) ts (k - 1) m b)
 
   pub up_at : (climb : A → ℕ → A) (top : A) (L : Layer) (Ls : Net) (a j b : ℕ) (u : A) → target (node L a) j ≡ suc b → get_or (up climb merge top Ls) b None ≡ Some u
       → (m : A) × (get_or (up climb merge top (L ∷ Ls)) a None ≡ Some m) × R (climb u j) m
@@ -240,8 +235,7 @@ module _ {A : Type 0} (arrival_over : A → ℕ → A) where
 
 table-get : {A : Type 0} (n k : ℕ) (f : ℕ → Option A) (x : A) → get_or (table n f) k None ≡ Some x → (k < n) × (f k ≡ Some x)
 table-get zero k f x e = absurd cc
-table-get (suc n) zero f x e = (omega arith, e)
-table-get (suc n) (suc k) f x e = let q = table-get n k (λ m. f (suc m)) x e in (omega arith, q.1)
+table-get (suc n) k f x e = grind (arith, e, table-get n (k - 1) (λ m. f (suc m)) x)
 
 pub next-some : {A : Type 0} (arrival_over : A → ℕ → A) (merge : A → A → A) (labs : List (Option A)) (L : Layer) (count b : ℕ) (m : A)
     → get_or (next arrival_over merge labs L count) b None ≡ Some m → gather merge (arrivals_at arrival_over b labs L) ≡ Some m

@@ -1,5 +1,5 @@
 -- The claim: no call loses an allowed order that no ceiling rules out, what must answers, what a settled diagram shows, and what the labels mean.
-use Rattle.std.proofs.Common.{◌≡◌, ℕ, ◌≤◌, true, List, [], ◌∷◌, Some, sym, ap, ◌∙◌, inl, inr, arith, zero, suc, Bool, false, not, ◌++◌, length, get_or, None, Option, refl, subst, append-nil, ◌+◌, eqb, ◌⊎◌, fold, ◌<◌, drop, le_of_suc-le-suc, not-suc-le-zero}
+use Rattle.std.proofs.Common.{◌≡◌, ℕ, ◌-◌, ◌≤◌, true, List, [], ◌∷◌, Some, sym, ap, ◌∙◌, inl, inr, arith, zero, suc, Bool, false, not, ◌++◌, length, get_or, None, Option, refl, subst, append-nil, ◌+◌, eqb, ◌⊎◌, fold, ◌<◌, drop, le_of_suc-le-suc, not-suc-le-zero}
 use Rattle.std.proofs.lemmas.Bool.Decides.{nat_tests}
 use Rattle.std.proofs.lemmas.Bool.{both_ways, not-true, not-false, false≢true, eqb-true, eq-eqb, and_parts, or_cases, cases_eq}
 use Rattle.rules.specs.Rules.{RuleLaws, RuleSense}
@@ -319,8 +319,7 @@ module _ {S V : Type 0} {Keeps : List ℕ → Type 0} {Stands : S → List ℕ �
   labs-step : (d : ℕ) (labs : Labs by w1) (Ls : Net) → d < length Ls
       → labels_at by (suc d) labs Ls ≡ labels_next by (labels_at by d labs Ls) (get_or Ls d []) (width (drop (suc d) Ls))
   labs-step d labs [] h = absurd (not-suc-le-zero h)
-  labs-step zero labs (L ∷ Ls) h = refl
-  labs-step (suc d) labs (L ∷ Ls) h = labs-step d (labels_next by labs L (width Ls)) Ls (le_of_suc-le-suc h)
+  labs-step d labs (L ∷ Ls) h = grind (arith, h, labs-step (d - 1) (labels_next by labs L (width Ls)) Ls)
 
   module _ (D : Net) where
     -- a label is owed to the paths to its node
@@ -415,9 +414,8 @@ module _ {S V : Type 0} {Keeps : List ℕ → Type 0} {Stands : S → List ℕ �
   full_at (suc d) labs (L ∷ Ls) h f = full_at d (labels_next by labs L (width Ls)) Ls (le_of_suc-le-suc h) f.1
 
   stood-top : (d : ℕ) (labs : Labs by w1) (Ls : Net) → d ≤ length Ls → get_or (stood by w1 labs Ls) d [] ≡ top by w1 (labels_at by d labs Ls) (drop d Ls)
-  stood-top zero labs Ls h = refl
-  stood-top (suc d) labs [] h = absurd (not-suc-le-zero h)
-  stood-top (suc d) labs (L ∷ Ls) h = stood-top d (labels_next by labs L (width Ls)) Ls (le_of_suc-le-suc h)
+  stood-top d labs [] h = grind (arith, h)
+  stood-top d labs (L ∷ Ls) h = grind (arith, h, stood-top (d - 1) (labels_next by labs L (width Ls)) Ls)
 
   module _ {Allows : ℕ → V → Type 0} (tallied : TallyLaws by.round.n by.tally Allows) where
     -- on the arcs

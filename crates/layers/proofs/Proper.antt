@@ -33,17 +33,13 @@ module _ {S V : Type 0} (by : Setting S V) where
 -- ---- join
 pub drop-below : (i b : ℕ) (M : Layer) → b < i → node (without_place i M) b ≡ node M b
 unfolding without_place
-drop-below zero b M h = absurd (not-suc-le-zero h)
-drop-below (suc i) b [] h = refl
-drop-below (suc i) zero (x ∷ M) h = refl
-drop-below (suc i) (suc b) (x ∷ M) h = drop-below i b M (le_of_suc-le-suc h)
+drop-below i b [] h = grind arith
+drop-below i b (x ∷ M) h = grind (arith, h, drop-below (i - 1) (b - 1) M)
 
 pub drop-above : (i b : ℕ) (M : Layer) → i ≤ b → node (without_place i M) b ≡ node M (suc b)
 unfolding without_place
-drop-above zero b (x ∷ M) h = refl
-drop-above (suc i) zero (x ∷ M) h = absurd (not-suc-le-zero h)
-drop-above (suc i) (suc b) (x ∷ M) h = drop-above i b M (le_of_suc-le-suc h)
-drop-above i b M h = refl
+drop-above i b [] h = grind arith
+drop-above i b (x ∷ M) h = grind (arith, h, drop-above (i - 1) (b - 1) M)
 
 -- the targets of both
 both-get : (x y : Outs) (k : ℕ) → get_or (both_out x y) k 0 ≡ either_target (get_or x k 0) (get_or y k 0)
@@ -88,8 +84,7 @@ join-keeps L M Ls lo hi x (j ∷ k ∷ w) a b n p =
 module _ {S V : Type 0} (by : Setting S V) where
   ones-at : (n k b : ℕ) → get_or (table n (λ m. 1)) k 0 ≡ suc b → b ≡ 0
   ones-at zero k b e = absurd (omega arith)
-  ones-at (suc n) zero b e = omega arith
-  ones-at (suc n) (suc k) b e = ones-at n k b e
+  ones-at (suc n) k b e = grind (arith, e, ones-at n (k - 1) b)
 
   open-ranged : IsRanged (all_doors by.round.n ∷ []) 1
   open-ranged zero (suc k) b e = let z = ones-at by.round.n k b e in omega arith

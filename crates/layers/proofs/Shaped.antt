@@ -130,16 +130,12 @@ module _ {S V : Type 0} (r : Round) (W : ℕ) (xs : List (Node S V)) where
 doors-count : (ts : Outs) (k b : ℕ) → get_or ts k 0 ≡ suc b → 1 ≤ count_doors ts
 unfolding count_doors
 doors-count [] k b e = absurd (omega arith)
-doors-count (zero ∷ ts) zero b e = absurd (omega arith)
-doors-count (zero ∷ ts) (suc k) b e = doors-count ts k b e
-doors-count (suc t ∷ ts) k b e = omega arith
+doors-count (t ∷ ts) k b e = grind (arith, e, doors-count ts (k - 1) b)
 
 arc-counts : (L : Layer) (a j b : ℕ) → target (node L a) j ≡ suc b → 1 ≤ count_layer L
 unfolding count_layer
 arc-counts [] a j b e = absurd (grind (arith, e))
-arc-counts (nd ∷ L) zero zero b e = absurd (omega arith)
-arc-counts (nd ∷ L) zero (suc k) b e = let h = doors-count nd k b e in omega arith
-arc-counts (nd ∷ L) (suc a) j b e = let h = arc-counts L a j b e in omega arith
+arc-counts (nd ∷ L) a j b e = grind (arith, e, doors-count nd (j - 1) b, arc-counts L (a - 1) j b)
 
 doors-arc : (ts : Outs) → 1 ≤ count_doors ts → (k : ℕ) × (b : ℕ) × (get_or ts k 0 ≡ suc b)
 unfolding count_doors

@@ -1,7 +1,7 @@
 -- Tidying in the subject's words: the paths stay, and exactly the nodes on a path, numbered anew in their order. A tied diagram is left as it is.
 use Rattle.layers.proofs.Ways.{length-snoc}
 use Rattle.layers.specs.Lawful.{IsLed, IsTied, IsRanged}
-use Rattle.std.proofs.Common.{◌≡◌, ℕ, zero, suc, ◌<◌, ◌≤◌, Bool, true, false, cond, ◌⊎◌, List, [], ◌∷◌, length, get_or, drop, Some, None, Option, sym, refl, ap, ◌∙◌, subst, inl, inr, not-suc-le-zero, arith, ◌++◌, le_of_suc-le-suc}
+use Rattle.std.proofs.Common.{◌≡◌, ℕ, ◌-◌, zero, suc, ◌<◌, ◌≤◌, Bool, true, false, cond, ◌⊎◌, List, [], ◌∷◌, length, get_or, drop, Some, None, Option, sym, refl, ap, ◌∙◌, subst, inl, inr, not-suc-le-zero, arith, ◌++◌, le_of_suc-le-suc}
 use Rattle.std.proofs.lemmas.Bool.{false≢true, cases_eq}
 use Rattle.std.proofs.lemmas.List.{ext_get_or}
 use Rattle.layers.specs.Net.{Outs, Layer, Net, node, target, width, PathFrom, each_node, redirect}
@@ -194,9 +194,7 @@ count-find P (suc m) (suc n) k (inl h) lt =
 count-find P (suc m) (suc n) k (inr h) lt = let f = count-find P m (suc n) k h.1 lt in (f.0, omega arith, f.2, f.3)
 
 same-number : (x y : ℕ) → ((c : ℕ) → x ≡ suc c → y ≡ suc c) → ((c : ℕ) → y ≡ suc c → x ≡ suc c) → x ≡ y
-same-number zero zero f g = refl
-same-number zero (suc y) f g = g y refl
-same-number (suc x) y f g = sym (f x refl)
+same-number x y f g = grind (arith, f (x - 1), g (y - 1))
 
 same-outs : (D : Net) (i : ℕ) (old x y : Outs) → IsRenumbered D i old x → IsRenumbered D i old y → x ≡ y
 same-outs D i old x y p q = ext_get_or 0 x y (p.doors ∙ sym q.doors) (λ k lt. same-number (get_or x k 0) (get_or y k 0)
@@ -327,8 +325,7 @@ way-to (L ∷ Ls) o t (suc i) b lo h =
 
 at-within : (D : Net) (i b : ℕ) → b < length (layer_of D i) → i < length D
 at-within [] i b h = absurd (omega arith)
-at-within (L ∷ D) zero b h = omega arith
-at-within (L ∷ D) (suc i) b h = let z = at-within D i b h in omega arith
+at-within (L ∷ D) i b h = grind (arith, h, at-within D (i - 1) b)
 
 -- so nothing is to go
 pub tidied-same : (D : Net) → width D ≡ 1 → IsTied D → tidied_arcs D ≡ D
@@ -344,5 +341,4 @@ tidied-same D o t = (tidy-stays D).0 (record {
   where
     within : (D : Net) (i b : ℕ) → b < length (layer_of D i) → b < width (drop i D)
     within [] i b h = absurd (omega arith)
-    within (L ∷ D) zero b h = h
-    within (L ∷ D) (suc i) b h = within D i b h
+    within (L ∷ D) i b h = grind (arith, h, within D (i - 1) b)

@@ -1,5 +1,5 @@
 -- A label on the way agrees with the beginning that leads to it, so no arc of an allowed order is swept or cut; and while settled answers yes, the labels are exact.
-use Rattle.std.proofs.Common.{◌≡◌, ℕ, zero, suc, ◌+◌, ◌<◌, ◌≤◌, Bool, true, false, cond, ◌⊎◌, List, [], ◌∷◌, ◌++◌, length, get_or, Some, None, Option, sym, refl, ap, ◌∙◌, subst, inl, inr, arith, not, fold, append-nil}
+use Rattle.std.proofs.Common.{◌≡◌, ℕ, zero, suc, ◌+◌, ◌-◌, ◌<◌, ◌≤◌, Bool, true, false, cond, ◌⊎◌, List, [], ◌∷◌, ◌++◌, length, get_or, Some, None, Option, sym, refl, ap, ◌∙◌, subst, inl, inr, arith, not, fold, append-nil}
 use lib.Bits.{bit_and, bit_or, and_self, or_self}
 use Rattle.std.proofs.lemmas.Bool.{ne_eqb, true≢false, not-true, and_parts, cond_both}
 use Rattle.doors.proofs.Orders.{in-last, last-in, part-next, next-part, each_none, each_more}
@@ -32,8 +32,7 @@ within k f h e = omega arith
 
 pub door-at : (ts : Outs) (k b : ℕ) → get_or ts k 0 ≡ suc b → k < length ts
 door-at [] k b e = absurd (omega arith)
-door-at (t ∷ ts) zero b e = omega arith
-door-at (t ∷ ts) (suc k) b e = let h = door-at ts k b e in omega arith
+door-at (t ∷ ts) k b e = grind (arith, e, door-at ts (k - 1) b)
 
 pub even-door : (r : Round) (L : Layer) → EvenLayer r.n L → (a j b : ℕ) → target (node L a) j ≡ suc b → IsDoor r.n j
 even-door r L even a zero b e = absurd (omega arith)

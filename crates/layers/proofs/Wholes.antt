@@ -172,8 +172,7 @@ module _ {S V : Type 0} {Keeps : List ℕ → Type 0} {Stands : S → List ℕ �
 
 roomy-at : (W i : ℕ) (Ls : Net) → IsRoomy W Ls → length (get_or Ls i []) ≤ W
 roomy-at W i [] h = omega arith
-roomy-at W zero (L ∷ Ls) h = h.0
-roomy-at W (suc i) (L ∷ Ls) h = roomy-at W i Ls h.1
+roomy-at W i (L ∷ Ls) h = grind (arith, h, roomy-at W (i - 1) Ls)
 
 -- sweeps until one answers 0 leave what a further sweep leaves as it is: each before it takes out an arc, so there are enough of them
 swept-quiet : {S V : Type 0} (by : Setting S V) (w : 1 ≤ by.width) (later : List (Node S V)) (P : Net → Type 0) → ((Ls : Net) → IsLawful by.round.n by.width Ls → P Ls → P (sweep by Ls))
