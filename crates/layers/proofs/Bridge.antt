@@ -219,9 +219,8 @@ module _ {S V : Type 0} (by : Setting S V) (w : 1 ≤ by.width) where
 
   pub agrees-stood : (labs : Labs) (Ls : Net) → Full labs Ls → in_arcs_agree by Ls (Standing labs Ls) ≡ agrees by labs Ls
   unfolding in_arcs_agree
-  agrees-stood labs [] f = refl
-  agrees-stood labs (L ∷ []) f = refl
   agrees-stood labs (L ∷ M ∷ Ls) f = grind (arith, row-downs labs L (M ∷ Ls) f.0, agrees-stood (labels_next by labs L (length M)) (M ∷ Ls) f.1)
+  agrees-stood labs Ls f = refl
 
   pub stood-at : (d : ℕ) (labs : Labs) (Ls : Net) → Full labs Ls → d < length Ls
       → (downs_in (get_or (stood labs Ls) d []) ≡ labels_at by d labs Ls) × (arcs_in by.round.n (get_or (stood labs Ls) d []) ≡ get_or Ls d []) × (length (get_or (stood labs Ls) d []) ≡ length (get_or Ls d []))

@@ -31,9 +31,8 @@ redirect-fewer f L = nodes-fewer f 0 L
 
 compress-fewer : (fs : List Bool) (L : Layer) → count_layer (compress fs L) ≤ count_layer L
 unfolding count_layer compress
-compress-fewer [] L = omega arith
-compress-fewer (f ∷ fs) [] = omega arith
 compress-fewer (f ∷ fs) (x ∷ L) = grind (arith, compress-fewer fs L)
+compress-fewer fs L = omega arith
 
 tidy-fewer : (fr : List (Option Mark)) (Ls : Net) → count_arcs (tidy fr Ls) ≤ count_arcs Ls
 unfolding count_arcs tidy
@@ -76,26 +75,23 @@ module _ {S V : Type 0} (goes : ℕ → ℕ → ℕ → Option (Down S V) → Op
 
   pub kept-fewer : (i : ℕ) (Ls : Net) (labs : List (LayerLabels S V)) → count_arcs (kept_arcs goes i Ls labs) ≤ count_arcs Ls
   unfolding count_arcs kept_arcs
-  kept-fewer i [] labs = omega arith
-  kept-fewer i (L ∷ Ls) [] = omega arith
   kept-fewer i (L ∷ Ls) (x ∷ labs) = omega (arith, redirect-fewer (λ a j b. cond (gone i (suc (length Ls)) x a j b) 0 (suc b)) L, kept-fewer (suc i) Ls labs)
+  kept-fewer i Ls labs = omega arith
 
   -- if none goes, the arcs stay as they are
   pub all-kept : (i : ℕ) (Ls : Net) (labs : List (LayerLabels S V)) → keeps_all_arcs goes i Ls labs ≡ true → kept_arcs goes i Ls labs ≡ Ls
   unfolding kept_arcs keeps_all_arcs
-  all-kept i [] labs e = refl
-  all-kept i (L ∷ Ls) [] e = refl
   all-kept i (L ∷ Ls) (x ∷ labs) e = grind (arith, e, kept-layer (gone i (suc (length Ls)) x) L, all-kept (suc i) Ls labs)
+  all-kept i Ls labs e = refl
 
   -- if as many arcs stay, none goes
   pub none-gone : (i : ℕ) (Ls : Net) (labs : List (LayerLabels S V)) → count_arcs (kept_arcs goes i Ls labs) ≡ count_arcs Ls → keeps_all_arcs goes i Ls labs ≡ true
   unfolding kept_arcs keeps_all_arcs count_arcs redirect
-  none-gone i [] labs e = refl
-  none-gone i (L ∷ Ls) [] e = refl
   none-gone i (L ∷ Ls) (l ∷ labs) e =
       let t : ℕ → ℕ → ℕ → Bool = gone i (suc (length Ls)) l in
       let x = nodes-fewer (λ a j b. cond (t a j b) 0 (suc b)) 0 L in
       grind (arith, e, x, kept-fewer (suc i) Ls labs, layer-quiet t 0 L, none-gone (suc i) Ls labs)
+  none-gone i Ls labs e = refl
 
   -- as many arcs stay exactly when none goes
   pub kept-same : (i : ℕ) (Ls : Net) (labs : List (LayerLabels S V)) → eqb (count_arcs (kept_arcs goes i Ls labs)) (count_arcs Ls) ≡ keeps_all_arcs goes i Ls labs

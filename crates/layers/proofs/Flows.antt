@@ -100,8 +100,7 @@ module _ {A : Type 0} (merge : A → A → A) (R : A → A → Type 0) (R-refl :
   pub gather-in : (z : A) (xs : List A) → Among z xs → (m : A) × (gather merge xs ≡ Some m) × R z m
   unfolding gather
   gather-in z [] i = absurd i
-  gather-in z (x ∷ xs) (inl e) = (fold merge x xs, refl, rw e (fold_start x xs))
-  gather-in z (x ∷ xs) (inr i) = (fold merge x xs, refl, fold-in z x xs i)
+  gather-in z (x ∷ xs) i = (fold merge x xs, refl, elim i [ inl e ↦ rw e (fold_start x xs) | inr k ↦ fold-in z x xs k ])
 
   -- what goes over an arc is below the label of its target
   pub next-at : (arrival_over : A → ℕ → A) (labs : List (Option A)) (L : Layer) (count a j b : ℕ) (l : A) → target (node L a) j ≡ suc b → get_or labs a None ≡ Some l → b < count

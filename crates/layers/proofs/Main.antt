@@ -83,8 +83,7 @@ one-hits i (k ∷ w) e = grind (arith, nat_tests, e, one-hits i w)
 
 pub ahead_in : (j i : ℕ) (w : List ℕ) → StandsAhead j i w → StandsIn i w
 ahead_in j i [] h = h
-ahead_in j i (k ∷ w) (inl h) = inr h.1
-ahead_in j i (k ∷ w) (inr h) = inr (ahead_in j i w h)
+ahead_in j i (k ∷ w) h = grind (arith, h, ahead_in j i w)
 
 hits-two : (j i : ℕ) (w : List ℕ) → StandsAhead j i w → fold still_sought (j ∷ i ∷ []) w ≡ []
 hits-two j i [] h = absurd h
@@ -168,9 +167,8 @@ module _ {S V : Type 0} {Keeps : List ℕ → Type 0} {Stands : S → List ℕ �
 
     open-path : (k : ℕ) (v : List ℕ) → IsPartOrder by.round.n v → length v ≡ k → PathFrom (table k (λ i. all_doors by.round.n ∷ [])) 0 v
     open-path zero [] d e = refl
-    open-path zero (j ∷ v) d e = absurd (omega arith)
-    open-path (suc k) [] d e = absurd (omega arith)
     open-path (suc k) (j ∷ v) d e = (0, open-door j d.0, open-path k v d.2 (omega arith))
+    open-path k v d e = absurd (omega arith)
 
     pub still : (lent : List (Node S V)) (cs : List (Call V)) → EachCut (λ c. by.tally.not_above (cost by.round by.tally w) c ≡ true) cs
         → PathFrom (arcs by.round.n by.width (after_calls by cs (after_open by lent))) 0 w

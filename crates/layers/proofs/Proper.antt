@@ -44,15 +44,13 @@ drop-above i b (x ∷ M) h = grind (arith, h, drop-above (i - 1) (b - 1) M)
 -- the targets of both
 both-get : (x y : Outs) (k : ℕ) → get_or (both_out x y) k 0 ≡ either_target (get_or x k 0) (get_or y k 0)
 unfolding both_out
-both-get [] y k = refl
-both-get (s ∷ x) [] k = grind arith
 both-get (s ∷ x) (t ∷ y) k = grind (arith, both-get x y)
+both-get x y k = grind arith
 
 clash-get : (x y : Outs) (k : ℕ) → clash x y ≡ false → targets_differ (get_or x k 0) (get_or y k 0) ≡ false
 unfolding clash
-clash-get [] y k n = refl
-clash-get (s ∷ x) [] k n = grind arith
 clash-get (s ∷ x) (t ∷ y) k n = grind (arith, n, clash-get x y)
+clash-get x y k n = grind arith
 
 target_left : (x y : Outs) (k c : ℕ) → target x k ≡ suc c → target (both_out x y) k ≡ suc c
 target_left x y k c e = grind (arith, e, both-get x y)
@@ -186,9 +184,8 @@ module _ {S V : Type 0} (by : Setting S V) (self : (s : S) → by.rule.same s s 
 -- ---- join
 pub drop-length : (i : ℕ) (M : Layer) → i < length M → suc (length (without_place i M)) ≡ length M
 unfolding without_place
-drop-length zero (x ∷ M) h = refl
-drop-length (suc i) (x ∷ M) h = ap suc (drop-length i M (le_of_suc-le-suc h))
-drop-length i M h = absurd (omega arith)
+drop-length i [] h = absurd (omega arith)
+drop-length i (x ∷ M) h = grind (arith, h, drop-length (i - 1) M)
 
 module _ (M : Layer) (lo hi : ℕ) (lt : lo < hi) (inn : hi < length M) (nc : clash (node M lo) (node M hi) ≡ false) where
   abbrev X : Layer
@@ -267,9 +264,8 @@ both-even n (s ∷ x) (t ∷ y) a b = grind (arith, a, b, both-even (length x) x
 -- ---- tidying
 compress-short : (fs : List Bool) (L : Layer) → length (compress fs L) ≤ length L
 unfolding compress
-compress-short [] L = omega arith
-compress-short (f ∷ fs) [] = omega arith
 compress-short (f ∷ fs) (x ∷ L) = grind (arith, compress-short fs L)
+compress-short fs L = omega arith
 
 tidy-less : (n W : ℕ) (fr : List (Option Mark)) (Ls : Net) → (length (tidy fr Ls) ≡ length Ls) × (IsEven n Ls → IsEven n (tidy fr Ls)) × (IsRoomy W Ls → IsRoomy W (tidy fr Ls))
 unfolding tidy
@@ -326,10 +322,9 @@ less_refl n W Ls = record { deep = refl; wide = refl; even = λ h. h; roomy = λ
 -- what a filter leaves
 pub kept-less : {S V : Type 0} (n W : ℕ) (goes : ℕ → ℕ → ℕ → Option (Down S V) → Option Up → Bool) (i : ℕ) (Ls : Net) (labs : List (LayerLabels S V)) → Less n W Ls (kept_arcs goes i Ls labs)
 unfolding kept_arcs
-kept-less n W goes i [] labs = less_refl n W []
-kept-less n W goes i (L ∷ Ls) [] = less_refl n W (L ∷ Ls)
 kept-less n W goes i (L ∷ Ls) (x ∷ labs) =
     less-layer n W (λ a j b. goes i (suc (length Ls)) j (get_or x.downs a None) (get_or x.ups b None)) L Ls (kept_arcs goes (suc i) Ls labs) (kept-less n W goes (suc i) Ls labs)
+kept-less n W goes i Ls labs = less_refl n W Ls
 
 -- ---- an edit of a layer of arcs and the next
 -- each node of the first layer has an out-arc

@@ -75,9 +75,8 @@ all-rest P w m xs a = rw (← (drop-take w m xs)) (All-drop P w (take (w + m) xs
 
 module _ {S V : Type 0} (n W : ℕ) where
   pub drawn-deep : (k : ℕ) (xs : List (Node S V)) → length (arcs_of_layers n (layers W k xs)) ≡ k
-  drawn-deep zero xs = refl
-  drawn-deep (suc zero) xs = refl
   drawn-deep (suc (suc k)) xs = ap suc (drawn-deep (suc k) (drop W xs))
+  drawn-deep k xs = refl
 
   arcs-short : (us : List (Node S V)) → length (arcs_in n (nodes_in (take W us))) ≤ W
   arcs-short us = omega (arith, length-map (nodes_in (take W us)) (λ (x : Node S V). take n x.arcs.to), standing-short (take W us), length-take W us)

@@ -42,9 +42,8 @@ count-rank P fs f g (suc b) = grind (arith, f b, g b, rank-step fs b, count-skip
 
 compress-long : (fs : List Bool) (X : Layer) → length (compress fs X) ≡ rank fs (length X)
 unfolding compress rank
-compress-long [] X = refl
-compress-long (f ∷ fs) [] = refl
 compress-long (f ∷ fs) (x ∷ X) = grind (arith, compress-long fs X)
+compress-long fs X = refl
 
 -- ---- the flags of layer i, where fr are the marks of the first layer
 abbrev flags_of : List (Option Mark) → Net → ℕ → List Bool
@@ -184,14 +183,13 @@ tidies D = record {
 -- ---- these facts are so of one net alone
 -- of n that are counted there is one before which k are
 count-find : (P : ℕ → Type 0) (m n k : ℕ) → CountBelow P m n → k < n → (b : ℕ) × (b < m) × P b × CountBelow P b k
-count-find P zero n k h lt = absurd (omega arith)
-count-find P (suc m) zero k h lt = absurd (not-suc-le-zero lt)
 count-find P (suc m) (suc n) k (inl h) lt =
     elim (cases_eq k n) [
       | inl e ↦ (m, omega arith, h.0, rw e h.1)
       | inr ne ↦ (let f = count-find P m n k h.1 (omega arith) in (f.0, omega arith, f.2, f.3))
     ]
 count-find P (suc m) (suc n) k (inr h) lt = let f = count-find P m (suc n) k h.1 lt in (f.0, omega arith, f.2, f.3)
+count-find P m n k h lt = absurd (omega arith)
 
 same-number : (x y : ℕ) → ((c : ℕ) → x ≡ suc c → y ≡ suc c) → ((c : ℕ) → y ≡ suc c → x ≡ suc c) → x ≡ y
 same-number x y f g = grind (arith, f (x - 1), g (y - 1))
@@ -220,9 +218,8 @@ tidy-means D E = (λ x. same-net D E (tidied_arcs D) x (tidies D), λ e. rw e (t
 
 -- ---- what tidying leaves alone
 count-le : (P : ℕ → Type 0) (m n : ℕ) → CountBelow P m n → n ≤ m
-count-le P zero n h = omega arith
-count-le P (suc m) zero h = omega arith
 count-le P (suc m) (suc n) h = grind (arith, h, count-le P m n, count-le P m (suc n))
+count-le P m n h = omega arith
 
 count-full : (P : ℕ → Type 0) (m : ℕ) → CountBelow P m m → (b : ℕ) → b < m → P b
 count-full P zero h b lt = absurd (omega arith)
