@@ -28,21 +28,18 @@ module _ {S V : Type 0} (by : Setting S V) (w : 1 ≤ by.width) where
   labels_full labs L M Ls t f b h =
       let s = t.1 b h in
       let l = f s.0 (has-arc L s.0 s.1 b s.2) in
-      let n = next-at {A = Down S V} (merge by.rule by.tally) (λ x y. Unit {0}) (λ x. tt) (λ x y z f g. tt) (λ x y. tt) (λ x y. tt) (arrival_over by) labs L (length M) s.0 s.1 b l.0 s.2 l.1 h in
-      (n.0, n.1)
+      let n = next-at {A = Down S V} (merge by.rule by.tally) (λ x. Unit {0}) (λ x y p. tt) (λ x y p. tt) (arrival_over by) labs L (length M) s.0 s.1 b l.0 s.2 l.1 h tt in (n.0, n.1)
 
 pub ups-full : (M : Layer) (Ls : Net) → IsLed M → IsTied (M ∷ Ls) → (a : ℕ) → a < length M → (u : Up) × (get_or (ups (M ∷ Ls)) a None ≡ Some u)
 unfolding ups
 ups-full M [] led t a h =
     let s = led a h in
     let z : s.1 ≡ 0 = omega (arith, t a s.0 s.1 s.2) in
-    let q = up_at {A = Up} merge_up (λ x y. Unit {0}) (λ x. tt) (λ x y z f g. tt) (λ x y. tt) (λ x y. tt) climb no_up M [] a s.0 s.1 no_up s.2 (unfold up in ap (λ (k : ℕ). get_or {A = Option Up} (Some no_up ∷ []) k None) z) in
-    (q.0, q.1)
+    let q = up_at {A = Up} merge_up (λ x. Unit {0}) (λ x y p. tt) (λ x y p. tt) climb no_up M [] a s.0 s.1 no_up s.2 (unfold up in ap (λ (k : ℕ). get_or {A = Option Up} (Some no_up ∷ []) k None) z) tt in (q.0, q.1)
 ups-full M (N ∷ Ls) led t a h =
     let s = led a h in
     let x = ups-full N Ls t.2 t.3 s.1 (t.0 a s.0 s.1 s.2) in
-    let q = up_at {A = Up} merge_up (λ x y. Unit {0}) (λ x. tt) (λ x y z f g. tt) (λ x y. tt) (λ x y. tt) climb no_up M (N ∷ Ls) a s.0 s.1 x.0 s.2 x.1 in
-    (q.0, q.1)
+    let q = up_at {A = Up} merge_up (λ x. Unit {0}) (λ x y p. tt) (λ x y p. tt) climb no_up M (N ∷ Ls) a s.0 s.1 x.0 s.2 x.1 tt in (q.0, q.1)
 
 -- ---- tables
 pub map-table : {A B : Type 0} (f : A → B) (m : ℕ) (g : ℕ → A) → map f (table m g) ≡ table m (λ k. f (g k))
@@ -158,7 +155,7 @@ module _ {S V : Type 0} (by : Setting S V) (w : 1 ≤ by.width) where
   tops-end labs L f t a j b e =
       let z : b ≡ 0 = omega (arith, t a j b e) in
       let l = f.there a (has-arc L a j b e) in
-      let n = next-at {A = Down S V} (merge by.rule by.tally) (λ x y. Unit {0}) (λ x. tt) (λ x y z f g. tt) (λ x y. tt) (λ x y. tt) (arrival_over by) labs L 1 a j b l.0 e l.1 (t a j b e) in
+      let n = next-at {A = Down S V} (merge by.rule by.tally) (λ x. Unit {0}) (λ x y p. tt) (λ x y p. tt) (arrival_over by) labs L 1 a j b l.0 e l.1 (t a j b e) tt in
       let n0 : get_or (next (arrival_over by) (merge by.rule by.tally) labs L 1) 0 None ≡ Some n.0 = ap (λ (k : ℕ). get_or (next (arrival_over by) (merge by.rule by.tally) labs L 1) k None) (sym z) ∙ n.1 in
       let q = lasting-next labs L 1 0 n.0 n0 in
       grind (arith, z, q, n0, end-top (next (arrival_over by) (merge by.rule by.tally) labs L 1) n.0, ups-end b)

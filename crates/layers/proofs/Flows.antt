@@ -86,28 +86,28 @@ module _ {A : Type 0} (arrival_over : A → ℕ → A) (merge : A → A → A) w
   ins-in b labs L a zero l e g = absurd (omega arith)
   ins-in b labs L a (suc k) l e g = absurd cc
 
-module _ {A : Type 0} (merge : A → A → A) (R : A → A → Type 0) (R-refl : (x : A) → R x x) (R-trans : (x y z : A) → R x y → R y z → R x z)
-    (left : (x y : A) → R x (merge x y)) (right : (x y : A) → R y (merge x y)) where
-  fold_start : (x : A) (xs : List A) → R x (fold merge x xs)
-  fold_start x [] = R-refl x
-  fold_start x (y ∷ xs) = R-trans x (merge x y) (fold merge (merge x y) xs) (left x y) (fold_start (merge x y) xs)
+-- what merging keeps of one of those merged
+module _ {A : Type 0} (merge : A → A → A) (P : A → Type 0) (left : (x y : A) → P x → P (merge x y)) (right : (x y : A) → P y → P (merge x y)) where
+  fold_start : (x : A) (xs : List A) → P x → P (fold merge x xs)
+  fold_start x [] p = p
+  fold_start x (y ∷ xs) p = fold_start (merge x y) xs (left x y p)
 
-  fold-in : (z x : A) (xs : List A) → Among z xs → R z (fold merge x xs)
-  fold-in z x [] i = absurd i
-  fold-in z x (y ∷ xs) (inl e) = R-trans z (merge x y) (fold merge (merge x y) xs) (rw e (right x y)) (fold_start (merge x y) xs)
-  fold-in z x (y ∷ xs) (inr i) = fold-in z (merge x y) xs i
+  fold-in : (z x : A) (xs : List A) → Among z xs → P z → P (fold merge x xs)
+  fold-in z x [] i p = absurd i
+  fold-in z x (y ∷ xs) (inl e) p = fold_start (merge x y) xs (right x y (rw (← e) p))
+  fold-in z x (y ∷ xs) (inr i) p = fold-in z (merge x y) xs i p
 
-  pub gather-in : (z : A) (xs : List A) → Among z xs → (m : A) × (gather merge xs ≡ Some m) × R z m
+  pub gather-in : (z : A) (xs : List A) → Among z xs → P z → (m : A) × (gather merge xs ≡ Some m) × P m
   unfolding gather
-  gather-in z [] i = absurd i
-  gather-in z (x ∷ xs) i = (fold merge x xs, refl, elim i [ inl e ↦ rw e (fold_start x xs) | inr k ↦ fold-in z x xs k ])
+  gather-in z [] i p = absurd i
+  gather-in z (x ∷ xs) i p = (fold merge x xs, refl, elim i [ inl e ↦ fold_start x xs (rw (← e) p) | inr k ↦ fold-in z x xs k p ])
 
-  -- what goes over an arc is below the label of its target
+  -- what is so of what an arc brings is so of the label of its target
   pub next-at : (arrival_over : A → ℕ → A) (labs : List (Option A)) (L : Layer) (count a j b : ℕ) (l : A) → target (node L a) j ≡ suc b → get_or labs a None ≡ Some l → b < count
-      → (m : A) × (get_or (next arrival_over merge labs L count) b None ≡ Some m) × R (arrival_over l j) m
+      → P (arrival_over l j) → (m : A) × (get_or (next arrival_over merge labs L count) b None ≡ Some m) × P m
   unfolding next
-  next-at arrival_over labs L count a j b l e g h =
-      let q = gather-in (arrival_over l j) (arrivals_at arrival_over b labs L) (ins-in arrival_over merge b labs L a j l e g) in
+  next-at arrival_over labs L count a j b l e g h p =
+      let q = gather-in (arrival_over l j) (arrivals_at arrival_over b labs L) (ins-in arrival_over merge b labs L a j l e g) p in
       (q.0, table_at count b (λ c. gather merge (arrivals_at arrival_over c labs L)) None h ∙ q.1, q.2)
 
   outs-in : (climb : A → ℕ → A) (us : List (Option A)) (u : A) (j : ℕ) (ts : Outs) (k m b : ℕ) → j + k ≡ m → get_or ts k 0 ≡ suc b → get_or us b None ≡ Some u → Among (climb u m) (climbs_of climb us j ts)
@@ -116,23 +116,23 @@ module _ {A : Type 0} (merge : A → A → A) (R : A → A → Type 0) (R-refl :
   outs-in climb us u j (t ∷ ts) k m b h e g = grind (arith, e, g, h, outs-in climb us u (suc j) ts (k - 1) m b)
 
   pub up_at : (climb : A → ℕ → A) (top : A) (L : Layer) (Ls : Net) (a j b : ℕ) (u : A) → target (node L a) j ≡ suc b → get_or (up climb merge top Ls) b None ≡ Some u
-      → (m : A) × (get_or (up climb merge top (L ∷ Ls)) a None ≡ Some m) × R (climb u j) m
+      → P (climb u j) → (m : A) × (get_or (up climb merge top (L ∷ Ls)) a None ≡ Some m) × P m
   unfolding up
-  up_at climb top L Ls a zero b u e g = absurd (omega arith)
-  up_at climb top L Ls a (suc k) b u e g =
+  up_at climb top L Ls a zero b u e g p = absurd (omega arith)
+  up_at climb top L Ls a (suc k) b u e g p =
       let us = up climb merge top Ls in
-      let q = gather-in (climb u (suc k)) (climbs_of climb us 1 (node L a)) (outs-in climb us u 1 (node L a) k (suc k) b (omega arith) e g) in
+      let q = gather-in (climb u (suc k)) (climbs_of climb us 1 (node L a)) (outs-in climb us u 1 (node L a) k (suc k) b (omega arith) e g) p in
       (q.0, get_or-map (λ nd. gather merge (climbs_of climb us 1 nd)) L a [] None (has-arc L a (suc k) b e) ∙ q.1, q.2)
 
 -- ---- tidying
 pub mark-next : (fr : List (Option Mark)) (L : Layer) (count a j b : ℕ) → target (node L a) j ≡ suc b → get_or fr a None ≡ Some tt → b < count → get_or (marks_next fr L count) b None ≡ Some tt
 unfolding marks_next
-mark-next fr L count a j b e g h = (next-at {A = Mark} (λ x y. tt) (λ x y. Unit {0}) (λ x. tt) (λ x y z p q. tt) (λ x y. tt) (λ x y. tt) (λ m k. tt) fr L count a j b tt e g h).1
+mark-next fr L count a j b e g h = (next-at {A = Mark} (λ x y. tt) (λ x. Unit {0}) (λ x y p. tt) (λ x y p. tt) (λ m k. tt) fr L count a j b tt e g h tt).1
 
 pub mark-up : (Ls : Net) (a : ℕ) (w : List ℕ) → PathFrom Ls a w → get_or (marks_up Ls) a None ≡ Some tt
 unfolding marks_up
 mark-up [] a [] p = unfold up in ap (λ (x : ℕ). get_or {A = Option Mark} (Some tt ∷ []) x None) p
-mark-up (L ∷ Ls) a (j ∷ w) p = (up_at {A = Mark} (λ x y. tt) (λ x y. Unit {0}) (λ x. tt) (λ x y z p q. tt) (λ x y. tt) (λ x y. tt) (λ m k. tt) tt L Ls a j p.0 tt p.1 (mark-up Ls p.0 w p.2)).1
+mark-up (L ∷ Ls) a (j ∷ w) p = (up_at {A = Mark} (λ x y. tt) (λ x. Unit {0}) (λ x y p. tt) (λ x y p. tt) (λ m k. tt) tt L Ls a j p.0 tt p.1 (mark-up Ls p.0 w p.2) tt).1
 mark-up Ls a w p = absurd p
 
 pub flags-at : (fr us : List (Option Mark)) (a : ℕ) → get_or fr a None ≡ Some tt → get_or us a None ≡ Some tt → get_or (flags fr us) a false ≡ true

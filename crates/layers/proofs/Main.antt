@@ -48,10 +48,6 @@ any-from f j (suc c ∷ ts) e = elim (or_cases (f j c) (any_door f (suc j) ts) e
   | inr h ↦ (let q = any-from f (suc j) ts h in (suc q.0, q.1, q.2, ap (λ (x : ℕ). f x q.1) (omega arith) ∙ q.3))
 ]
 
-nil_is : (gs : List ℕ) → is_nil gs ≡ true → gs ≡ []
-nil_is [] e = refl
-nil_is (g ∷ gs) e = absurd (false≢true e)
-
 seeks-in : (Ls : Net) (a : ℕ) (gs w : List ℕ) → PathFrom Ls a w → fold still_sought gs w ≡ [] → has_path_with Ls a gs ≡ true
 unfolding has_path_with
 seeks-in [] a gs [] p e = rw (eq-eqb a 0 p, e) refl
@@ -61,7 +57,8 @@ seeks-in Ls a gs w p e = absurd p
 
 seeks-from : (Ls : Net) (a : ℕ) (gs : List ℕ) → has_path_with Ls a gs ≡ true → (w : List ℕ) × PathFrom Ls a w × (fold still_sought gs w ≡ [])
 unfolding has_path_with
-seeks-from [] a gs e = let q = and_parts (eqb a 0) (is_nil gs) e in ([], eqb-true a 0 q.0, nil_is gs q.1)
+seeks-from [] a [] e = ([], eqb-true a 0 (and_parts (eqb a 0) true e).0, refl)
+seeks-from [] a (g ∷ gs) e = absurd (false≢true (and_parts (eqb a 0) false e).1)
 seeks-from (L ∷ Ls) a gs e =
     let q = any-from (λ j b. has_path_with Ls b (still_sought gs j)) 1 (node L a) e in
     let j = suc q.0 in
@@ -343,13 +340,10 @@ module _ {S V : Type 0} {Keeps : List ℕ → Type 0} {Stands : S → List ℕ �
         let n = width (drop (suc d) D) in
         let s = path-last D 0 d b w q.0 q.1 in
         let x = tells_at t d (omega arith) s.source s.before (s.path, s.long) in
-        let y = next-at {A = Down S V} (merge by.rule by.tally) (λ x y. (w : List ℕ) → Tells x.all x.some w → Tells y.all y.some w) (λ x w f. f) (λ x y z f g w h. g w (f w h))
-        (λ x y. tells-left x.all x.some y.all y.some) (λ x y. tells-right x.all x.some y.all y.some)
-        (arrival_over by) (LabsAt d D) L n s.source s.door b x.0 s.arc x.1 (ranged-at D d t h s.source s.door b s.arc) in (
-          y.0,
-          rw (labs-step d (first_labels by.rule by.tally) D h) y.1,
-          y.2 w (subst (Tells (bit_or x.0.all (bit_of s.door)) (bit_or x.0.some (bit_of s.door))) (sym s.is) (tells-step x.0.all x.0.some s.door (λ w. w ++ (s.door ∷ [])) s.before (at_back s.door) x.2)),
-        )
+        let z = subst (Tells (bit_or x.0.all (bit_of s.door)) (bit_or x.0.some (bit_of s.door))) (sym s.is) (tells-step x.0.all x.0.some s.door (λ w. w ++ (s.door ∷ [])) s.before (at_back s.door) x.2) in
+        let y = next-at {A = Down S V} (merge by.rule by.tally) (λ x. Tells x.all x.some w) (λ x y. tells-left x.all x.some y.all y.some w) (λ x y. tells-right x.all x.some y.all y.some w)
+        (arrival_over by) (LabsAt d D) L n s.source s.door b x.0 s.arc x.1 (ranged-at D d t h s.source s.door b s.arc) z in
+        (y.0, rw (labs-step d (first_labels by.rule by.tally) D h) y.1, y.2)
 
     -- values and finishes
     pub good-at : {Allows : ℕ → V → Type 0} (tallied : TallyLaws by.round.n by.tally Allows) → length D ≤ 16 → IsEven by.round.n D → (d : ℕ) → d ≤ length D → Good by ruled tallied d (LabsAt d D)

@@ -91,7 +91,7 @@ climbs-from L Ls a e = up-all {A = Mark} (λ m k. tt) (λ x y. tt) tt L Ls a tt 
 
 pub climbs : (L : Layer) (Ls : Net) (a j b : ℕ) → target (node L a) j ≡ suc b → get_or (marks_up Ls) b None ≡ Some tt → get_or (marks_up (L ∷ Ls)) a None ≡ Some tt
 unfolding marks_up
-climbs L Ls a j b e g = (up_at {A = Mark} (λ x y. tt) (λ x y. Unit {0}) (λ x. tt) (λ x y z p q. tt) (λ x y. tt) (λ x y. tt) (λ m k. tt) tt L Ls a j b tt e g).1
+climbs L Ls a j b e g = (up_at {A = Mark} (λ x y. tt) (λ x. Unit {0}) (λ x y p. tt) (λ x y p. tt) (λ m k. tt) tt L Ls a j b tt e g tt).1
 
 -- ---- a layer and the next
 module _ (fr : List (Option Mark)) (L : Layer) (Ls : Net) where

@@ -100,19 +100,13 @@ module _ {S V : Type 0} {Keeps : List ℕ → Type 0} {Stands : S → List ℕ �
     pub state : Stands l.state p
     pub value : by.tally.not_above l.value (cost by.round by.tally p) ≡ true
 
-  fits-first : Fits (first_label by.rule by.tally) []
-  fits-first = record { part = tt; sets = record { all_in = λ j h. absurd (none_has j h); in_some = λ j i. absurd i }; finish = omega arith; lasts = refl; state = ruled.start_stands; value = tallied.order_self by.tally.start }
+  less-left : (p : List ℕ) (x y : Down S V) → Fits x p → Fits (merge by.rule by.tally x y) p
+  unfolding merge
+  less-left p x y f = grind (arith, f, tells-left, or_left, ruled.cover_left, tallied.order_chain, tallied.lesser_is, tallied.order_self, tallied.order_total)
 
-  unfoldable pub Less : Down S V → Down S V → Type 0
-  Less x y = (p : List ℕ) → Fits x p → Fits y p
-
-  less-left : (x y : Down S V) → Less x (merge by.rule by.tally x y)
-  unfolding Less merge
-  less-left x y p f = grind (arith, f, tells-left, or_left, ruled.cover_left, tallied.order_chain, tallied.lesser_is, tallied.order_self, tallied.order_total)
-
-  less-right : (x y : Down S V) → Less y (merge by.rule by.tally x y)
-  unfolding Less merge
-  less-right x y p f = grind (arith, f, tells-right, or_right, ruled.cover_right, tallied.order_chain, tallied.lesser_is, tallied.order_self, tallied.order_total)
+  less-right : (p : List ℕ) (x y : Down S V) → Fits y p → Fits (merge by.rule by.tally x y) p
+  unfolding merge
+  less-right p x y f = grind (arith, f, tells-right, or_right, ruled.cover_right, tallied.order_chain, tallied.lesser_is, tallied.order_self, tallied.order_total)
 
   pub told-next : (p : List ℕ) (j : ℕ) → Told p → IsDoor by.round.n j → length p < 16 → ¬ StandsIn j p → Told (p ++ (j ∷ []))
   told-next p j t d k f =
@@ -163,9 +157,8 @@ unfolding ups
 path-up [] a [] p = unfold up in (no_up, ap (λ (x : ℕ). get_or {A = Option Up} (Some no_up ∷ []) x None) p, record { all_in = λ j h. absurd (none_has j h); in_some = λ j i. absurd i })
 path-up (L ∷ Ls) a (j ∷ w) p =
     let x = path-up Ls p.0 w p.2 in
-    let q = up_at {A = Up} merge_up (λ x y. (w : List ℕ) → Tells x.allup x.someup w → Tells y.allup y.someup w) (λ x w f. f) (λ x y z f g w h. g w (f w h))
-    (λ x y. tells-left x.allup x.someup y.allup y.someup) (λ x y. tells-right x.allup x.someup y.allup y.someup) climb no_up L Ls a j p.0 x.0 p.1 x.1 in
-    (q.0, q.1, q.2 (j ∷ w) (tells-step x.0.allup x.0.someup j (λ w. j ∷ w) w (at_front j) x.2))
+    up_at {A = Up} merge_up (λ x. Tells x.allup x.someup (j ∷ w)) (λ x y. tells-left x.allup x.someup y.allup y.someup (j ∷ w)) (λ x y. tells-right x.allup x.someup y.allup y.someup (j ∷ w))
+    climb no_up L Ls a j p.0 x.0 p.1 x.1 (tells-step x.0.allup x.0.someup j (λ w. j ∷ w) w (at_front j) x.2)
 path-up Ls a w p = absurd p
 
 pub path-length : (Ls : Net) (a : ℕ) (w : List ℕ) → PathFrom Ls a w → length w ≡ length Ls
@@ -212,15 +205,16 @@ module _ {S V : Type 0} {Keeps : List ℕ → Type 0} {Stands : S → List ℕ �
 
   -- over an arc
   pub way_next : (labs : List (Option (Down S V))) (L : Layer) (Ls : Net) (a j : ℕ) (p w : List ℕ) (o : OnWay labs (L ∷ Ls) a p (j ∷ w)) → OnWay (labels_next by labs L (width Ls)) Ls o.path.0 (p ++ (j ∷ [])) w
-  unfolding At labels_next Less
+  unfolding At labels_next
   way_next labs L Ls a j p w o =
       let facts = going-facts p w j o.going in
       let f = way-fits labs L Ls a j p w o in
-      let q = next-at {A = Down S V} (merge by.rule by.tally) (Less by ruled tallied) (λ x p f. f) (λ x y z f g p h. g p (f p h)) (less-left by ruled tallied) (less-right by ruled tallied)
-      (arrival_over by) labs L (width Ls) a j o.path.0 f.0 o.path.1 f.1 (inside Ls o.path.0 w o.path.2) in record {
+      let s = p ++ (j ∷ []) in
+      let q = next-at {A = Down S V} (merge by.rule by.tally) (λ l. Fits by ruled tallied l s) (less-left by ruled tallied s) (less-right by ruled tallied s)
+      (arrival_over by) labs L (width Ls) a j o.path.0 f.0 o.path.1 f.1 (inside Ls o.path.0 w o.path.2) f.3 in record {
         going = going_next by ruled tallied p w j o.going;
         told = told-next by ruled tallied p j o.told facts.0 facts.2 facts.1;
-        fits = (q.0, q.1, q.2 (p ++ (j ∷ [])) f.3);
+        fits = q;
         good = rw (length-snoc p j) (good-next by ruled tallied (length p) labs L (width Ls) facts.2 o.good o.even.0);
         even = o.even.1;
         path = o.path.2;
@@ -246,7 +240,7 @@ module _ {S V : Type 0} {Keeps : List ℕ → Type 0} {Stands : S → List ℕ �
   setting-out w Ls o even q = record {
     going = record { part = o.part; keeps = o.keeps; timely = timely-from by.round [] w o.timely; total = omega (arith, o.whole) };
     told = told_none by ruled tallied;
-    fits = (first_label by.rule by.tally, refl, fits-first by ruled tallied);
+    fits = (first_label by.rule by.tally, refl, record { part = tt; sets = record { all_in = λ j h. absurd (none_has j h); in_some = λ j i. absurd i }; finish = omega arith; lasts = refl; state = ruled.start_stands; value = tallied.order_self by.tally.start });
     good = good-first by ruled tallied;
     even = even;
     path = q;
@@ -425,7 +419,7 @@ module _ {S V : Type 0} {Keeps : List ℕ → Type 0} {Stands : S → List ℕ �
   paths-sound i p (j ∷ w) labs (L ∷ Ls) a l t s g e o even q =
       let b = q.0 in
       let on = onward l p j (omega (arith, by.round.most)) (even-door by.round L even.0 a j b q.1) o (e (omega arith)) (settles-arc i labs L Ls a j b l s q.1 g) in
-      let n = next-at {A = Down S V} (merge by.rule by.tally) (λ x y. Unit {0}) (λ x. tt) (λ x y z f g. tt) (λ x y. tt) (λ x y. tt) (arrival_over by) labs L (width Ls) a j b l q.1 g (inside Ls b w q.2) in
+      let n = next-at {A = Down S V} (merge by.rule by.tally) (λ x. Unit {0}) (λ x y p. tt) (λ x y p. tt) (arrival_over by) labs L (width Ls) a j b l q.1 g (inside Ls b w q.2) tt in
       rw (← (snoc-assoc p w j)) (paths-sound (suc i) (p ++ (j ∷ [])) w (labels_next by labs L (width Ls)) Ls b n.0 (omega (arith, length-snoc p j)) (settles-next i labs L Ls s).1 n.1
       (exact-next i labs L Ls b n.0 (arrival_over by l j) (p ++ (j ∷ [])) s n.1 (ins-in (arrival_over by) (merge by.rule by.tally) b labs L a j l q.1 g) on.exact) on.sound even.1 q.2)
   paths-sound i p w labs Ls a l t s g e o even q = absurd q

@@ -257,7 +257,7 @@ module _ {S V : Type 0} {Keeps : List ℕ → Type 0} {Stands : S → List ℕ �
         on a j b e =
             let l = full a (has-arc L a j b e) in
             let h = t.0 a j b e in
-            let n = next-at {A = Down S V} (merge by.rule by.tally) (λ x y. Unit {0}) (λ x. tt) (λ x y z f g. tt) (λ x y. tt) (λ x y. tt) (arrival_over by) labs L (length M) a j b l.0 e l.1 h in
+            let n = next-at {A = Down S V} (merge by.rule by.tally) (λ x. Unit {0}) (λ x y p. tt) (λ x y p. tt) (arrival_over by) labs L (length M) a j b l.0 e l.1 h tt in
             let p = agree-arrive by ruled (K a) l.0 j (fit a l.0 l.1) in
             let q = same-gather by ruled (arrivals_at (arrival_over by) b labs L) n.0 (arrival_over by l.0 j) (g b h) (next-some (arrival_over by) (merge by.rule by.tally) labs L (length M) b n.0 n.1)
             (ins-in (arrival_over by) (merge by.rule by.tally) b labs L a j l.0 e l.1) in
