@@ -264,26 +264,19 @@ next-all arrival_over merge labs L count b m P keep f e = gather-all merge P kee
     (λ x i. let s = ins-from arrival_over b labs L x i in rw s.is (f s.source s.door s.label s.arc s.labelled)) (next-some arrival_over merge labs L count b m e)
 
 -- where a label from above comes from
-record Climbs {A : Type 0} (climb : A → ℕ → A) (us : List (Option A)) (j : ℕ) (ts : Outs) (x : A) : Type 0 where
-  pub skip : ℕ
-  pub to : ℕ
-  pub label : A
-  pub arc : get_or ts skip 0 ≡ suc to
-  pub labelled : get_or us to None ≡ Some label
-  pub is : x ≡ climb label (j + skip)
-
-outs-from : {A : Type 0} (climb : A → ℕ → A) (us : List (Option A)) (x : A) (j : ℕ) (ts : Outs) → Among x (climbs_of climb us j ts) → Climbs climb us j ts x
+outs-from : {A : Type 0} (climb : A → ℕ → A) (us : List (Option A)) (x : A) (j : ℕ) (ts : Outs) → Among x (climbs_of climb us j ts)
+    → (k : ℕ) × (b : ℕ) × (u : A) × (get_or ts k 0 ≡ suc b) × (get_or us b None ≡ Some u) × (x ≡ climb u (j + k))
 unfolding climbs_of
 outs-from climb us x j [] i = absurd i
 outs-from {A} climb us x j (t ∷ ts) i = elim (go t (read us t) refl i) [
-  | inl c ↦ c
-  | inr h ↦ (let c = outs-from climb us x (suc j) ts h in record { skip = suc c.skip; to = c.to; label = c.label; arc = c.arc; labelled = c.labelled; is = c.is ∙ ap (climb c.label) (omega arith) })
+  | inl c ↦ (0, c.0, c.1, c.2, c.3, c.4 ∙ ap (climb c.1) (omega arith))
+  | inr h ↦ (let c = outs-from climb us x (suc j) ts h in (suc c.0, c.1, c.2, c.3, c.4, c.5 ∙ ap (climb c.2) (omega arith)))
 ]
   where
-    go : (t : ℕ) (o : Option A) → read us t ≡ o → Among x (cons_if_some climb j o (climbs_of climb us (suc j) ts)) → Climbs climb us j (t ∷ ts) x ⊎ Among x (climbs_of climb us (suc j) ts)
+    go : (t : ℕ) (o : Option A) → read us t ≡ o → Among x (cons_if_some climb j o (climbs_of climb us (suc j) ts)) → ((b : ℕ) × (u : A) × (t ≡ suc b) × (get_or us b None ≡ Some u) × (x ≡ climb u j)) ⊎ Among x (climbs_of climb us (suc j) ts)
     go t None e i = inr i
     go zero (Some u) e i = absurd cc
-    go (suc b) (Some u) e (inl h) = inl (record { skip = 0; to = b; label = u; arc = refl; labelled = e; is = h ∙ ap (climb u) (omega arith) })
+    go (suc b) (Some u) e (inl h) = inl (b, u, refl, e, h)
     go (suc b) (Some u) e (inr h) = inr h
 
 map-some : {A : Type 0} (f : Outs → Option A) (L : Layer) (a : ℕ) (x : A) → get_or (map f L) a None ≡ Some x → f (node L a) ≡ Some x
@@ -296,4 +289,4 @@ unfolding up
 up-all climb merge top L Ls a m P keep f e =
     let us = up climb merge top Ls in
     gather-all merge P keep (climbs_of climb us 1 (node L a)) m
-    (λ x i. let c = outs-from climb us x 1 (node L a) i in rw (c.is, ap (climb c.label) {x = 1 + c.skip} {y = suc c.skip} (omega arith)) (f (suc c.skip) c.to c.label c.arc c.labelled)) (map-some (λ nd. gather merge (climbs_of climb us 1 nd)) L a m e)
+    (λ x i. let c = outs-from climb us x 1 (node L a) i in rw (c.5, ap (climb c.2) {x = 1 + c.0} {y = suc c.0} (omega arith)) (f (suc c.0) c.1 c.2 c.3 c.4)) (map-some (λ nd. gather merge (climbs_of climb us 1 nd)) L a m e)

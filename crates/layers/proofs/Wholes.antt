@@ -206,21 +206,15 @@ module _ {S V : Type 0} {Keeps : List ℕ → Type 0} {Stands : S → List ℕ �
     f = moved by a labs L (length M)
 
     -- an arrival at an old node was there before, and did not leave
-    record Was (b : ℕ) (y : Down S V) : Type 0 where
-      here : Among y (arrivals b L)
-      stays : b ≡ a → (x : Down S V) → h ≡ Some x → agree by.rule x y ≡ true
-
-    was : (b : ℕ) (y : Down S V) → b < length M → Among y (arrivals b (redirect f L)) → Was b y
+    was : (b : ℕ) (y : Down S V) → b < length M → Among y (arrivals b (redirect f L)) → Among y (arrivals b L) × (b ≡ a → (x : Down S V) → h ≡ Some x → agree by.rule x y ≡ true)
     was b y k i =
         let w = ins-from (arrival_over by) b labs (redirect f L) y i in
         let s = redirect-back f L w.source w.door b w.arc in
         let t = s.2 in
         let z : s.0 ≡ b = grind (arith, nat_tests, t, k) in
         let m = w.labelled in
-        let y = w.is in record {
-          here = rw y (ins-in (arrival_over by) (merge by.rule by.tally) b labs L w.source w.door w.label (s.1 ∙ ap suc z) m);
-          stays = λ n x e. grind (arith, nat_tests, t, z, n, e, m, y);
-        }
+        let y = w.is in
+        (rw y (ins-in (arrival_over by) (merge by.rule by.tally) b labs L w.source w.door w.label (s.1 ∙ ap suc z) m), λ n x e. grind (arith, nat_tests, t, z, n, e, m, y))
 
     head_of : (l : List (Down S V)) (y : Down S V) → Among y l → (x : Down S V) × (first_arrival l ≡ Some x)
     head_of [] y i = absurd i
@@ -229,8 +223,8 @@ module _ {S V : Type 0} {Keeps : List ℕ → Type 0} {Stands : S → List ℕ �
     group-stays : ((b : ℕ) → b < a → all_agree by.rule (arrivals b L) ≡ true) → (b : ℕ) → b < suc a → all_agree by.rule (arrivals b (redirect f L)) ≡ true
     group-stays g b k = by-pairs by ruled (arrivals b (redirect f L)) (λ y z i m.
         let p = was b y (omega arith) i in let q = was b z (omega arith) m in elim (cases_eq b a) [
-          | inl e ↦ (let x = head_of (arrivals a L) y (rw (← e) p.here) in agree-back by ruled x.0 y z (agree-yes by ruled x.0 y (p.stays e x.0 x.1)) (agree-yes by ruled x.0 z (q.stays e x.0 x.1)))
-          | inr n ↦ pairs by ruled (arrivals b L) (g b (omega arith)) y z p.here q.here
+          | inl e ↦ (let x = head_of (arrivals a L) y (rw (← e) p.0) in agree-back by ruled x.0 y z (agree-yes by ruled x.0 y (p.1 e x.0 x.1)) (agree-yes by ruled x.0 z (q.1 e x.0 x.1)))
+          | inr n ↦ pairs by ruled (arrivals b L) (g b (omega arith)) y z p.0 q.0
         ])
 
   part-groups : (d a : ℕ) (labs : List (Option (Down S V))) (Ls : Net) → a < length (get_or Ls (suc d) []) → ((b : ℕ) → b < a → one_group by d b labs Ls ≡ true)
