@@ -176,11 +176,6 @@ module _ {S V : Type 0} (by : Setting S V) (w : 1 ≤ by.width) where
   full-first L Ls e t room even = full_from (first_labels by.rule by.tally) L Ls (rw e filled-first) t room even
 
   -- ---- reading the records
-  one-row : (labs : Labs) (L : Layer) (Ls : Net) → Fit labs L Ls → nodes_in (table by.width (record_of_place by L labs (ups (L ∷ Ls)))) ≡ top labs (L ∷ Ls)
-  one-row labs L Ls f = stand-table by.width (length L) (record_of_place by L labs (ups (L ∷ Ls))) f.room
-      (λ k h. let x = f.filled.there k h in grind (arith, x, f.filled.lasting k))
-      (λ h. grind (arith, f.filled.beyond))
-
   pub layers-laid : (later : List (Node S V)) (labs : Labs) (Ls : Net) → Full labs Ls → layers by.width (length Ls) (labelled_from by labs Ls ++ later) ≡ stood labs Ls
   unfolding labelled_from
   layers-laid later labs [] f = refl
@@ -190,7 +185,8 @@ module _ {S V : Type 0} (by : Setting S V) (w : 1 ≤ by.width) where
       let e = append_assoc (table by.width f') X later in
       let t = take_at (table by.width f') (X ++ later) by.width (table-long by.width f') in
       let u = drop_at (table by.width f') (X ++ later) by.width (table-long by.width f') in
-      grind (arith, e, t, u, one-row labs L Ls f.0, layers-laid later (labels_next by labs L (width Ls)) Ls f.1)
+      let o = stand-table by.width (length L) f' f.0.room (λ k h. let x = f.0.filled.there k h in grind (arith, x, f.0.filled.lasting k)) (λ h. grind (arith, f.0.filled.beyond)) in
+      grind (arith, e, t, u, o, layers-laid later (labels_next by labs L (width Ls)) Ls f.1)
 
   pub drawn-stood : (labs : Labs) (Ls : Net) → Full labs Ls → arcs_of_layers by.round.n (stood labs Ls) ≡ Ls
   drawn-stood labs [] f = refl

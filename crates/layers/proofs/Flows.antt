@@ -155,9 +155,9 @@ pub renumber-at : (fs : List Bool) (b : ℕ) → get_or fs b false ≡ true → 
 unfolding renumber
 renumber-at fs b e = rw e
 
-within : (us : List (Option Mark)) (a : ℕ) → get_or us a None ≡ Some tt → a < length us
-within [] a e = absurd (none-some tt e)
-within (u ∷ us) a e = grind (arith, e, within us)
+pub within : {A : Type 0} (us : List (Option A)) (a : ℕ) (x : A) → get_or us a None ≡ Some x → a < length us
+within [] a x e = absurd (none-some x e)
+within (u ∷ us) a x e = grind (arith, e, within us (a - 1) x)
 
 ups-length : (Ls : Net) → length (marks_up Ls) ≡ width Ls
 unfolding marks_up up
@@ -166,7 +166,7 @@ ups-length (L ∷ Ls) = length-map L (λ nd. gather {A = Mark} (λ x y. tt) (cli
 
 -- a node that leads to the end is within its layer
 pub ups-within : (Ls : Net) (b : ℕ) → get_or (marks_up Ls) b None ≡ Some tt → b < width Ls
-ups-within Ls b e = let h = within (marks_up Ls) b e in omega (arith, ups-length Ls)
+ups-within Ls b e = let h = within (marks_up Ls) b tt e in omega (arith, ups-length Ls)
 
 -- an arc from a marked node to one that leads to the end stays
 pub arc-stays : (fr : List (Option Mark)) (L : Layer) (Ls : Net) (a j b : ℕ) → get_or fr a None ≡ Some tt → target (node L a) j ≡ suc b → get_or (marks_up Ls) b None ≡ Some tt → let fr' = marks_next fr L (width Ls) in

@@ -14,7 +14,7 @@ use Rattle.layers.specs.Labels.{first_labels, labels_next, no_up, leg, ups, firs
 use Rattle.layers.specs.Records.{nodes_in, layers, arcs_in, arcs_of_layers, arcs_at, laid_arcs, arcs_read, record_of_place, labelled_from, labelled_records}
 use Rattle.layers.specs.Calls.{arcs, layer, records_with, bound, value_in}
 use Rattle.layers.specs.Shape.{targets_of, HasEnd, IsShaped, IsTimely}
-use Rattle.layers.proofs.Flows.{EvenLayer, Among, next-all, first-only}
+use Rattle.layers.proofs.Flows.{within, EvenLayer, Among, next-all, first-only}
 use Rattle.layers.proofs.Bridge.{ups-end, Full, top, stood, table-long}
 use Rattle.layers.proofs.Tidying.{tidied-same}
 use Rattle.layers.proofs.Tied.{tidied-tied}
@@ -151,17 +151,14 @@ counted-arc (nd ∷ L) h = ⊎_elim
     (cases_lt (count_doors nd) 1)
 
 -- ---- an arc to the end gives the end a label
-some-there : {A : Type 0} (xs : List A) (o : A → Option Up) (b : ℕ) (u : Up) → get_or (map o xs) b None ≡ Some u → 1 ≤ length xs
-some-there [] o b u e = absurd cc
-some-there (x ∷ xs) o b u e = omega arith
-
 module _ {S V : Type 0} (by : Setting S V) (w : 1 ≤ by.width) where
   end-stands : (labs : List (Option (Down S V))) (Ls : Net) (k : ℕ) → suc k ≡ length Ls → IsTied Ls → Full by w labs Ls → (a j b : ℕ) → target (node (get_or Ls k []) a) j ≡ suc b → length (get_or (stood by w labs Ls) (suc k) []) ≡ 1
   end-stands labs (L ∷ []) zero d t f a j b e =
       let z : b ≡ 0 = omega (arith, t a j b e) in
-      let lo = some-there (top by w (labels_next by labs L 1) []) (λ x. Some x.label.up) b no_up (f.0.tops a j b e ∙ ups-end b z) in
+      let E = top by w (labels_next by labs L 1) [] in
+      let lo = within (map (λ (x : Node S V). Some x.label.up) E) b no_up (f.0.tops a j b e ∙ ups-end b z) in
       let hi = standing-short (record_of_place by [] (labels_next by labs L 1) [] 0 ∷ []) in
-      omega arith
+      omega (arith, length-map E (λ (x : Node S V). Some x.label.up))
   end-stands labs (L ∷ M ∷ Ls) (suc k) d t f a j b e = end-stands (labels_next by labs L (length M)) (M ∷ Ls) k (omega arith) t.3 f.1 a j b e
   end-stands labs Ls k d t f a j b e = absurd (omega arith)
 

@@ -51,14 +51,9 @@ flags_of fr Ls zero = flags fr (marks_up Ls)
 flags_of fr [] (suc i) = []
 flags_of fr (L ∷ Ls) (suc i) = flags_of (marks_next fr L (width Ls)) Ls i
 
-compress-none : (fs : List Bool) → compress {A = List ℕ} fs [] ≡ []
-unfolding compress
-compress-none [] = refl
-compress-none (f ∷ fs) = refl
-
 tidy-at : (fr : List (Option Mark)) (Ls : Net) (i : ℕ) → layer_of (tidy fr Ls) i ≡ compress (flags_of fr Ls i) (redirect (λ a j b. renumber (flags_of fr Ls (suc i)) b) (layer_of Ls i))
-unfolding tidy redirect each_node
-tidy-at fr [] i = sym (compress-none (flags_of fr [] i))
+unfolding tidy redirect each_node compress
+tidy-at fr [] i = elim (flags_of fr [] i) as (λ fs. [] ≡ compress {A = Outs} fs []) [ [] ↦ refl | f ∷ fs ↦ refl ]
 tidy-at fr (L ∷ Ls) zero = refl
 tidy-at fr (L ∷ Ls) (suc i) = tidy-at (marks_next fr L (width Ls)) Ls i
 

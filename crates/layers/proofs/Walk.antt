@@ -330,12 +330,9 @@ module _ {S V : Type 0} {Keeps : List ℕ → Type 0} {Stands : S → List ℕ �
   abbrev Attained : V → List (Down S V) → Type 0
   Attained v l = (x : Down S V) × Among x l × (x.value ≡ v)
 
-  lesser-one : (a b : V) (l : List (Down S V)) → Attained a l → Attained b l → Attained (by.tally.lesser a b) l
-  lesser-one a b l p q = rw (tallied.lesser_is a b) (cond_both (by.tally.not_above a b) a b (λ v. Attained v l) (λ _. p) (λ _. q))
-
   value-gather : (l : List (Down S V)) (m : Down S V) → gather (merge by.rule by.tally) l ≡ Some m → Attained m.value l
   unfolding merge
-  value-gather l m = gather-all (merge by.rule by.tally) (λ x. Attained x.value l) (λ x y. lesser-one x.value y.value l) l m (λ x i. (x, i, refl))
+  value-gather l m = gather-all (merge by.rule by.tally) (λ x. Attained x.value l) (λ x y p q. rw (tallied.lesser_is x.value y.value) (cond_both (by.tally.not_above x.value y.value) x.value y.value (λ v. Attained v l) (λ _. p) (λ _. q))) l m (λ x i. (x, i, refl))
 
   -- ---- exact labels
   pub record Sound (p : List ℕ) : Type 0 where

@@ -262,12 +262,6 @@ module _ {S V : Type 0} {Keeps : List ℕ → Type 0} {Stands : S → List ℕ �
     keyed-more d K labs Ls t fit full k g = tt
 
     -- ---- refine
-    filled : (Ls : Net) → width Ls ≡ 1 → (a : ℕ) → a < width Ls → (l : Down S V) × (get_or (first_labels by.rule by.tally) a None ≡ Some l)
-    filled Ls e a h = let z : a ≡ 0 = omega arith in (first_label by.rule by.tally, rw z)
-
-    one_more : (P : ℕ → Type 0) (a : ℕ) → ((b : ℕ) → b < a → P b) → P a → (b : ℕ) → b < suc a → P b
-    one_more P a g e b h = elim (cases_eq b a) [ inl n ↦ rw n e | inr n ↦ g b (omega arith) ]
-
     module _ (later : List (Node S V)) where
       -- records of arcs that have keys up to layer d
       abbrev R : ℕ → List (Node S V) → Type 0
@@ -279,7 +273,7 @@ module _ {S V : Type 0} {Keeps : List ℕ → Type 0} {Stands : S → List ℕ �
         net = r.net;
         well = r.well;
         is = r.is;
-        holds = keyed-more d (λ a. first_label by.rule by.tally) (first_labels by.rule by.tally) r.net r.well.tied (fit-first by ruled) (filled r.net r.well.one_first) r.holds g;
+        holds = keyed-more d (λ a. first_label by.rule by.tally) (first_labels by.rule by.tally) r.net r.well.tied (fit-first by ruled) (λ a h. let z : a ≡ 0 = omega (arith, r.well.one_first) in (first_label by.rule by.tally, rw z)) r.holds g;
       }
 
       -- a layer is parted without being found full: k nodes more, from the one at place a on
@@ -291,7 +285,7 @@ module _ {S V : Type 0} {Keeps : List ℕ → Type 0} {Stands : S → List ℕ �
           let m = count-of by w later (KeyedTo by ruled d) xs r (suc d) d refl hi in
           let same = group-of by w later (KeyedTo by ruled d) xs r (suc d) (suc a) d a refl refl hi in
           cond_both (ltb (count_of by (suc d) xs) (suc a)) (false, xs) _ Done (λ x e. done d xs r (λ b h. g b (omega (arith, ltb-true (count_of by (suc d) xs) (suc a) x)))) (λ x.
-          cond_both (oneGroupIn by (suc d) (suc a) xs) _ _ Done (λ y. parted-keyed k d (suc a) xs (omega arith) hi r (one_more (λ b. one_group by d b (first_labels by.rule by.tally) r.net ≡ true) a g (sym same ∙ y))) (λ y.
+          cond_both (oneGroupIn by (suc d) (suc a) xs) _ _ Done (λ y. parted-keyed k d (suc a) xs (omega arith) hi r (λ b h. elim (cases_eq b a) [ inl n ↦ rw n (sym same ∙ y) | inr n ↦ g b (omega arith) ])) (λ y.
           cond_both (leb by.width (count_of by (suc d) xs)) (true, xs) _ Done (λ z e. absurd (true≢false e)) (λ z.
           let inn = ltb-false (count_of by (suc d) xs) (suc a) x in
           let q = reached-part by w later ruled.same_self (KeyedTo by ruled d) (suc d) (suc a) d a xs refl refl hi inn y (leb-false by.width (count_of by (suc d) xs) z) r (keyed-part by ruled d d a r.net r.well.tied r.holds) in
