@@ -90,12 +90,9 @@ module _ {S V : Type 0} (by : Setting S V) (w : 1 ≤ by.width) where
     pub lasting : Lasting labs
 
   filled-first : Filled (first_labels by.rule by.tally) 1
-  filled-first = record {
-    there = λ a h. let z : a ≡ 0 = omega arith in (first_label by.rule by.tally, rw z);
-    beyond = refl;
-    long = refl;
-    lasting = first-only (first_label by.rule by.tally) (λ a l. eqb l.lasts 0 ≡ false) refl;
-  }
+  filled-first =
+      let t : (a : ℕ) → a < 1 → (l : Down S V) × (get_or (first_labels by.rule by.tally) a None ≡ Some l) = λ a h. let z : a ≡ 0 = omega arith in (first_label by.rule by.tally, rw z) in
+      grind (arith, t, first-only (first_label by.rule by.tally) (λ a l. eqb l.lasts 0 ≡ false) refl)
 
   lasting-next : (labs : Labs) (L : Layer) (count : ℕ) → Lasting (labels_next by labs L count)
   unfolding labels_next arrival_over merge
@@ -104,12 +101,10 @@ module _ {S V : Type 0} (by : Setting S V) (w : 1 ≤ by.width) where
       ne_eqb l.lasts 0 (λ z. none_has q.0 (rw (← z) q.1))
 
   filled_next : (labs : Labs) (L M : Layer) (Ls : Net) → IsTied (L ∷ M ∷ Ls) → Filled labs (length L) → Filled (labels_next by labs L (length M)) (length M)
-  filled_next labs L M Ls t f = record {
-    there = labels_full by w labs L M Ls t f.there;
-    beyond = unfold labels_next next in table-end (length M) (λ b. gather (merge by.rule by.tally) (arrivals_at (arrival_over by) b labs L));
-    long = unfold labels_next next in table-long (length M) (λ b. gather (merge by.rule by.tally) (arrivals_at (arrival_over by) b labs L));
-    lasting = lasting-next labs L (length M);
-  }
+  unfolding labels_next next
+  filled_next labs L M Ls t f =
+      let g : ℕ → Option (Down S V) = λ b. gather (merge by.rule by.tally) (arrivals_at (arrival_over by) b labs L) in
+      grind (arith, labels_full by w labs L M Ls t f.there, table-end (length M) g, table-long (length M) g, lasting-next labs L (length M))
 
   -- ---- the nodes that stand, by layers
   abbrev pub top : Labs → Net → List (Node S V)

@@ -117,13 +117,9 @@ long-if (u ∷ us) h = (h.0, long-if us h.1)
 -- ---- the arcs of records of that shape
 module _ {S V : Type 0} (r : Round) (W : ℕ) (xs : List (Node S V)) where
   pub shaped-proper : IsShaped r.n W xs → IsLawful r.n W (arcs r.n W xs)
-  shaped-proper s = record {
-    deep = drawn-deep r.n W r.n xs;
-    one_first = s.first;
-    even = drawn-even r.n W r.n xs r.most (long-if (take (r.n * W + 1) xs) (rw s.written (laid-sixteen W (arcs r.n W xs))));
-    roomy = drawn-roomy r.n W r.n xs;
-    tied = rw (← s.tidy) (tidied-tied (arcs r.n W xs));
-  }
+  shaped-proper s =
+      let e = drawn-even r.n W r.n xs r.most (long-if (take (r.n * W + 1) xs) (rw s.written (laid-sixteen W (arcs r.n W xs)))) in
+      grind (arith, s, e, drawn-deep r.n W r.n xs, drawn-roomy r.n W r.n xs, tidied-tied (arcs r.n W xs))
 
 -- ---- an arc counts
 doors-count : (ts : Outs) (k b : ℕ) → get_or ts k 0 ≡ suc b → 1 ≤ count_doors ts
@@ -191,12 +187,9 @@ module _ {S V : Type 0} (by : Setting S V) (w : 1 ≤ by.width) (xs : List (Node
 
   pub relaid-shaped : IsShaped by.round.n by.width (records_with by xs Ls)
   unfolding records_with
-  relaid-shaped = record {
-    written = ap targets_of (written by w (drop (by.round.n * by.width + 1) xs) Ls p);
-    tidy = ap tidied_arcs arcs-relaid ∙ tidied-same Ls p.one_first p.tied ∙ sym arcs-relaid;
-    first = ap width arcs-relaid ∙ p.one_first;
-    ended = ended';
-  }
+  relaid-shaped =
+      let x = ap targets_of (written by w (drop (by.round.n * by.width + 1) xs) Ls p) in
+      grind (arith, arcs-relaid, x, tidied-same Ls p.one_first p.tied, p, ended')
 
 -- ---- lists
 take_past : {A : Type 0} (m k : ℕ) (f : ℕ → A) (xs : List A) → take (m + k) (table m f ++ xs) ≡ table m f ++ take k xs

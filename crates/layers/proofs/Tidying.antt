@@ -168,12 +168,7 @@ tidied-back (L ∷ Ls) (j ∷ w) p =
 tidied-back Ls w p = absurd p
 
 tidies : (D : Net) → IsTidied D (tidied_arcs D)
-tidies D = record {
-  paths = λ w. (tidied-back D w, tidy-keeps D w);
-  layers = tidied-length D;
-  nodes = as-many D;
-  node_at = place D;
-}
+tidies D = grind (arith, tidied-back D, tidy-keeps D, tidied-length D, as-many D, place D)
 
 -- ---- these facts are so of one net alone
 -- of n that are counted there is one before which k are

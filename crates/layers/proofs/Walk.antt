@@ -58,10 +58,7 @@ pub at_back : (k : ℕ) → Longer k (λ w. w ++ (k ∷ []))
 at_back k = record { here = λ w. last-in w k k (inr refl); stays = λ j w i. last-in w j k (inl i); only = λ j w i. in-last w j k i }
 
 pub tells-step : (a s k : ℕ) (more : List ℕ → List ℕ) (w : List ℕ) → Longer k more → Tells a s w → Tells (bit_or a (bit_of k)) (bit_or s (bit_of k)) (more w)
-tells-step a s k more w l t = record {
-  all_in = λ j h. elim (or_split a (bit_of k) j h) [ inl x ↦ l.stays j w (t.all_in j x) | inr x ↦ rw (one_only k j x) (l.here w) ];
-  in_some = λ j i. elim (l.only j w i) [ inl x ↦ or_left s (bit_of k) j (t.in_some j x) | inr e ↦ or_right s (bit_of k) j (rw e (one-self k)) ];
-}
+tells-step a s k more w l t = grind (arith, l, t, or_split, or_left, or_right, one_only, one-self)
 
 pub tells-left : (a s a' s' : ℕ) (w : List ℕ) → Tells a s w → Tells (bit_and a a') (bit_or s s') w
 tells-left a s a' s' w t = record { all_in = λ j h. t.all_in j (and_left a a' j h); in_some = λ j i. or_left s s' j (t.in_some j i) }
@@ -233,14 +230,10 @@ module _ {S V : Type 0} {Keeps : List ℕ → Type 0} {Stands : S → List ℕ �
   -- an allowed order, not yet under way
   pub setting-out : (w : List ℕ) (Ls : Net) → IsAllowed by.round Keeps w → IsEven by.round.n Ls → PathFrom Ls 0 w → OnWay (first_labels by.rule by.tally) Ls 0 [] w
   unfolding At
-  setting-out w Ls o even q = record {
-    going = record { part = o.part; keeps = o.keeps; timely = timely-from by.round [] w o.timely; total = omega (arith, o.whole) };
-    told = told_none by ruled tallied;
-    fits = (first_label by.rule by.tally, refl, record { part = tt; sets = record { all_in = λ j h. absurd (none_has j h); in_some = λ j i. absurd i }; finish = omega arith; lasts = refl; state = ruled.start_stands; value = tallied.order_self by.tally.start });
-    good = good-first by ruled tallied;
-    even = even;
-    path = q;
-  }
+  setting-out w Ls o even q =
+      let f : Fits by ruled tallied (first_label by.rule by.tally) [] = record { part = tt; sets = record { all_in = λ j h. absurd (none_has j h); in_some = λ j i. absurd i }; finish = omega arith; lasts = refl; state = ruled.start_stands; value = tallied.order_self by.tally.start } in
+      let a : At by ruled tallied (first_labels by.rule by.tally) 0 [] = (first_label by.rule by.tally, refl, f) in
+      grind (arith, a, o, even, q, timely-from by.round [] w o.timely, told_none by ruled tallied, good-first by ruled tallied)
 
   pub sweep-keeps : (w : List ℕ) (Ls : Net) → IsAllowed by.round Keeps w → IsEven by.round.n Ls → PathFrom Ls 0 w → PathFrom (sweep by Ls) 0 w
   unfolding sweep
