@@ -1,7 +1,8 @@
 -- A label on the way agrees with the beginning that leads to it, so no arc of an allowed order is swept or cut; and while settled answers yes, the labels are exact.
 use Rattle.std.proofs.Common.{◌≡◌, ℕ, zero, suc, ◌+◌, ◌-◌, ◌<◌, ◌≤◌, Bool, true, false, cond, ◌⊎◌, List, [], ◌∷◌, ◌++◌, length, get_or, Some, None, Option, sym, refl, ap, ◌∙◌, subst, inl, inr, arith, not, fold, append-nil}
 use lib.Bits.{bit_and, bit_or, and_self, or_self}
-use Rattle.std.proofs.lemmas.Bool.{ne_eqb, true≢false, not-true, and_parts, cond_both}
+use lib.Count.{ones}
+use Rattle.std.proofs.lemmas.Bool.{le-ltb, ne_eqb, false_from_ne_true, true≢false, not-true, and_parts, cond_both}
 use Rattle.doors.proofs.Orders.{in-last, last-in, part-next, next-part, each_none, each_more}
 use Rattle.doors.specs.Orders.{IsDoor, StandsIn, IsPartOrder}
 use Rattle.doors.specs.Sets.{has}
@@ -179,7 +180,13 @@ module _ {S V : Type 0} {Keeps : List ℕ → Type 0} {Stands : S → List ℕ �
       let keeps = ruled.keeps_front (p ++ (j ∷ [])) w (rw (snoc-assoc p w j) g.part) (rw (snoc-assoc p w j) g.keeps) in
       let x = ones_in by.round.n (bit_or l.some (bit_of j)) (p ++ (j ∷ [])) a.part a.sets.in_some in
       let y = ones_in by.round.n (bit_or u.someup (bit_of j)) (j ∷ w) tail (tells-step u.allup u.someup j (λ w. j ∷ w) w (at_front j) fu).in_some in
-      grind (arith, nat_tests, facts, f, fu, a, closing, tail, c, keeps, x, y, length-snoc p j)
+      let has_not = false_from_ne_true (has l.all j) (λ h. facts.1 (f.sets.all_in j h)) in
+      let enough = le-ltb (ones (bit_or l.some (bit_of j))) (suc (length p)) (rw (← (length-snoc p j)) x) in
+      let in_time = le-ltb (door by.round j).closes (finish by.round l.finish (leg by.round l.lasts j) j) (omega (arith, a.finish, closing)) in
+      let unbarred = false_from_ne_true (by.rule.bars l.state j) (λ h. c h keeps) in
+      let not_up = false_from_ne_true (has u.allup j) (λ h. tail.1 (fu.all_in j h)) in
+      let enough_up = le-ltb (ones (bit_or u.someup (bit_of j))) (suc (length w)) y in
+      rw (has_not, enough, in_time, unbarred, not_up, enough_up)
     where
       closing : (trip_after by.round by.tally (p ++ (j ∷ []))).van.finish ≤ (door by.round j).closes
       closing = rw (← (sym (van-snoc by.round p j) ∙ sym (trip-van by.round by.tally (p ++ (j ∷ []))))) g.timely.0
