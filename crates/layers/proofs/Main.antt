@@ -419,8 +419,16 @@ module _ {S V : Type 0} {Keeps : List ℕ → Type 0} {Stands : S → List ℕ �
         λ w q. let y = tells_at by ruled w1 D p.tied i h a w q in let e : y.0 ≡ s.label = cc (y.1, s.labelled) in rw (← e) y.2 in
         let g : Allows i s.label.value × (s.label.finish ≤ latest_finish i) = unfold Good in good-at by ruled w1 D tallied (omega (arith, p.deep, by.round.most)) p.even i h a s.label s.labelled in
         let u = up-exact (drop i D) a in
-        let v : 1 ≤ i → (w : List ℕ) × PathFrom (drop i D) a w = λ lo. leads-at D i a p.tied lo h s.inner in
-        grind (arith, s, o, v, u, g, all-exact s.label.all s.label.some (LeadsTo D i a) o t, some-exact s.label.all s.label.some (LeadsTo D i a) o t)
+        record {
+          reached = o.way;
+          leads = λ lo. leads-at D i a p.tied lo h s.inner;
+          all = rw s.down (all-exact s.label.all s.label.some (LeadsTo D i a) o t);
+          some = rw s.down (some-exact s.label.all s.label.some (LeadsTo D i a) o t);
+          allup = rw s.up u.0;
+          someup = rw s.up u.1;
+          finish = rw s.down g.1;
+          value = rw s.down g.0;
+        }
 
     -- on the records
     labelled-X : (later : List (Node S V)) (D : Net) → IsLawful by.round.n by.width D → (i a : ℕ) (other : Node S V) → i ≤ by.round.n

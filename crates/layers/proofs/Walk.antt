@@ -215,10 +215,14 @@ module _ {S V : Type 0} {Keeps : List ℕ → Type 0} {Stands : S → List ℕ �
       let f = way-fits labs L Ls a j p w o in
       let s = p ++ (j ∷ []) in
       let q = next-at {A = Down S V} (merge by.rule by.tally) (λ l. Fits by ruled tallied l s) (less-left by ruled tallied s) (less-right by ruled tallied s)
-      (arrival_over by) labs L (width Ls) a j o.path.0 f.0 o.path.1 f.1 (inside Ls o.path.0 w o.path.2) f.3 in
-      let e = length-snoc p j in
-      let g = good-next by ruled tallied (length p) labs L (width Ls) facts.2 o.good o.even.0 in
-      grind (arith, e, q, o, g, going_next by ruled tallied p w j o.going, told-next by ruled tallied p j o.told facts.0 facts.2 facts.1)
+      (arrival_over by) labs L (width Ls) a j o.path.0 f.0 o.path.1 f.1 (inside Ls o.path.0 w o.path.2) f.3 in record {
+        going = going_next by ruled tallied p w j o.going;
+        told = told-next by ruled tallied p j o.told facts.0 facts.2 facts.1;
+        fits = q;
+        good = rw (length-snoc p j) (good-next by ruled tallied (length p) labs L (width Ls) facts.2 o.good o.even.0);
+        even = o.even.1;
+        path = o.path.2;
+      }
 
   -- a filter that takes out none of its arcs keeps the order
   pub filter-keeps : (goes : ℕ → ℕ → ℕ → Option (Down S V) → Option Up → Bool) (Q : List ℕ → Type 0)
