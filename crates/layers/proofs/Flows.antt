@@ -42,7 +42,8 @@ each_node-get : (f : ℕ → ℕ → ℕ → ℕ) (c : ℕ) (L : Layer) (a m j :
 unfolding each_node
 each_node-get f c L a m zero h = refl
 each_node-get f c [] a m (suc k) h = refl
-each_node-get f c (nd ∷ L) a m (suc k) h = grind (arith, h, each_door-get (f c) 1 nd k (suc k), each_node-get f (suc c) L (a - 1) m (suc k))
+each_node-get f c (nd ∷ L) zero m (suc k) h = each_door-get (f c) 1 nd k (suc k) (omega arith) ∙ ap (λ (x : ℕ). at_door (f x) (suc k) (get_or nd k 0)) (omega arith)
+each_node-get f c (nd ∷ L) (suc a) m (suc k) h = each_node-get f (suc c) L a m (suc k) (omega arith)
 
 pub redirect-get : (f : ℕ → ℕ → ℕ → ℕ) (L : Layer) (a j : ℕ) → target (node (redirect f L) a) j ≡ at_door (f a) j (target (node L a) j)
 unfolding redirect
@@ -74,7 +75,8 @@ module _ {A : Type 0} (arrival_over : A → ℕ → A) (merge : A → A → A) w
   ins_door-in : (b : ℕ) (l : A) (j : ℕ) (ts : Outs) (k m : ℕ) → j + k ≡ m → get_or ts k 0 ≡ suc b → Among (arrival_over l m) (arrivals_by_door arrival_over b l j ts)
   unfolding arrivals_by_door
   ins_door-in b l j [] k m h e = absurd (omega arith)
-  ins_door-in b l j (t ∷ ts) k m h e = grind (arith, nat_tests, e, h, ins_door-in b l (suc j) ts (k - 1) m)
+  ins_door-in b l j (t ∷ ts) zero m h e = let z : m ≡ j = omega arith in grind (arith, nat_tests, e, z)
+  ins_door-in b l j (t ∷ ts) (suc k) m h e = grind (arith, ins_door-in b l (suc j) ts k m (omega arith) e)
 
   pub ins-in : (b : ℕ) (labs : List (Option A)) (L : Layer) (a j : ℕ) (l : A) → target (node L a) j ≡ suc b → get_or labs a None ≡ Some l → Among (arrival_over l j) (arrivals_at arrival_over b labs L)
   unfolding arrivals_at
@@ -113,7 +115,8 @@ module _ {A : Type 0} (merge : A → A → A) (P : A → Type 0) (left : (x y : 
   outs-in : (climb : A → ℕ → A) (us : List (Option A)) (u : A) (j : ℕ) (ts : Outs) (k m b : ℕ) → j + k ≡ m → get_or ts k 0 ≡ suc b → get_or us b None ≡ Some u → Among (climb u m) (climbs_of climb us j ts)
   unfolding climbs_of
   outs-in climb us u j [] k m b h e g = absurd (omega arith)
-  outs-in climb us u j (t ∷ ts) k m b h e g = grind (arith, e, g, h, outs-in climb us u (suc j) ts (k - 1) m b)
+  outs-in climb us u j (t ∷ ts) zero m b h e g = let y : m ≡ j = omega arith in grind (arith, e, g, y)
+  outs-in climb us u j (t ∷ ts) (suc k) m b h e g = grind (arith, outs-in climb us u (suc j) ts k m b (omega arith) e g)
 
   pub up_at : (climb : A → ℕ → A) (top : A) (L : Layer) (Ls : Net) (a j b : ℕ) (u : A) → target (node L a) j ≡ suc b → get_or (up climb merge top Ls) b None ≡ Some u
       → P (climb u j) → (m : A) × (get_or (up climb merge top (L ∷ Ls)) a None ≡ Some m) × P m

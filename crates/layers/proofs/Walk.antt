@@ -13,7 +13,7 @@ use Rattle.rules.specs.Rules.{RuleLaws, state_of}
 use Rattle.tallies.specs.Tallies.{TallyLaws}
 use Rattle.orders.proofs.Times.{trip-van}
 use Rattle.orders.specs.Allowed.{IsAllowed}
-use Rattle.orders.specs.Costs.{cost, next_trip, trip_after}
+use Rattle.orders.specs.Costs.{Trip, cost, next_trip, trip_after}
 use Rattle.orders.specs.Times.{van_after, finish_of, KeepsHours}
 use Rattle.layers.specs.Lawful.{IsEven}
 use Rattle.layers.specs.declared.node.Up.{Up}
@@ -123,9 +123,16 @@ module _ {S V : Type 0} {Keeps : List ℕ → Type 0} {Stands : S → List ℕ �
       let dl = by.round.legs (trip_after by.round by.tally p).van.last j in
       let early = (clock-laws by.round).later l.finish (trip_after by.round by.tally p).van.finish (leg by.round l.lasts j) (drive by.round (trip_after by.round by.tally p).van.last j) j f.finish g in
       let s = (clock-laws by.round).bound (length p) (trip_after by.round by.tally p).van.finish (drive by.round (trip_after by.round by.tally p).van.last j) j t.soon dl in
-      let a = tallied.step_rises (length p) l.value (cost by.round by.tally p) j (leg by.round l.lasts j) (drive by.round (trip_after by.round by.tally p).van.last j) (finish by.round l.finish (leg by.round l.lasts j) j) (next_trip by.round by.tally (trip_after by.round by.tally p) j).van.finish
-      k d g dl early (within (length p) _ k s) fine t.fine f.value in
-      grind (arith, e, a, early, told-next p j t d k n, tells-step l.all l.some j (λ p. p ++ (j ∷ [])) p (at_back j) f.sets, one-self j, ruled.step_stands l.state p j (record { part = t.part; door = d; new = n }) f.state)
+      record {
+        part = (told-next p j t d k n).part;
+        sets = tells-step l.all l.some j (λ p. p ++ (j ∷ [])) p (at_back j) f.sets;
+        finish = rw e early;
+        lasts = rw e (one-self j);
+        state = ruled.step_stands l.state p j (record { part = t.part; door = d; new = n }) f.state;
+        value = subst (λ (z : Trip V). by.tally.not_above (by.tally.step l.value j (leg by.round l.lasts j) (finish by.round l.finish (leg by.round l.lasts j) j)) z.cost ≡ true) (sym e)
+            (tallied.step_rises (length p) l.value (cost by.round by.tally p) j (leg by.round l.lasts j) (drive by.round (trip_after by.round by.tally p).van.last j) (finish by.round l.finish (leg by.round l.lasts j) j) (next_trip by.round by.tally (trip_after by.round by.tally p) j).van.finish
+            k d g dl early (within (length p) _ k s) fine t.fine f.value);
+      }
 
   -- ---- every label's value is one that the tally allows
   unfoldable pub Good : ℕ → List (Option (Down S V)) → Type 0
