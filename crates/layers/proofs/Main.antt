@@ -8,7 +8,7 @@ use Rattle.orders.specs.Allowed.{IsAllowed}
 use Rattle.orders.specs.Costs.{cost, next_trip, trip_after}
 use Rattle.layers.specs.Lawful.{IsEven, IsLawful, IsTied}
 use Rattle.layers.specs.declared.node.Node.{Node}
-use Rattle.layers.specs.Net.{Layer, Net, PathFrom, has_path_with, table, target, width, Outs, node, still_sought, is_nil, any_door}
+use Rattle.layers.specs.Net.{Layer, Net, PathFrom, has_path_with, table, target, width, Outs, node, still_sought, any_door}
 use Rattle.layers.specs.declared.call.Call.{Call}
 use Rattle.layers.specs.Calls.{arcs, after_open, after_calls, records_with, bound, must, is_settled, EachCut, layer}
 use Rattle.layers.specs.Claim.{MustMeans, NothingLost, NothingFalse, ClaimAlwaysHolds, LabelsStand, SettledMeans, StandsAhead}

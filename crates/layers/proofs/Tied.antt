@@ -1,15 +1,12 @@
 -- After tidying, every node lies on a path.
 use Rattle.std.proofs.Common.{◌≡◌, ℕ, zero, suc, ◌<◌, Bool, true, false, List, [], ◌∷◌, length, get_or, Some, None, Option, sym, refl, ap, ◌∙◌, le_of_suc-le-suc, not-suc-le-zero, arith, cond}
-use lib.ListN.{length-map}
 use Rattle.std.proofs.lemmas.Bool.{false≢true}
-use Rattle.std.proofs.lemmas.Option.{none-some}
 use Rattle.std.proofs.lemmas.List.{ext_get_or}
 use Rattle.layers.specs.Net.{Outs, Layer, Net, node, target, width, each_door, each_node, redirect}
-use Rattle.layers.specs.Flow.{gather, climbs_of, up}
 use Rattle.layers.specs.Tidy.{Mark, marks_next, marks_up, flags, rank, compress, renumber, tidy, tidied_arcs}
 use Rattle.layers.specs.Lawful.{IsRanged, IsLed, IsTied}
 use Rattle.layers.specs.Targets.{at_door}
-use Rattle.layers.proofs.Flows.{ups-within, arc-stays, next-all, up-all, redirect-get, redirect-arc, has-arc, up_at, mark-next, flags-at, compress-at, renumber-at, rank-zero}
+use Rattle.layers.proofs.Flows.{ups-within, arc-stays, next-all, up-all, redirect-get, has-arc, up_at, flags-at, compress-at, rank-zero}
 
 -- ---- redirecting, backwards
 pub redirect-back : (f : ℕ → ℕ → ℕ → ℕ) (L : Layer) (a j c : ℕ) → target (node (redirect f L) a) j ≡ suc c → (b : ℕ) × (target (node L a) j ≡ suc b) × (f a j b ≡ suc c)

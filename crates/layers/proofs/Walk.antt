@@ -1,8 +1,8 @@
 -- A label on the way agrees with the beginning that leads to it, so no arc of an allowed order is swept or cut; and while settled answers yes, the labels are exact.
-use Rattle.std.proofs.Common.{◌≡◌, ℕ, zero, suc, ◌+◌, ◌-◌, ◌<◌, ◌≤◌, Bool, true, false, cond, ◌⊎◌, List, [], ◌∷◌, ◌++◌, length, get_or, Some, None, Option, sym, refl, ap, ◌∙◌, subst, inl, inr, arith, not, fold, append-nil}
+use Rattle.std.proofs.Common.{◌≡◌, ℕ, zero, suc, ◌+◌, ◌-◌, ◌<◌, ◌≤◌, Bool, true, false, cond, ◌⊎◌, List, [], ◌∷◌, ◌++◌, length, get_or, Some, None, Option, sym, refl, ap, ◌∙◌, subst, inl, inr, arith, not, append-nil}
 use lib.Bits.{bit_and, bit_or, and_self, or_self}
 use lib.Count.{ones}
-use Rattle.std.proofs.lemmas.Bool.{le-ltb, ne_eqb, false_from_ne_true, true≢false, not-true, and_parts, cond_both}
+use Rattle.std.proofs.lemmas.Bool.{le-ltb, ne_eqb, false_from_ne_true, true≢false, and_parts, cond_both}
 use Rattle.doors.proofs.Orders.{in-last, last-in, part-next, next-part, each_none, each_more}
 use Rattle.doors.specs.Orders.{IsDoor, StandsIn, IsPartOrder}
 use Rattle.doors.specs.Sets.{has}
