@@ -1,5 +1,5 @@
 -- What stands in records that were laid: their arcs can be read back, and the labels that stand are those worked out from the arcs.
-use Rattle.std.proofs.Common.{◌≡◌, ℕ, zero, suc, ◌+◌, ◌*◌, ◌<◌, ◌≤◌, Bool, true, false, cond, not, ◌&&◌, eqb, List, [], ◌∷◌, ◌++◌, map, length, get_or, take, drop, Some, None, Option, sym, refl, ap, ◌∙◌, ap₂, append_assoc, le_of_suc-le-suc, not-suc-le-zero, suc-mul, zero-mul, arith, length-append}
+use Rattle.std.proofs.Common.{◌≡◌, ℕ, zero, suc, ◌+◌, ◌*◌, ◌<◌, ◌≤◌, Bool, true, false, cond, eqb, List, [], ◌∷◌, ◌++◌, map, length, get_or, take, drop, Some, None, Option, sym, refl, ap, ◌∙◌, ap₂, append_assoc, le_of_suc-le-suc, not-suc-le-zero, suc-mul, zero-mul, arith, length-append}
 use Rattle.std.proofs.lemmas.Bool.{ne_eqb}
 use Rattle.std.proofs.lemmas.List.{drop_at, take_at}
 use Rattle.doors.specs.Sets.{has}
@@ -10,8 +10,8 @@ use Rattle.layers.specs.Flow.{arrivals_at, gather, next, up, end_label}
 use Rattle.layers.specs.Lawful.{IsLed, IsTied, IsRoomy}
 use Rattle.layers.specs.Labels.{first_label, first_labels, arrival_over, merge, labels_next, no_up, ups, climb, merge_up}
 use Rattle.layers.specs.Records.{is_used, nodes_in, layers, arcs_in, downs_in, ups_in, arcs_of_layers, padded_targets, record_of_place, labelled_from, labelled_records}
-use Rattle.layers.specs.Calls.{places_agree, in_arcs_agree, value_in, labels_in, LayerLabels, kept_arcs}
-use Rattle.layers.proofs.Flows.{ins-from, next-some, next-at, gather-all, table_at, has-arc, up_at}
+use Rattle.layers.specs.Calls.{in_arcs_agree, value_in, labels_in, LayerLabels, kept_arcs}
+use Rattle.layers.proofs.Flows.{first-only, next-all, next-at, table_at, has-arc, up_at}
 use Rattle.layers.proofs.Ways.{or_left, one-self, none_has}
 use Rattle.layers.proofs.Model.{kept, agrees, valueO, or_blank, or_no_up, labels_at}
 use Rattle.layers.proofs.Tied.{redirect-cong}
@@ -28,21 +28,18 @@ module _ {S V : Type 0} (by : Setting S V) (w : 1 ≤ by.width) where
   labels_full labs L M Ls t f b h =
       let s = t.1 b h in
       let l = f s.0 (has-arc L s.0 s.1 b s.2) in
-      let n = next-at {A = Down S V} (merge by.rule by.tally) (λ x y. Unit {0}) (λ x. tt) (λ x y z f g. tt) (λ x y. tt) (λ x y. tt) (arrival_over by) labs L (length M) s.0 s.1 b l.0 s.2 l.1 h in
-      (n.0, n.1)
+      let n = next-at {A = Down S V} (merge by.rule by.tally) (λ x. Unit {0}) (λ x y p. tt) (λ x y p. tt) (arrival_over by) labs L (length M) s.0 s.1 b l.0 s.2 l.1 h tt in (n.0, n.1)
 
 pub ups-full : (M : Layer) (Ls : Net) → IsLed M → IsTied (M ∷ Ls) → (a : ℕ) → a < length M → (u : Up) × (get_or (ups (M ∷ Ls)) a None ≡ Some u)
 unfolding ups
 ups-full M [] led t a h =
     let s = led a h in
     let z : s.1 ≡ 0 = omega (arith, t a s.0 s.1 s.2) in
-    let q = up_at {A = Up} merge_up (λ x y. Unit {0}) (λ x. tt) (λ x y z f g. tt) (λ x y. tt) (λ x y. tt) climb no_up M [] a s.0 s.1 no_up s.2 (unfold up in ap (λ (k : ℕ). get_or {A = Option Up} (Some no_up ∷ []) k None) z) in
-    (q.0, q.1)
+    let q = up_at {A = Up} merge_up (λ x. Unit {0}) (λ x y p. tt) (λ x y p. tt) climb no_up M [] a s.0 s.1 no_up s.2 (unfold up in ap (λ (k : ℕ). get_or {A = Option Up} (Some no_up ∷ []) k None) z) tt in (q.0, q.1)
 ups-full M (N ∷ Ls) led t a h =
     let s = led a h in
     let x = ups-full N Ls t.2 t.3 s.1 (t.0 a s.0 s.1 s.2) in
-    let q = up_at {A = Up} merge_up (λ x y. Unit {0}) (λ x. tt) (λ x y z f g. tt) (λ x y. tt) (λ x y. tt) climb no_up M (N ∷ Ls) a s.0 s.1 x.0 s.2 x.1 in
-    (q.0, q.1)
+    let q = up_at {A = Up} merge_up (λ x. Unit {0}) (λ x y p. tt) (λ x y p. tt) climb no_up M (N ∷ Ls) a s.0 s.1 x.0 s.2 x.1 tt in (q.0, q.1)
 
 -- ---- tables
 pub map-table : {A B : Type 0} (f : A → B) (m : ℕ) (g : ℕ → A) → map f (table m g) ≡ table m (λ k. f (g k))
@@ -63,10 +60,8 @@ table-end (suc m) f = table-end m (λ k. f (suc k))
 
 pad-back : (n m : ℕ) (nd : Outs) → length nd ≡ n → n ≤ m → take n (table m (λ k. get_or nd k 0)) ≡ nd
 pad-back zero m [] e h = refl
-pad-back zero m (t ∷ nd) e h = absurd (omega arith)
-pad-back (suc n) m [] e h = absurd (omega arith)
-pad-back (suc n) zero (t ∷ nd) e h = absurd (not-suc-le-zero h)
 pad-back (suc n) (suc m) (t ∷ nd) e h = ap (λ (x : Outs). t ∷ x) (pad-back n m nd (omega arith) (le_of_suc-le-suc h))
+pad-back n m nd e h = absurd (omega arith)
 
 pub ups-end : (b : ℕ) → b ≡ 0 → get_or (ups []) b None ≡ Some no_up
 unfolding ups up
@@ -94,36 +89,22 @@ module _ {S V : Type 0} (by : Setting S V) (w : 1 ≤ by.width) where
     pub long : length labs ≡ m
     pub lasting : Lasting labs
 
-  lasting-if : (m j : ℕ) → has m j ≡ true → eqb m 0 ≡ false
-  lasting-if m j h = ne_eqb m 0 (λ e. none_has j (rw (← e) h))
-
   filled-first : Filled (first_labels by.rule by.tally) 1
-  filled-first = record {
-    there = λ a h. let z : a ≡ 0 = omega arith in (first_label by.rule by.tally, rw z);
-    beyond = refl;
-    long = refl;
-    lasting = once;
-  }
-    where
-      once : (a : ℕ) (l : Down S V) → get_or (first_labels by.rule by.tally) a None ≡ Some l → eqb l.lasts 0 ≡ false
-      once zero l e = let x : first_label by.rule by.tally ≡ l = cc in rw (← x) refl
-      once (suc a) l e = absurd cc
+  filled-first =
+      let t : (a : ℕ) → a < 1 → (l : Down S V) × (get_or (first_labels by.rule by.tally) a None ≡ Some l) = λ a h. let z : a ≡ 0 = omega arith in (first_label by.rule by.tally, rw z) in
+      grind (arith, t, first-only (first_label by.rule by.tally) (λ a l. eqb l.lasts 0 ≡ false) refl)
 
   lasting-next : (labs : Labs) (L : Layer) (count : ℕ) → Lasting (labels_next by labs L count)
   unfolding labels_next arrival_over merge
   lasting-next labs L count a l e =
-      let q = gather-all (merge by.rule by.tally) (λ x. (j : ℕ) × (has x.lasts j ≡ true)) (λ x y p q. (p.0, or_left x.lasts y.lasts p.0 p.1)) (arrivals_at (arrival_over by) a labs L) l
-      (λ x i. let f = ins-from (arrival_over by) a labs L x i in (f.door, ap (λ (z : Down S V). has z.lasts f.door) f.is ∙ one-self f.door))
-      (next-some (arrival_over by) (merge by.rule by.tally) labs L count a l e) in
-      lasting-if l.lasts q.0 q.1
+      let q = next-all (arrival_over by) (merge by.rule by.tally) labs L count a l (λ x. (j : ℕ) × (has x.lasts j ≡ true)) (λ x y p q. (p.0, or_left x.lasts y.lasts p.0 p.1)) (λ s j l f g. (j, one-self j)) e in
+      ne_eqb l.lasts 0 (λ z. none_has q.0 (rw (← z) q.1))
 
   filled_next : (labs : Labs) (L M : Layer) (Ls : Net) → IsTied (L ∷ M ∷ Ls) → Filled labs (length L) → Filled (labels_next by labs L (length M)) (length M)
-  filled_next labs L M Ls t f = record {
-    there = labels_full by w labs L M Ls t f.there;
-    beyond = unfold labels_next next in table-end (length M) (λ b. gather (merge by.rule by.tally) (arrivals_at (arrival_over by) b labs L));
-    long = unfold labels_next next in table-long (length M) (λ b. gather (merge by.rule by.tally) (arrivals_at (arrival_over by) b labs L));
-    lasting = lasting-next labs L (length M);
-  }
+  unfolding labels_next next
+  filled_next labs L M Ls t f =
+      let g : ℕ → Option (Down S V) = λ b. gather (merge by.rule by.tally) (arrivals_at (arrival_over by) b labs L) in
+      grind (arith, labels_full by w labs L M Ls t f.there, table-end (length M) g, table-long (length M) g, lasting-next labs L (length M))
 
   -- ---- the nodes that stand, by layers
   abbrev pub top : Labs → Net → List (Node S V)
@@ -162,26 +143,22 @@ module _ {S V : Type 0} (by : Setting S V) (w : 1 ≤ by.width) where
 
   -- the end's node
   pub end-top : (labs : Labs) (l : Down S V) → get_or labs 0 None ≡ Some l → eqb l.lasts 0 ≡ false → top labs [] ≡ record { arcs = record { to = padded_targets [] }; label = record { down = l; up = no_up } } ∷ []
-  end-top labs l e q =
-      let P : Option (Down S V) → Node S V = λ o. record { arcs = record { to = padded_targets [] }; label = record { down = or_blank by.rule by.tally o; up = no_up } } in
-      rw e (ap (λ (z : Bool). cond (not z) (P (Some l) ∷ []) []) q)
+  end-top labs l e q = grind (arith, e, q)
 
   tops-end : (labs : Labs) (L : Layer) → Filled labs (length L) → IsTied (L ∷ []) → (a j b : ℕ) → target (node L a) j ≡ suc b → get_or (ups_in (top (labels_next by labs L 1) [])) b None ≡ get_or (ups []) b None
   unfolding labels_next
   tops-end labs L f t a j b e =
       let z : b ≡ 0 = omega (arith, t a j b e) in
       let l = f.there a (has-arc L a j b e) in
-      let n = next-at {A = Down S V} (merge by.rule by.tally) (λ x y. Unit {0}) (λ x. tt) (λ x y z f g. tt) (λ x y. tt) (λ x y. tt) (arrival_over by) labs L 1 a j b l.0 e l.1 (t a j b e) in
+      let n = next-at {A = Down S V} (merge by.rule by.tally) (λ x. Unit {0}) (λ x y p. tt) (λ x y p. tt) (arrival_over by) labs L 1 a j b l.0 e l.1 (t a j b e) tt in
       let n0 : get_or (next (arrival_over by) (merge by.rule by.tally) labs L 1) 0 None ≡ Some n.0 = ap (λ (k : ℕ). get_or (next (arrival_over by) (merge by.rule by.tally) labs L 1) k None) (sym z) ∙ n.1 in
       let q = lasting-next labs L 1 0 n.0 n0 in
-      ap (λ (x : List (Node S V)). get_or (ups_in x) b None) (end-top (next (arrival_over by) (merge by.rule by.tally) labs L 1) n.0 n0 q)
-      ∙ ap (λ (k : ℕ). get_or {A = Option Up} (Some no_up ∷ []) k None) z ∙ sym (ups-end b z)
+      grind (arith, z, q, n0, end-top (next (arrival_over by) (merge by.rule by.tally) labs L 1) n.0, ups-end b)
 
   tops-inner : (labs : Labs) (M : Layer) (Ls : Net) (b : ℕ) → IsLed M → IsTied (M ∷ Ls) → b < length M → get_or (ups_in (top labs (M ∷ Ls))) b None ≡ get_or (ups (M ∷ Ls)) b None
   tops-inner labs M Ls b led t h =
       let x = ups-full M Ls led t b h in
-      ap (λ (z : List (Option Up)). get_or z b None) (map-table (λ (x : Node S V). Some x.label.up) (length M) (record_of_place by M labs (ups (M ∷ Ls))))
-      ∙ table_at (length M) b (λ k. Some (or_no_up (get_or (ups (M ∷ Ls)) k None))) None h ∙ ap (λ (o : Option Up). Some (or_no_up o)) x.1 ∙ sym x.1
+      grind (arith, x, map-table (λ (x : Node S V). Some x.label.up) (length M) (record_of_place by M labs (ups (M ∷ Ls))), table_at (length M) b (λ k. Some (or_no_up (get_or (ups (M ∷ Ls)) k None))) None h)
 
   full_from : (labs : Labs) (L : Layer) (Ls : Net) → Filled labs (length L) → IsTied (L ∷ Ls) → IsRoomy by.width (L ∷ Ls) → IsEven by.round.n (L ∷ Ls) → Full labs (L ∷ Ls)
   full_from labs L [] f t room even = (record { filled = f; room = room.0; even = even.0; tops = tops-end labs L f t }, lasting-next labs L 1)
@@ -194,25 +171,21 @@ module _ {S V : Type 0} (by : Setting S V) (w : 1 ≤ by.width) where
   full-first L Ls e t room even = full_from (first_labels by.rule by.tally) L Ls (rw e filled-first) t room even
 
   -- ---- reading the records
-  one-row : (labs : Labs) (L : Layer) (Ls : Net) → Fit labs L Ls → nodes_in (table by.width (record_of_place by L labs (ups (L ∷ Ls)))) ≡ top labs (L ∷ Ls)
-  one-row labs L Ls f = stand-table by.width (length L) (record_of_place by L labs (ups (L ∷ Ls))) f.room
-      (λ k h. let x = f.filled.there k h in rw x.1 (ap not (f.filled.lasting k x.0 x.1)))
-      (λ h. ap (λ (o : Option (Down S V)). not (eqb (or_blank by.rule by.tally o).lasts 0)) f.filled.beyond)
-
   pub layers-laid : (later : List (Node S V)) (labs : Labs) (Ls : Net) → Full labs Ls → layers by.width (length Ls) (labelled_from by labs Ls ++ later) ≡ stood labs Ls
   unfolding labelled_from
   layers-laid later labs [] f = refl
   layers-laid later labs (L ∷ Ls) f =
       let f' = record_of_place by L labs (ups (L ∷ Ls)) in
       let X = labelled_from by (labels_next by labs L (width Ls)) Ls in
-      ap₂ (λ (x y : List (Node S V)). nodes_in x ∷ layers by.width (length Ls) y)
-      (ap (take by.width) (append_assoc (table by.width f') X later) ∙ take_at (table by.width f') (X ++ later) by.width (table-long by.width f'))
-      (ap (drop by.width) (append_assoc (table by.width f') X later) ∙ drop_at (table by.width f') (X ++ later) by.width (table-long by.width f'))
-      ∙ ap₂ (λ (x : List (Node S V)) (y : List (List (Node S V))). x ∷ y) (one-row labs L Ls f.0) (layers-laid later (labels_next by labs L (width Ls)) Ls f.1)
+      let e = append_assoc (table by.width f') X later in
+      let t = take_at (table by.width f') (X ++ later) by.width (table-long by.width f') in
+      let u = drop_at (table by.width f') (X ++ later) by.width (table-long by.width f') in
+      let o = stand-table by.width (length L) f' f.0.room (λ k h. let x = f.0.filled.there k h in grind (arith, x, f.0.filled.lasting k)) (λ h. grind (arith, f.0.filled.beyond)) in
+      grind (arith, e, t, u, o, layers-laid later (labels_next by labs L (width Ls)) Ls f.1)
 
   pub drawn-stood : (labs : Labs) (Ls : Net) → Full labs Ls → arcs_of_layers by.round.n (stood labs Ls) ≡ Ls
   drawn-stood labs [] f = refl
-  drawn-stood labs (L ∷ Ls) f = ap₂ (λ (x : Layer) (y : Net). x ∷ y) (row-arcs labs L Ls f.0) (drawn-stood (labels_next by labs L (width Ls)) Ls f.1)
+  drawn-stood labs (L ∷ Ls) f = grind (arith, row-arcs labs L Ls f.0, drawn-stood (labels_next by labs L (width Ls)) Ls f.1)
 
   -- ---- the calls with the labels that stand
   abbrev pub Standing : Labs → Net → List (LayerLabels S V)
@@ -234,10 +207,8 @@ module _ {S V : Type 0} (by : Setting S V) (w : 1 ≤ by.width) where
 
   pub agrees-stood : (labs : Labs) (Ls : Net) → Full labs Ls → in_arcs_agree by Ls (Standing labs Ls) ≡ agrees by labs Ls
   unfolding in_arcs_agree
-  agrees-stood labs [] f = refl
-  agrees-stood labs (L ∷ []) f = refl
-  agrees-stood labs (L ∷ M ∷ Ls) f =
-      ap₂ ◌&&◌ (ap (λ (x : Labs). places_agree by x L (length M)) (row-downs labs L (M ∷ Ls) f.0)) (agrees-stood (labels_next by labs L (length M)) (M ∷ Ls) f.1)
+  agrees-stood labs (L ∷ M ∷ Ls) f = grind (arith, row-downs labs L (M ∷ Ls) f.0, agrees-stood (labels_next by labs L (length M)) (M ∷ Ls) f.1)
+  agrees-stood labs Ls f = refl
 
   pub stood-at : (d : ℕ) (labs : Labs) (Ls : Net) → Full labs Ls → d < length Ls
       → (downs_in (get_or (stood labs Ls) d []) ≡ labels_at by d labs Ls) × (arcs_in by.round.n (get_or (stood labs Ls) d []) ≡ get_or Ls d []) × (length (get_or (stood labs Ls) d []) ≡ length (get_or Ls d []))
@@ -248,11 +219,7 @@ module _ {S V : Type 0} (by : Setting S V) (w : 1 ≤ by.width) where
   -- the end's value
   pub value-stood : (labs : Labs) (Ls : Net) → Full labs Ls → value_in (get_or (stood labs Ls) (length Ls) []) ≡ valueO by (end_label (arrival_over by) (merge by.rule by.tally) labs Ls)
   unfolding end_label labels_next
-  value-stood labs [] f = go (get_or labs 0 None) refl
-    where
-      go : (o : Option (Down S V)) → get_or labs 0 None ≡ o → value_in (top labs []) ≡ valueO by o
-      go None e = rw e
-      go (Some l) e = ap value_in (end-top labs l e (f 0 l e))
+  value-stood labs [] f = grind (arith, end-top labs, f 0)
   value-stood labs (L ∷ Ls) f = value-stood (labels_next by labs L (width Ls)) Ls f.1
 
   -- ---- later places

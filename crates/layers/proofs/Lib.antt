@@ -1,17 +1,13 @@
 pub mod Bridge
 pub mod Counts
-pub mod Exact
 pub mod Flows
-pub mod Keys
 pub mod Main
-pub mod Meaning
 pub mod Model
 pub mod Proper
 pub mod Shaped
 pub mod Standing
 pub mod Tidying
 pub mod Tied
-pub mod Ties
 pub mod Walk
 pub mod Ways
 pub mod Wholes

@@ -1,19 +1,18 @@
 -- Where the nodes stand in the flat list. Records of the shape of a diagram have lawful arcs, and lawful arcs that are laid out anew have that shape, and finishes in time.
-use Rattle.std.proofs.Common.{◌≡◌, ℕ, zero, suc, ◌+◌, ◌-◌, ◌*◌, ◌<◌, ◌≤◌, Bool, cond, List, [], ◌∷◌, ◌++◌, map, length, get_or, take, drop, Some, None, Option, sym, refl, ap, ◌∙◌, inl, inr, ⊎_elim, suc-mul, suc-add, zero-add, arith, eqb, le_of_suc-le-suc, not-suc-le-zero, zero-mul, subst, append_assoc}
+use Rattle.std.proofs.Common.{◌≡◌, ℕ, zero, suc, ◌+◌, ◌-◌, ◌*◌, ◌<◌, ◌≤◌, cond, List, [], ◌∷◌, ◌++◌, map, length, get_or, take, drop, Some, None, Option, sym, refl, ap, ◌∙◌, inl, inr, ⊎_elim, suc-mul, suc-add, zero-add, arith, eqb, le_of_suc-le-suc, not-suc-le-zero, zero-mul, subst, append_assoc}
 use lib.ListN.{length-map}
-use Rattle.std.proofs.lemmas.List.{length-take, length-take-le, drop-drop, drop_more}
-use Rattle.std.proofs.lemmas.Bool.{cases_lt, eq-eqb, ne_eqb}
+use Rattle.std.proofs.lemmas.Bool.Decides.{nat_tests}
+use Rattle.std.proofs.lemmas.List.{length-take, length-take-le, drop-drop, drop_more, take-take, drop-take}
+use Rattle.std.proofs.lemmas.Bool.{cases_lt}
 use Rattle.round.specs.declared.table.Round.{Round}
 use Rattle.layers.specs.declared.node.Node.{Node}
 use Rattle.layers.specs.Net.{table, Outs, Layer, Net, node, target, width, count_doors, count_layer}
-use Rattle.layers.specs.Tidy.{tidied_arcs}
 use Rattle.layers.specs.Lawful.{IsEven, IsLawful, IsRoomy, IsTied}
-use Rattle.layers.specs.declared.node.Up.{Up}
 use Rattle.layers.specs.Labels.{first_labels, labels_next, no_up, leg, ups, first_label, arrival_over, merge}
 use Rattle.layers.specs.Records.{nodes_in, layers, arcs_in, arcs_of_layers, arcs_at, laid_arcs, arcs_read, record_of_place, labelled_from, labelled_records}
 use Rattle.layers.specs.Calls.{arcs, layer, records_with, bound, value_in}
 use Rattle.layers.specs.Shape.{targets_of, HasEnd, IsShaped, IsTimely}
-use Rattle.layers.proofs.Flows.{EvenLayer, Among, From, ins-from, next-some, gather-all}
+use Rattle.layers.proofs.Flows.{within, EvenLayer, next-all, first-only}
 use Rattle.layers.proofs.Bridge.{ups-end, Full, top, stood, table-long}
 use Rattle.layers.proofs.Tidying.{tidied-same}
 use Rattle.layers.proofs.Tied.{tidied-tied}
@@ -21,10 +20,9 @@ use Rattle.layers.proofs.Standing.{full, nodes-X, arcs-X, written}
 use Rattle.layers.specs.Settings.{Setting}
 use Rattle.layers.specs.declared.node.Down.{Down}
 use Rattle.std.specs.List.{AllByRecursion as All}
-use Rattle.std.proofs.ByRecursion.{All-append}
+use Rattle.std.proofs.ByRecursion.{All-append, All-take, All-drop, All-map}
 use Rattle.round.proofs.Clocks.{clock-laws}
 use Rattle.round.specs.Clock.{latest_finish}
-use Rattle.layers.specs.Flow.{arrivals_at}
 use Rattle.layers.proofs.Ways.{leg-bound}
 use Rattle.layers.proofs.Model.{or_blank}
 
@@ -45,43 +43,38 @@ unfolding bound
 bound_at {S} {V} n W xs d h = ap value_in (end-at W n xs ∙ ap (λ (ys : List (Node S V)). nodes_in (take 1 ys)) (drop_more xs (n * W) d h)) ∙ grind arith
 
 module _ {S V : Type 0} (n W : ℕ) (xs : List (Node S V)) (x : Node S V) (h : n * W < length xs) (is : x ≡ get_or xs (n * W) x) where
-  read-bound : bound n W xs ≡ cond (eqb x.label.down.lasts 0) None (Some x.label.down.value)
-  read-bound = bound_at n W xs x h ∙ ap (λ (y : Node S V). cond (eqb y.label.down.lasts 0) None (Some y.label.down.value)) (sym is)
-
   pub bound-none : x.label.down.lasts ≡ 0 → None ≡ bound n W xs
-  bound-none e = sym (read-bound ∙ ap (λ (q : Bool). cond q None (Some x.label.down.value)) (eq-eqb x.label.down.lasts 0 e))
+  bound-none e = grind (arith, nat_tests, e, is, bound_at n W xs x h)
 
   pub bound_some : (x.label.down.lasts ≡ 0 → ⊥) → Some x.label.down.value ≡ bound n W xs
-  bound_some e = sym (read-bound ∙ ap (λ (q : Bool). cond q None (Some x.label.down.value)) (ne_eqb x.label.down.lasts 0 e))
+  bound_some e = grind (arith, nat_tests, e, is, bound_at n W xs x h)
 
 -- ---- the nodes that stand are the first of their places
 pub standing-at : {S V : Type 0} (us : List (Node S V)) (a : ℕ) (d : Node S V) → a < length (nodes_in us) → get_or (nodes_in us) a d ≡ get_or us a d
 standing-at [] a d h = refl
-standing-at (u ∷ us) zero d h = grind (arith, h)
-standing-at (u ∷ us) (suc a) d h = grind (arith, h, standing-at us a d)
+standing-at (u ∷ us) a d h = grind (arith, h, standing-at us)
 
 -- ---- depth and room
 pub standing-short : {S V : Type 0} (us : List (Node S V)) → length (nodes_in us) ≤ length us
 standing-short [] = omega arith
 standing-short (u ∷ us) = grind (arith, standing-short us)
 
-take-among : {A : Type 0} (m k : ℕ) (xs : List A) (x : A) → m ≤ k → Among x (take m xs) → Among x (take k xs)
-take-among zero k xs x h i = absurd i
-take-among (suc m) zero xs x h i = absurd (omega arith)
-take-among (suc m) (suc k) [] x h i = i
-take-among (suc m) (suc k) (y ∷ xs) x h i = grind (arith, h, i, take-among m k xs x)
+-- ---- what holds of each item
+all-table : {A : Type 0} (P : A → Type 0) (m : ℕ) (f : ℕ → A) → ((k : ℕ) → P (f k)) → All P (table m f)
+all-table P zero f h = tt
+all-table P (suc m) f h = (h 0, all-table P m (λ k. f (suc k)) (λ k. h (suc k)))
 
-drop-among : {A : Type 0} (w m : ℕ) (xs : List A) (x : A) → Among x (take m (drop w xs)) → Among x (take (w + m) xs)
-drop-among zero m xs x i = rw (zero-add m) i
-drop-among (suc w) zero [] x i = absurd i
-drop-among (suc w) (suc m) [] x i = absurd i
-drop-among (suc w) m (y ∷ xs) x i = rw (suc-add w m) (inr (drop-among w m xs x i))
+-- of the first of them, and of those past the first
+all-front : {A : Type 0} (P : A → Type 0) (w m : ℕ) (xs : List A) → w ≤ m → All P (take m xs) → All P (take w xs)
+all-front P w m xs h a = rw (← (take-take w m xs h)) (All-take P w (take m xs) a)
+
+all-rest : {A : Type 0} (P : A → Type 0) (w m : ℕ) (xs : List A) → All P (take (w + m) xs) → All P (take m (drop w xs))
+all-rest P w m xs a = rw (← (drop-take w m xs)) (All-drop P w (take (w + m) xs) a)
 
 module _ {S V : Type 0} (n W : ℕ) where
   pub drawn-deep : (k : ℕ) (xs : List (Node S V)) → length (arcs_of_layers n (layers W k xs)) ≡ k
-  drawn-deep zero xs = refl
-  drawn-deep (suc zero) xs = refl
   drawn-deep (suc (suc k)) xs = ap suc (drawn-deep (suc k) (drop W xs))
+  drawn-deep k xs = refl
 
   arcs-short : (us : List (Node S V)) → length (arcs_in n (nodes_in (take W us))) ≤ W
   arcs-short us = omega (arith, length-map (nodes_in (take W us)) (λ (x : Node S V). take n x.arcs.to), standing-short (take W us), length-take W us)
@@ -92,70 +85,50 @@ module _ {S V : Type 0} (n W : ℕ) where
   drawn-roomy (suc (suc k)) xs = (arcs-short xs, drawn-roomy (suc k) (drop W xs))
 
   -- ---- sixteen targets to a record, so n of them to a node
-  abbrev Long : List (Node S V) → Type 0
-  Long us = (x : Node S V) → Among x us → length x.arcs.to ≡ 16
+  abbrev Long : Node S V → Type 0
+  Long x = length x.arcs.to ≡ 16
 
-  standing-among : (us : List (Node S V)) (x : Node S V) → Among x (nodes_in us) → Among x us
-  standing-among [] x i = i
-  standing-among (u ∷ us) x i = grind (arith, i, standing-among us x)
-
-  arcs-even : (us : List (Node S V)) → n ≤ 16 → Long us → EvenLayer n (arcs_in n us)
+  arcs-even : (us : List (Node S V)) → n ≤ 16 → All Long us → EvenLayer n (arcs_in n (nodes_in us))
   arcs-even [] h l a k = absurd (omega arith)
-  arcs-even (u ∷ us) h l zero k = length-take-le n u.arcs.to (omega (arith, l u (inl refl)))
-  arcs-even (u ∷ us) h l (suc a) k = arcs-even us h (λ x j. l x (inr j)) a (omega arith)
+  arcs-even (u ∷ us) h l a k = let z = length-take-le n u.arcs.to (omega (arith, h, l.0)) in grind (arith, k, z, arcs-even us h l.1)
 
-  drawn-even : (k : ℕ) (xs : List (Node S V)) → n ≤ 16 → Long (take (k * W + 1) xs) → IsEven n (arcs_of_layers n (layers W k xs))
+  drawn-even : (k : ℕ) (xs : List (Node S V)) → n ≤ 16 → All Long (take (k * W + 1) xs) → IsEven n (arcs_of_layers n (layers W k xs))
   drawn-even zero xs h l = tt
-  drawn-even (suc zero) xs h l = (arcs-even (nodes_in (take W xs)) h (λ x i. l x (take-among W (suc 0 * W + 1) xs x (omega (arith, suc-mul 0 W)) (standing-among (take W xs) x i))), tt)
+  drawn-even (suc zero) xs h l = (arcs-even (take W xs) h (all-front Long W (suc 0 * W + 1) xs (omega (arith, suc-mul 0 W)) l), tt)
   drawn-even (suc (suc k)) xs h l =
       let m = suc k * W + 1 in
-      let e : W + m ≡ suc (suc k) * W + 1 = omega (arith, suc-mul (suc k) W) in (
-        arcs-even (nodes_in (take W xs)) h (λ x i. l x (take-among W (suc (suc k) * W + 1) xs x (omega (arith, e)) (standing-among (take W xs) x i))),
-        drawn-even (suc k) (drop W xs) h (λ x i. l x (rw (← e) (drop-among W m xs x i))),
-      )
+      let e : suc (suc k) * W + 1 ≡ W + m = omega (arith, suc-mul (suc k) W) in
+      (arcs-even (take W xs) h (all-front Long W (suc (suc k) * W + 1) xs (omega (arith, e)) l), drawn-even (suc k) (drop W xs) h (all-rest Long W m xs (rw e at l)))
 
 -- all of the laid arcs have sixteen targets
-laid-sixteen : (W : ℕ) (Ls : Net) (ts : List ℕ) → Among ts (targets_of (laid_arcs W Ls)) → length ts ≡ 16
-laid-sixteen W [] ts (inl e) = ap length e ∙ table-long 16 (λ k. get_or {A = ℕ} [] k 0)
-laid-sixteen W [] ts (inr i) = absurd i
-laid-sixteen W (L ∷ Ls) ts i = go W (λ k. k) i (λ h. laid-sixteen W Ls ts h)
+laid-sixteen : (W : ℕ) (Ls : Net) → All (λ ts. length ts ≡ 16) (targets_of (laid_arcs W Ls))
+laid-sixteen W Ls = All-map (λ ts. length ts ≡ 16) (λ a. a.to) (laid_arcs W Ls) (each Ls)
   where
-    go : (m : ℕ) (f : ℕ → ℕ) → Among ts (targets_of (table m (λ k. arcs_at L (f k)) ++ laid_arcs W Ls)) → (Among ts (targets_of (laid_arcs W Ls)) → length ts ≡ 16) → length ts ≡ 16
-    go zero f h g = g h
-    go (suc m) f (inl e) g = ap length e ∙ table-long 16 (λ k. get_or (get_or L (f 0) []) k 0)
-    go (suc m) f (inr h) g = go m (λ k. f (suc k)) h g
+    each : (Ls : Net) → All (λ a. length a.to ≡ 16) (laid_arcs W Ls)
+    each [] = (table-long 16 (λ k. get_or {A = ℕ} [] k 0), tt)
+    each (L ∷ Ls) = All-append _ (table W (arcs_at L)) _ (all-table _ W (arcs_at L) (λ k. table-long 16 (λ i. get_or (get_or L k []) i 0))) (each Ls)
 
-targets-among : {S V : Type 0} (us : List (Node S V)) (x : Node S V) → Among x us → Among x.arcs.to (targets_of (arcs_read us))
-targets-among [] x i = i
-targets-among (u ∷ us) x (inl e) = inl (ap (λ (y : Node _ _). y.arcs.to) e)
-targets-among (u ∷ us) x (inr i) = inr (targets-among us x i)
+long-if : {S V : Type 0} (us : List (Node S V)) → All (λ ts. length ts ≡ 16) (targets_of (arcs_read us)) → All (λ x. length x.arcs.to ≡ 16) us
+long-if [] h = tt
+long-if (u ∷ us) h = (h.0, long-if us h.1)
 
 -- ---- the arcs of records of that shape
 module _ {S V : Type 0} (r : Round) (W : ℕ) (xs : List (Node S V)) where
   pub shaped-proper : IsShaped r.n W xs → IsLawful r.n W (arcs r.n W xs)
-  shaped-proper s = record {
-    deep = drawn-deep r.n W r.n xs;
-    one_first = s.first;
-    even = drawn-even r.n W r.n xs r.most (λ x i. laid-sixteen W (arcs r.n W xs) x.arcs.to (rw (← s.written) (targets-among (take (r.n * W + 1) xs) x i)));
-    roomy = drawn-roomy r.n W r.n xs;
-    tied = rw (← s.tidy) (tidied-tied (arcs r.n W xs));
-  }
+  shaped-proper s =
+      let e = drawn-even r.n W r.n xs r.most (long-if (take (r.n * W + 1) xs) (rw s.written (laid-sixteen W (arcs r.n W xs)))) in
+      grind (arith, s, e, drawn-deep r.n W r.n xs, drawn-roomy r.n W r.n xs, tidied-tied (arcs r.n W xs))
 
 -- ---- an arc counts
 doors-count : (ts : Outs) (k b : ℕ) → get_or ts k 0 ≡ suc b → 1 ≤ count_doors ts
 unfolding count_doors
 doors-count [] k b e = absurd (omega arith)
-doors-count (zero ∷ ts) zero b e = absurd (omega arith)
-doors-count (zero ∷ ts) (suc k) b e = doors-count ts k b e
-doors-count (suc t ∷ ts) k b e = omega arith
+doors-count (t ∷ ts) k b e = grind (arith, e, doors-count ts (k - 1) b)
 
 arc-counts : (L : Layer) (a j b : ℕ) → target (node L a) j ≡ suc b → 1 ≤ count_layer L
 unfolding count_layer
-arc-counts [] a zero b e = absurd (omega arith)
-arc-counts [] a (suc k) b e = absurd (omega arith)
-arc-counts (nd ∷ L) zero zero b e = absurd (omega arith)
-arc-counts (nd ∷ L) zero (suc k) b e = let h = doors-count nd k b e in omega arith
-arc-counts (nd ∷ L) (suc a) j b e = let h = arc-counts L a j b e in omega arith
+arc-counts [] a j b e = absurd (grind (arith, e))
+arc-counts (nd ∷ L) a j b e = grind (arith, e, doors-count nd (j - 1) b, arc-counts L (a - 1) j b)
 
 doors-arc : (ts : Outs) → 1 ≤ count_doors ts → (k : ℕ) × (b : ℕ) × (get_or ts k 0 ≡ suc b)
 unfolding count_doors
@@ -172,27 +145,16 @@ counted-arc (nd ∷ L) h = ⊎_elim
     (cases_lt (count_doors nd) 1)
 
 -- ---- an arc to the end gives the end a label
-some-there : {A : Type 0} (xs : List A) (o : A → Option Up) (b : ℕ) (u : Up) → get_or (map o xs) b None ≡ Some u → 1 ≤ length xs
-some-there [] o b u e = absurd cc
-some-there (x ∷ xs) o b u e = omega arith
-
 module _ {S V : Type 0} (by : Setting S V) (w : 1 ≤ by.width) where
-  end-stands : (labs : List (Option (Down S V))) (L : Layer) (Ms : Net) → IsTied (L ∷ Ms) → Full by w labs (L ∷ Ms) → (a j b : ℕ) → target (node (get_or (L ∷ Ms) (length Ms) []) a) j ≡ suc b
-      → length (get_or (stood by w labs (L ∷ Ms)) (suc (length Ms)) []) ≡ 1
-  end-stands labs L [] t f a j b e =
-      let E = top by w (labels_next by labs L 1) [] in
+  end-stands : (labs : List (Option (Down S V))) (Ls : Net) (k : ℕ) → suc k ≡ length Ls → IsTied Ls → Full by w labs Ls → (a j b : ℕ) → target (node (get_or Ls k []) a) j ≡ suc b → length (get_or (stood by w labs Ls) (suc k) []) ≡ 1
+  end-stands labs (L ∷ []) zero d t f a j b e =
       let z : b ≡ 0 = omega (arith, t a j b e) in
-      let lo = some-there E (λ x. Some x.label.up) b no_up (f.0.tops a j b e ∙ ups-end b z) in
+      let E = top by w (labels_next by labs L 1) [] in
+      let lo = within (map (λ (x : Node S V). Some x.label.up) E) b no_up (f.0.tops a j b e ∙ ups-end b z) in
       let hi = standing-short (record_of_place by [] (labels_next by labs L 1) [] 0 ∷ []) in
-      omega arith
-  end-stands labs L (M ∷ Ms) t f a j b e = end-stands (labels_next by labs L (length M)) M Ms t.3 f.1 a j b e
-
-  end_of : (Ls : Net) (n : ℕ) → length Ls ≡ n → 1 ≤ n → IsTied Ls → Full by w (first_labels by.rule by.tally) Ls → (a j b : ℕ) → target (node (get_or Ls (n - 1) []) a) j ≡ suc b → length (get_or (stood by w (first_labels by.rule by.tally) Ls) n []) ≡ 1
-  end_of [] n d h t f a j b e = absurd (omega arith)
-  end_of (L ∷ Ms) n d h t f a j b e =
-      let z : n - 1 ≡ length Ms = omega arith in
-      let y : n ≡ suc (length Ms) = sym d in
-      rw y (end-stands (first_labels by.rule by.tally) L Ms t f a j b (rw (← z) e))
+      omega (arith, length-map E (λ (x : Node S V). Some x.label.up))
+  end-stands labs (L ∷ M ∷ Ls) (suc k) d t f a j b e = end-stands (labels_next by labs L (length M)) (M ∷ Ls) k (omega arith) t.3 f.1 a j b e
+  end-stands labs Ls k d t f a j b e = absurd (omega arith)
 
 -- ---- the end's place is in use if an arc leads to it
 pub ended-one : {S V : Type 0} (n W : ℕ) (xs : List (Node S V)) → HasEnd n W xs → (a j b : ℕ) → target (node (get_or (arcs n W xs) (n - 1) []) a) j ≡ suc b → length (layer n W n xs) ≡ 1
@@ -211,38 +173,30 @@ module _ {S V : Type 0} (by : Setting S V) (w : 1 ≤ by.width) (xs : List (Node
   stands-at-end : (a j b : ℕ) → target (node (get_or (arcs by.round.n by.width (records_with by xs Ls)) (by.round.n - 1) []) a) j ≡ suc b → length (layer by.round.n by.width by.round.n (records_with by xs Ls)) ≡ 1
   unfolding records_with
   stands-at-end a j b e =
-      rw (nodes-X by w (drop (by.round.n * by.width + 1) xs) Ls p) (end_of by w Ls by.round.n p.deep by.round.one p.tied (full by w (drop (by.round.n * by.width + 1) xs) Ls p) a j b (rw (← arcs-relaid) e))
+      let z : suc (by.round.n - 1) ≡ by.round.n = omega (arith, by.round.one) in
+      let x = end-stands by w (first_labels by.rule by.tally) Ls (by.round.n - 1) (omega (arith, p.deep, by.round.one)) p.tied (full by w (drop (by.round.n * by.width + 1) xs) Ls p) a j b (rw (← arcs-relaid) e) in
+      grind (arith, z, x, nodes-X by w (drop (by.round.n * by.width + 1) xs) Ls p)
 
   ended' : HasEnd by.round.n by.width (records_with by xs Ls)
-  ended' =
-      let L = get_or (arcs by.round.n by.width (records_with by xs Ls)) (by.round.n - 1) [] in
-      ⊎_elim
-      (λ (none : count_layer L < 1). omega arith)
-      (λ (some : 1 ≤ count_layer L). let q = counted-arc L some in let z = stands-at-end q.0 q.1 q.2 q.3 in omega arith)
-      (cases_lt (count_layer L) 1)
+  ended' = elim (cases_lt (count_layer (get_or (arcs by.round.n by.width (records_with by xs Ls)) (by.round.n - 1) [])) 1) [
+    | inl none ↦ omega arith
+    | inr some ↦ (let q = counted-arc (get_or (arcs by.round.n by.width (records_with by xs Ls)) (by.round.n - 1) []) some in let z = stands-at-end q.0 q.1 q.2 q.3 in omega arith)
+  ]
 
   pub relaid-shaped : IsShaped by.round.n by.width (records_with by xs Ls)
   unfolding records_with
-  relaid-shaped = record {
-    written = ap targets_of (written by w (drop (by.round.n * by.width + 1) xs) Ls p);
-    tidy = ap tidied_arcs arcs-relaid ∙ tidied-same Ls p.one_first p.tied ∙ sym arcs-relaid;
-    first = ap width arcs-relaid ∙ p.one_first;
-    ended = ended';
-  }
+  relaid-shaped =
+      let x = ap targets_of (written by w (drop (by.round.n * by.width + 1) xs) Ls p) in
+      grind (arith, arcs-relaid, x, tidied-same Ls p.one_first p.tied, p, ended')
 
 -- ---- lists
 take_past : {A : Type 0} (m k : ℕ) (f : ℕ → A) (xs : List A) → take (m + k) (table m f ++ xs) ≡ table m f ++ take k xs
 take_past zero k f xs = ap (λ (c : ℕ). take c xs) (zero-add k)
 take_past (suc m) k f xs = rw (suc-add m k) (ap (λ (l : List _). f 0 ∷ l) (take_past m k (λ i. f (suc i)) xs))
 
-all-table : {A : Type 0} (P : A → Type 0) (m : ℕ) (f : ℕ → A) → ((k : ℕ) → P (f k)) → All P (table m f)
-all-table P zero f h = tt
-all-table P (suc m) f h = (h 0, all-table P m (λ k. f (suc k)) (λ k. h (suc k)))
-
 most-at : {A : Type 0} (f : A → ℕ) (m : ℕ) (xs : List A) → All (λ x. f x ≤ m) xs → (k : ℕ) → get_or (map f xs) k 0 ≤ m
 most-at f m [] h k = omega arith
-most-at f m (x ∷ xs) h zero = h.0
-most-at f m (x ∷ xs) h (suc k) = most-at f m xs h.1 k
+most-at f m (x ∷ xs) h k = grind (arith, h, most-at f m xs)
 
 module _ {S V : Type 0} (by : Setting S V) where
   -- ---- no finish of the labels is above what the clock allows after i steps
@@ -251,28 +205,17 @@ module _ {S V : Type 0} (by : Setting S V) where
 
   soon-first : Soon 0 (first_labels by.rule by.tally)
   unfolding Soon
-  soon-first zero l e = let x : first_label by.rule by.tally ≡ l = cc in rw (← x) (omega arith)
-  soon-first (suc a) l e = absurd cc
+  soon-first = first-only (first_label by.rule by.tally) (λ a l. l.finish ≤ latest_finish 0) (omega arith)
 
   soon-next : (i : ℕ) (labs : List (Option (Down S V))) (L : Layer) (count : ℕ) → Soon i labs → Soon (suc i) (labels_next by labs L count)
   unfolding Soon labels_next arrival_over merge
-  soon-next i labs L count soon b m e =
-      gather-all (merge by.rule by.tally) (λ x. x.finish ≤ latest_finish (suc i)) (λ x y p q. omega arith) (arrivals_at (arrival_over by) b labs L) m
-      (λ x h. each x (ins-from (arrival_over by) b labs L x h)) (next-some (arrival_over by) (merge by.rule by.tally) labs L count b m e)
-    where
-      each : (x : Down S V) → From (arrival_over by) b labs L x → x.finish ≤ latest_finish (suc i)
-      each x f =
-          let l = f.label in
-          rw f.is ((clock-laws by.round).bound i l.finish (leg by.round l.lasts f.door) f.door (soon f.source l f.labelled) (leg-bound by.round l.lasts f.door))
+  soon-next i labs L count soon b m e = next-all (arrival_over by) (merge by.rule by.tally) labs L count b m (λ x. x.finish ≤ latest_finish (suc i)) (λ x y p q. omega arith)
+      (λ a j l f g. (clock-laws by.round).bound i l.finish (leg by.round l.lasts j) j (soon a l g) (leg-bound by.round l.lasts j)) e
 
   -- a place of such a layer; a blank one has finish 0
   soon-place : (i : ℕ) (labs : List (Option (Down S V))) → i ≤ 15 → Soon i labs → (k : ℕ) → (or_blank by.rule by.tally (get_or labs k None)).finish ≤ latest_finish 15
   unfolding Soon
-  soon-place i labs h soon k = go (get_or labs k None) refl
-    where
-      go : (o : Option (Down S V)) → get_or labs k None ≡ o → (or_blank by.rule by.tally o).finish ≤ latest_finish 15
-      go None e = omega arith
-      go (Some l) e = omega (arith, soon k l e)
+  soon-place i labs h soon k = grind (arith, h, soon k)
 
   -- ---- the places of all layers before the end, from layer i on
   abbrev Early : Node S V → Type 0

@@ -1,7 +1,6 @@
 -- Records that are proper arcs with the labels worked out from them: opened records are such, and so is what every list of calls leaves.
 use Rattle.std.proofs.Common.{◌≡◌, ℕ, zero, suc, ◌+◌, ◌-◌, ◌*◌, ◌<◌, ◌≤◌, min, max, Bool, true, false, ◌&&◌, eqb, List, [], ◌∷◌, ◌++◌, length, get_or, take, drop, Option, sym, refl, ap, ◌∙◌, ap₂, arith}
 use Rattle.std.proofs.lemmas.Bool.Decides.{nat_tests}
-use Rattle.std.proofs.lemmas.Bool.{eqb-true, eq-eqb, and_parts}
 use Rattle.std.proofs.lemmas.List.{map-append, take_at}
 use Rattle.layers.specs.Lawful.{IsLawful}
 use Rattle.layers.specs.declared.node.Node.{Node}
@@ -16,9 +15,9 @@ use Rattle.layers.specs.declared.call.Call.{Call}
 use Rattle.layers.specs.declared.call.Call.TheVariants.{Sweep, Part, Join, Cut, Refine}
 use Rattle.layers.specs.Calls.{EachCut, kept_arcs, nodes, arcs, labels, layer, records_with, after_open, arcs_lost, after_sweep, sweep_answer, after_cut, count_of, part_answer, parted_records, after_part, join_answer, after_join, parts_of_layer, refinement_from, after_sweeps, refinement, after_call, after_calls, bound, is_settled, in_arcs_agree, value_in, one_group as oneGroupIn}
 use Rattle.layers.proofs.Model.{kept, sweep, cut, one_group, part_at, agrees, settles, bound as boundOf, settled as settled_of, labels_at}
-use Rattle.layers.proofs.Counts.{same_bool, kept-same, sweep-fewer, settled-yes, settled-if}
+use Rattle.layers.proofs.Counts.{kept-same, sweep-fewer, settled-yes, settled-if}
 use Rattle.layers.proofs.Bridge.{Full, stood, map-table, full-first, layers-laid, drawn-stood, kept-stood, agrees-stood, stood-at, value-stood, laid-long, later-stays}
-use Rattle.layers.proofs.Proper.{proper-opened, proper-kept, proper-part, proper-join}
+use Rattle.layers.proofs.Proper.{proper-opened, proper-kept, proper-parted-at, proper-join}
 use Rattle.layers.specs.Settings.{Setting}
 
 -- ---- what sweep, part, join and cut each keep, every list of calls keeps
@@ -77,14 +76,8 @@ module _ {S V : Type 0} (by : Setting S V) where
 
 any-cut : {V : Type 0} (cs : List (Call V)) → EachCut (λ c. Unit {0}) cs
 any-cut [] = tt
-any-cut (Sweep ∷ cs) = any-cut cs
-any-cut (Part i a ∷ cs) = any-cut cs
-any-cut (Join i a b ∷ cs) = any-cut cs
 any-cut (Cut c ∷ cs) = (tt, any-cut cs)
-any-cut (Refine ∷ cs) = any-cut cs
-
-nothing-less : (m k : ℕ) → k ≤ m → eqb (m - k) 0 ≡ eqb k m
-nothing-less m k h = grind (arith, nat_tests)
+any-cut (c ∷ cs) = any-cut cs
 
 module _ {S V : Type 0} (by : Setting S V) (w : 1 ≤ by.width) (later : List (Node S V)) where
   abbrev Well : Net → Type 0
@@ -170,20 +163,11 @@ module _ {S V : Type 0} (by : Setting S V) (w : 1 ≤ by.width) (later : List (N
 
   pub settled-X : (Ls : Net) → Well Ls → is_settled by (X Ls) ≡ settled_of by Ls
   unfolding is_settled settled_of settles
-  settled-X Ls p =
-      let k = kept-stood by w (is_barred by.round by.rule) 0 first Ls (full Ls p) in
-      let t = kept-same (is_barred by.round by.rule) 0 Ls in
-      ap₂ ◌&&◌ (agrees-X Ls p) (rw (arcs-X Ls p, nodes-X Ls p) (sym (t _) ∙ ap (λ (z : Net). eqb (count_arcs z) (count_arcs Ls)) k ∙ t _))
+  settled-X Ls p = grind (arith, agrees-X Ls p, arcs-X Ls p, nodes-X Ls p, kept-stood by w (is_barred by.round by.rule) 0 first Ls (full Ls p), kept-same {V = V} (is_barred by.round by.rule) 0 Ls)
 
   -- settled is yes exactly when the in-arcs agree and a sweep would answer 0
   pub settled-means-X : (Ls : Net) → Well Ls → is_settled by (X Ls) ≡ (in_arcs_agree by (arcs by.round.n by.width (X Ls)) (labels by.round.n by.width (X Ls)) && eqb (sweep_answer by (X Ls)) 0)
-  settled-means-X Ls p =
-      let b = count_arcs (sweep by Ls) in
-      let m = count_arcs Ls in
-      settled-X Ls p ∙ same_bool (settled_of by Ls) (agrees by first Ls && eqb b m)
-      (λ e. let q = settled-yes by Ls p.one_first p.tied e in ap₂ ◌&&◌ q.0 (eq-eqb b m (ap count_arcs q.1)))
-      (λ e. let q = and_parts (agrees by first Ls) (eqb b m) e in settled-if by Ls q.0 (eqb-true b m q.1))
-      ∙ sym (ap₂ ◌&&◌ (agrees-X Ls p) (ap (λ (k : ℕ). eqb k 0) (answer-X Ls p) ∙ nothing-less m b (sweep-fewer by Ls)))
+  settled-means-X Ls p = grind (arith, nat_tests, settled-X Ls p, settled-yes by Ls p.one_first p.tied, settled-if by Ls, agrees-X Ls p, answer-X Ls p, sweep-fewer by Ls)
 
   -- ---- records that are those of proper arcs, of which P holds
   pub record Reached (P : Net → Type 0) (xs : List (Node S V)) : Type 0 where
@@ -210,7 +194,7 @@ module _ {S V : Type 0} (by : Setting S V) (w : 1 ≤ by.width) (later : List (N
         → (r : Reached P xs) → P (part_at by d c first r.net) → Reached P (parted_records by i a xs)
     reached-part i a d c xs e f hi inn apart room r h = record {
       net = part_at by d c first r.net;
-      well = proper-part by self w d c r.net (omega (arith, count-of P xs r i d e hi)) (omega (arith, count-of P xs r i d e hi)) (sym (group-of P xs r i a d c e f hi) ∙ apart) r.well;
+      well = proper-parted-at by w self d c (labels_at by d first r.net) r.net (omega (arith, count-of P xs r i d e hi)) (omega (arith, count-of P xs r i d e hi)) (sym (group-of P xs r i a d c e f hi) ∙ apart) r.well;
       is = ap (parted_records by i a) r.is ∙ split-X i a d c r.net r.well e f hi;
       holds = h;
     }
@@ -219,7 +203,7 @@ module _ {S V : Type 0} (by : Setting S V) (w : 1 ≤ by.width) (later : List (N
   pub record KeptOnArcs (P : Net → Type 0) (Q : V → Type 0) : Type 0 where
     pub sweep : (Ls : Net) → Well Ls → P Ls → P (sweep by Ls)
     pub cut : (c : V) (Ls : Net) → Q c → Well Ls → P Ls → P (cut by c Ls)
-    pub part : (d a : ℕ) (Ls : Net) → Well Ls → P Ls → P (part_at by d a first Ls)
+    pub part : (d a : ℕ) (Ls : Net) → a < length (get_or Ls (suc d) []) → length (get_or Ls (suc d) []) < by.width → one_group by d a first Ls ≡ false → Well Ls → P Ls → P (part_at by d a first Ls)
     pub join : (d lo hi : ℕ) (Ls : Net) → lo < hi → hi < length (get_or Ls (suc d) []) → clash (node (get_or Ls (suc d) []) lo) (node (get_or Ls (suc d) []) hi) ≡ false → Well Ls → P Ls → P (joined_arcs d lo hi Ls)
 
   module _ (self : (s : S) → by.rule.same s s ≡ true) (P : Net → Type 0) (Q : V → Type 0) (k : KeptOnArcs P Q) where
@@ -250,7 +234,10 @@ module _ {S V : Type 0} (by : Setting S V) (w : 1 ≤ by.width) (later : List (N
     steps = record {
       sweep = λ xs r. reached-sweep P xs r (k.sweep r.net r.well r.holds);
       cut = reached-cut;
-      part = λ i a xs lo hi one inn e room r. reached-part self P i a (i - 1) (a - 1) xs (omega arith) (omega arith) hi inn e room r (k.part (i - 1) (a - 1) r.net r.well r.holds);
+      part = λ i a xs lo hi one inn e room r.
+          let m = count-of P xs r i (i - 1) (omega arith) hi in
+          reached-part self P i a (i - 1) (a - 1) xs (omega arith) (omega arith) hi inn e room r
+          (k.part (i - 1) (a - 1) r.net (omega arith) (omega arith) (sym (group-of P xs r i a (i - 1) (a - 1) (omega arith) (omega arith) hi) ∙ e) r.well r.holds);
       join = reached-join;
     }
 
@@ -264,7 +251,7 @@ module _ {S V : Type 0} (by : Setting S V) (w : 1 ≤ by.width) (later : List (N
 
   -- of which nothing else is said
   pub plain : KeptOnArcs (λ Ls. Unit {0}) (λ c. Unit {0})
-  plain = record { sweep = λ Ls p h. tt; cut = λ c Ls u p h. tt; part = λ d a Ls p h. tt; join = λ d lo hi Ls x y z p h. tt }
+  plain = record { sweep = λ Ls p h. tt; cut = λ c Ls u p h. tt; part = λ d a Ls x y z p h. tt; join = λ d lo hi Ls x y z p h. tt }
 
 -- opening, and whatever is called then
 module _ {S V : Type 0} (by : Setting S V) (w : 1 ≤ by.width) (lent : List (Node S V)) where

@@ -1,15 +1,12 @@
 -- After tidying, every node lies on a path.
 use Rattle.std.proofs.Common.{◌≡◌, ℕ, zero, suc, ◌<◌, Bool, true, false, List, [], ◌∷◌, length, get_or, Some, None, Option, sym, refl, ap, ◌∙◌, le_of_suc-le-suc, not-suc-le-zero, arith, cond}
-use lib.ListN.{length-map}
 use Rattle.std.proofs.lemmas.Bool.{false≢true}
-use Rattle.std.proofs.lemmas.Option.{none-some}
 use Rattle.std.proofs.lemmas.List.{ext_get_or}
 use Rattle.layers.specs.Net.{Outs, Layer, Net, node, target, width, each_door, each_node, redirect}
-use Rattle.layers.specs.Flow.{arrivals_at, gather, climbs_of, up}
 use Rattle.layers.specs.Tidy.{Mark, marks_next, marks_up, flags, rank, compress, renumber, tidy, tidied_arcs}
 use Rattle.layers.specs.Lawful.{IsRanged, IsLed, IsTied}
 use Rattle.layers.specs.Targets.{at_door}
-use Rattle.layers.proofs.Flows.{gather-any, outs-from, map-some, redirect-get, redirect-arc, has-arc, ins-from, next-some, up_at, mark-next, flags-at, compress-at, renumber-at, rank-zero}
+use Rattle.layers.proofs.Flows.{ups-within, arc-stays, next-all, up-all, redirect-get, has-arc, up_at, flags-at, compress-at, rank-zero}
 
 -- ---- redirecting, backwards
 pub redirect-back : (f : ℕ → ℕ → ℕ → ℕ) (L : Layer) (a j c : ℕ) → target (node (redirect f L) a) j ≡ suc c → (b : ℕ) × (target (node L a) j ≡ suc b) × (f a j b ≡ suc c)
@@ -35,14 +32,12 @@ redirect-length f L = each_node-length f 0 L
 pub each_door-length : (f : ℕ → ℕ → ℕ) (j : ℕ) (ts : Outs) → length (each_door f j ts) ≡ length ts
 unfolding each_door
 each_door-length f j [] = refl
-each_door-length f j (zero ∷ ts) = ap suc (each_door-length f (suc j) ts)
-each_door-length f j (suc b ∷ ts) = ap suc (each_door-length f (suc j) ts)
+each_door-length f j (t ∷ ts) = grind (arith, each_door-length f (suc j) ts)
 
 each_node-long : (f : ℕ → ℕ → ℕ → ℕ) (c : ℕ) (L : Layer) (a : ℕ) → length (node (each_node f c L) a) ≡ length (node L a)
 unfolding each_node
 each_node-long f c [] a = refl
-each_node-long f c (nd ∷ L) zero = each_door-length (f c) 1 nd
-each_node-long f c (nd ∷ L) (suc a) = each_node-long f (suc c) L a
+each_node-long f c (nd ∷ L) a = grind (arith, each_door-length (f c) 1 nd, each_node-long f (suc c) L)
 
 pub redirect-long : (f : ℕ → ℕ → ℕ → ℕ) (L : Layer) (a : ℕ) → length (node (redirect f L) a) ≡ length (node L a)
 unfolding redirect
@@ -52,76 +47,48 @@ redirect-long f L a = each_node-long f 0 L a
 pub redirect-cong : (f g : ℕ → ℕ → ℕ → ℕ) (L : Layer) → ((a j b : ℕ) → target (node L a) j ≡ suc b → f a j b ≡ g a j b) → redirect f L ≡ redirect g L
 redirect-cong f g L h = ext_get_or [] (redirect f L) (redirect g L) (redirect-length f L ∙ sym (redirect-length g L)) (λ a lt.
     ext_get_or 0 (node (redirect f L) a) (node (redirect g L) a) (redirect-long f L a ∙ sym (redirect-long g L a))
-    (λ k in'. redirect-get f L a (suc k) ∙ go a (suc k) (target (node L a) (suc k)) refl ∙ sym (redirect-get g L a (suc k))))
-  where
-    go : (a j t : ℕ) → target (node L a) j ≡ t → at_door (f a) j t ≡ at_door (g a) j t
-    go a j zero e = refl
-    go a j (suc b) e = h a j b e
+    (λ k in'. grind (arith, redirect-get f L a (suc k), redirect-get g L a (suc k), h a (suc k))))
 
 pub redirect-same : (f : ℕ → ℕ → ℕ → ℕ) (L : Layer) → ((a j b : ℕ) → target (node L a) j ≡ suc b → f a j b ≡ suc b) → redirect f L ≡ L
 redirect-same f L h = ext_get_or [] (redirect f L) L (redirect-length f L) (λ a lt.
-    ext_get_or 0 (node (redirect f L) a) (node L a) (redirect-long f L a) (λ k in'. redirect-get f L a (suc k) ∙ go a (suc k) (target (node L a) (suc k)) refl))
-  where
-    go : (a j t : ℕ) → target (node L a) j ≡ t → at_door (f a) j t ≡ t
-    go a j zero e = refl
-    go a j (suc b) e = h a j b e
+    ext_get_or 0 (node (redirect f L) a) (node L a) (redirect-long f L a) (λ k in'. grind (arith, redirect-get f L a (suc k), h a (suc k))))
 
 -- ---- flags
 pub flags-back : (fr us : List (Option Mark)) (a : ℕ) → get_or (flags fr us) a false ≡ true → (get_or fr a None ≡ Some tt) × (get_or us a None ≡ Some tt)
 unfolding flags
-flags-back [] us a e = absurd (false≢true e)
-flags-back (x ∷ fr) [] a e = absurd (false≢true e)
-flags-back (x ∷ fr) (u ∷ us) zero e = grind (arith, e)
-flags-back (x ∷ fr) (u ∷ us) (suc a) e = flags-back fr us a e
-
-within : (us : List (Option Mark)) (a : ℕ) → get_or us a None ≡ Some tt → a < length us
-within [] a e = absurd (none-some tt e)
-within (u ∷ us) zero e = omega arith
-within (u ∷ us) (suc a) e = let h = within us a e in omega arith
-
-ups-length : (Ls : Net) → length (marks_up Ls) ≡ width Ls
-unfolding marks_up up
-ups-length [] = refl
-ups-length (L ∷ Ls) = length-map L (λ nd. gather {A = Mark} (λ x y. tt) (climbs_of {A = Mark} (λ m k. tt) (marks_up Ls) 1 nd))
+flags-back (x ∷ fr) (u ∷ us) a e = grind (arith, e, flags-back fr us)
+flags-back fr us a e = absurd (false≢true e)
 
 rank_lt : (fs : List Bool) (X : Layer) (b : ℕ) → get_or fs b false ≡ true → b < length X → rank fs b < length (compress fs X)
 unfolding rank compress
 rank_lt [] X b e h = absurd (false≢true e)
 rank_lt (f ∷ fs) [] b e h = absurd (not-suc-le-zero h)
-rank_lt (f ∷ fs) (x ∷ X) zero e h = grind (arith, e)
-rank_lt (f ∷ fs) (x ∷ X) (suc b) e h = grind (arith, e, rank_lt fs X b)
+rank_lt (f ∷ fs) (x ∷ X) b e h = grind (arith, e, rank_lt fs X)
 
 pub compress-back : (fs : List Bool) (X : Layer) (c : ℕ) → c < length (compress fs X) → (b : ℕ) × (get_or fs b false ≡ true) × (rank fs b ≡ c) × (b < length X)
 unfolding rank compress
-compress-back [] X c h = absurd (not-suc-le-zero h)
-compress-back (f ∷ fs) [] c h = absurd (not-suc-le-zero h)
 compress-back (true ∷ fs) (x ∷ X) zero h = (0, refl, refl, omega arith)
 compress-back (true ∷ fs) (x ∷ X) (suc c) h = let q = compress-back fs X c (le_of_suc-le-suc h) in (suc q.0, q.1, ap suc q.2, omega arith)
 compress-back (false ∷ fs) (x ∷ X) c h = let q = compress-back fs X c h in (suc q.0, q.1, q.2, omega arith)
+compress-back fs X c h = absurd (omega arith)
 
-pub renumber-back : (fs : List Bool) (b c : ℕ) → renumber fs b ≡ suc c → (get_or fs b false ≡ true) × (rank fs b ≡ c)
+-- an arc that is left, renumbered
+pub stayed-arc : (fs : List Bool) (L : Layer) (a j c : ℕ) → target (node (redirect (λ a j b. renumber fs b) L) a) j ≡ suc c → (b : ℕ) × (target (node L a) j ≡ suc b) × (get_or fs b false ≡ true) × (rank fs b ≡ c)
 unfolding renumber
-renumber-back fs b c e = grind (arith, e)
+stayed-arc fs L a j c e = let q = redirect-back (λ a j b. renumber fs b) L a j c e in let x = q.2 in (q.0, q.1, grind (arith, x), grind (arith, x))
 
 -- ---- what marks say
 pub marked_from : (fr : List (Option Mark)) (L : Layer) (count b : ℕ) → get_or (marks_next fr L count) b None ≡ Some tt → (a : ℕ) × (j : ℕ) × (target (node L a) j ≡ suc b) × (get_or fr a None ≡ Some tt)
 unfolding marks_next
-marked_from fr L count b e =
-    let x = gather-any {A = Mark} (λ x y. tt) (arrivals_at {A = Mark} (λ m j. tt) b fr L) tt (next-some {A = Mark} (λ m j. tt) (λ x y. tt) fr L count b tt e) in
-    let f = ins-from {A = Mark} (λ m j. tt) b fr L x.0 x.1 in
-    (f.source, f.door, f.arc, f.labelled)
+marked_from fr L count b e = next-all {A = Mark} (λ m j. tt) (λ x y. tt) fr L count b tt (λ m. (a : ℕ) × (j : ℕ) × (target (node L a) j ≡ suc b) × (get_or fr a None ≡ Some tt)) (λ x y p q. p) (λ a j l f g. (a, j, f, g)) e
 
 pub climbs-from : (L : Layer) (Ls : Net) (a : ℕ) → get_or (marks_up (L ∷ Ls)) a None ≡ Some tt → (j : ℕ) × (b : ℕ) × (target (node L a) j ≡ suc b) × (get_or (marks_up Ls) b None ≡ Some tt)
-unfolding marks_up up
-climbs-from L Ls a e =
-    let us = marks_up Ls in
-    let x = gather-any {A = Mark} (λ x y. tt) (climbs_of {A = Mark} (λ m k. tt) us 1 (node L a)) tt (map-some (λ nd. gather {A = Mark} (λ x y. tt) (climbs_of {A = Mark} (λ m k. tt) us 1 nd)) L a tt e) in
-    let c = outs-from {A = Mark} (λ m k. tt) us x.0 1 (node L a) x.1 in
-    (suc c.skip, c.to, c.arc, c.labelled)
+unfolding marks_up
+climbs-from L Ls a e = up-all {A = Mark} (λ m k. tt) (λ x y. tt) tt L Ls a tt (λ m. (j : ℕ) × (b : ℕ) × (target (node L a) j ≡ suc b) × (get_or (marks_up Ls) b None ≡ Some tt)) (λ x y p q. p) (λ j b u f g. (j, b, f, g)) e
 
 pub climbs : (L : Layer) (Ls : Net) (a j b : ℕ) → target (node L a) j ≡ suc b → get_or (marks_up Ls) b None ≡ Some tt → get_or (marks_up (L ∷ Ls)) a None ≡ Some tt
 unfolding marks_up
-climbs L Ls a j b e g = (up_at {A = Mark} (λ x y. tt) (λ x y. Unit {0}) (λ x. tt) (λ x y z p q. tt) (λ x y. tt) (λ x y. tt) (λ m k. tt) tt L Ls a j b tt e g).1
+climbs L Ls a j b e g = (up_at {A = Mark} (λ x y. tt) (λ x. Unit {0}) (λ x y p. tt) (λ x y p. tt) (λ m k. tt) tt L Ls a j b tt e g tt).1
 
 -- ---- a layer and the next
 module _ (fr : List (Option Mark)) (L : Layer) (Ls : Net) where
@@ -134,16 +101,12 @@ module _ (fr : List (Option Mark)) (L : Layer) (Ls : Net) where
   abbrev RL : Layer
   RL = redirect (λ a j b. renumber fs b) L
 
-  flag-within : (b : ℕ) → get_or fs b false ≡ true → b < width Ls
-  flag-within b e = let h = within (marks_up Ls) b (flags-back fr' (marks_up Ls) b e).1 in omega (arith, ups-length Ls)
-
   -- every arc that is left leads to a node that is left
   arcs-lead : (X : Layer) → length X ≡ width Ls → IsRanged RL (length (compress fs X))
   arcs-lead X n a j c e =
-      let q = redirect-back (λ a j b. renumber fs b) L a j c e in
-      let h = renumber-back fs q.0 c q.2 in
-      let w = flag-within q.0 h.0 in
-      rw (← h.1) (rank_lt fs X q.0 h.0 (omega arith))
+      let q = stayed-arc fs L a j c e in
+      let w = ups-within Ls q.0 (flags-back fr' (marks_up Ls) q.0 q.2).1 in
+      rw (← q.3) (rank_lt fs X q.0 q.2 (omega arith))
 
   -- every node that is left is led to, from a node that is left
   fed_by : (X : Layer) (c : ℕ) → c < length (compress fs X) → (a : ℕ) × (j : ℕ) × (target (node RL a) j ≡ suc c) × (get_or fr a None ≡ Some tt) × (get_or (marks_up (L ∷ Ls)) a None ≡ Some tt)
@@ -152,24 +115,16 @@ module _ (fr : List (Option Mark)) (L : Layer) (Ls : Net) where
       let b = q.0 in
       let m = flags-back fr' (marks_up Ls) b q.1 in
       let s = marked_from fr L (width Ls) b m.0 in
-      (s.0, s.1, redirect-arc (λ a j b. renumber fs b) L s.0 s.1 b s.2 ∙ renumber-at fs b q.1 ∙ ap suc q.2, s.3, climbs L Ls s.0 s.1 b s.2 m.1)
+      (s.0, s.1, (arc-stays fr L Ls s.0 s.1 b s.3 s.2 m.1).1 ∙ ap suc q.2, s.3, climbs L Ls s.0 s.1 b s.2 m.1)
 
   -- every node that is left leads on
   leads-on : IsLed (compress (flags fr (marks_up (L ∷ Ls))) RL)
   leads-on c h =
       let gs = flags fr (marks_up (L ∷ Ls)) in
       let q = compress-back gs RL c h in
-      let a = q.0 in
-      let m = flags-back fr (marks_up (L ∷ Ls)) a q.1 in
-      let s = climbs-from L Ls a m.1 in
-      let j = s.0 in let b = s.1 in
-      let w : b < width Ls = omega (arith, within (marks_up Ls) b s.3, ups-length Ls) in
-      let f = flags-at fr' (marks_up Ls) b (mark-next fr L (width Ls) a j b s.2 m.0 w) s.3 in (
-        j,
-        rank fs b,
-        ap (λ (z : ℕ). target (node (compress gs RL) z) j) (sym q.2) ∙ ap (λ (nd : Outs). target nd j) (compress-at gs RL a q.1)
-            ∙ redirect-arc (λ a j b. renumber fs b) L a j b s.2 ∙ renumber-at fs b f,
-      )
+      let m = flags-back fr (marks_up (L ∷ Ls)) q.0 q.1 in
+      let s = climbs-from L Ls q.0 m.1 in
+      (s.0, rank fs s.1, ap (λ (z : ℕ). target (node (compress gs RL) z) s.0) (sym q.2) ∙ rw (compress-at gs RL q.0 q.1) (arc-stays fr L Ls q.0 s.0 s.1 m.0 s.2 s.3).1)
 
 ranged-compress : (gs : List Bool) (X : Layer) (m : ℕ) → IsRanged X m → IsRanged (compress gs X) m
 ranged-compress gs X m h c j b e =
@@ -178,12 +133,10 @@ ranged-compress gs X m h c j b e =
 
 ranged-end : (fr : List (Option Mark)) (L : Layer) → IsRanged (RL fr L []) 1
 ranged-end fr L a j c e =
-    let q = redirect-back (λ a j b. renumber (fs fr L []) b) L a j c e in
-    let h = renumber-back (fs fr L []) q.0 c q.2 in
-    let w = flag-within fr L [] q.0 h.0 in
-    let z : q.0 ≡ 0 = omega arith in
-    let y = ap (rank (fs fr L [])) (sym z) ∙ h.1 in
-    omega (arith, rank-zero (fs fr L []), y)
+    let q = stayed-arc (fs fr L []) L a j c e in
+    let w = ups-within [] q.0 (flags-back (fr' fr L []) (marks_up []) q.0 q.2).1 in
+    let y = q.3 in
+    grind (arith, w, y, rank-zero (fs fr L []))
 
 tidy-tied : (fr : List (Option Mark)) (Ls : Net) → IsTied (tidy fr Ls)
 unfolding tidy

@@ -46,19 +46,6 @@ pub ones_in : (n m : ℕ) (w : List ℕ) → IsPartOrder n w → ((j : ℕ) → 
 ones_in n m w p h = length-within n m w p (λ j i. has-true m j (h j i))
 
 -- ---- lists of doors
-pub in_split : (j : ℕ) (u v : List ℕ) → StandsIn j (u ++ v) → StandsIn j u ⊎ StandsIn j v
-in_split j [] v h = inr h
-in_split j (x ∷ u) v (inl e) = inl (inl e)
-in_split j (x ∷ u) v (inr h) = go (in_split j u v h)
-  where
-    go : StandsIn j u ⊎ StandsIn j v → StandsIn j (x ∷ u) ⊎ StandsIn j v
-    go (inl a) = inl (inr a)
-    go (inr a) = inr a
-
-pub in-snd : (j : ℕ) (u v : List ℕ) → StandsIn j v → StandsIn j (u ++ v)
-in-snd j [] v h = h
-in-snd j (x ∷ u) v h = inr (in-snd j u v h)
-
 pub part-tail : (n : ℕ) (u v : List ℕ) → IsPartOrder n (u ++ v) → IsPartOrder n v
 part-tail n [] v p = p
 part-tail n (x ∷ u) v p = part-tail n u v p.2
@@ -108,8 +95,7 @@ module _ (r : Round) (m j : ℕ) where
   legs-le : (k i t : ℕ) (o : Option ℕ) → i ≤ t → t < i + k → has m t ≡ true → eqb t j ≡ false → or_zero (legs r m j k i o) ≤ drive r t j
   unfolding leg_step
   legs-le zero i t o a b h g = absurd (omega arith)
-  legs-le (suc k) i t None a b h g = grind (arith, nat_tests, h, g, legs-le k (i + 1) t, legs-below k (i + 1))
-  legs-le (suc k) i t (Some d) a b h g = grind (arith, nat_tests, h, g, legs-le k (i + 1) t, legs-below k (i + 1))
+  legs-le (suc k) i t o a b h g = grind (arith, nat_tests, h, g, legs-le k (i + 1) t, legs-below k (i + 1))
 
   pub leg-le : (t : ℕ) → t ≤ r.n → has m t ≡ true → eqb t j ≡ false → leg r m j ≤ drive r t j
   unfolding leg
@@ -118,8 +104,7 @@ module _ (r : Round) (m j : ℕ) where
   legs-bound : (k i : ℕ) (o : Option ℕ) → or_zero o ≤ 999 → or_zero (legs r m j k i o) ≤ 999
   unfolding leg_step
   legs-bound zero i o h = h
-  legs-bound (suc k) i None h = grind (arith, nat_tests, r.legs i j, legs-bound k (i + 1))
-  legs-bound (suc k) i (Some d) h = grind (arith, nat_tests, r.legs i j, legs-bound k (i + 1))
+  legs-bound (suc k) i o h = grind (arith, nat_tests, h, r.legs i j, legs-bound k (i + 1))
 
   pub leg-bound : leg r m j ≤ 999
   unfolding leg

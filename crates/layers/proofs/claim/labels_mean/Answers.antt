@@ -1,4 +1,4 @@
-use Rattle.layers.proofs.Meaning.{labels-mean}
+use Rattle.layers.proofs.Main.{labels-mean}
 use Rattle.layers.proofs.claim.labels_mean.Goals as goal
 
 pub returns : goal.returns
