@@ -1,5 +1,5 @@
 -- The two passes over records with the arcs of a net leave the net laid out with its labels.
-use Rattle.std.proofs.Common.{◌≡◌, ℕ, zero, suc, ◌+◌, ◌-◌, ◌*◌, ◌<◌, ◌≤◌, Bool, true, false, cond, not, eqb, List, [], ◌∷◌, ◌++◌, map, length, get_or, take, drop, Some, None, Option, sym, refl, ap, ◌∙◌, subst, ap₂, ⊎_elim, append_assoc, suc-mul, zero-mul, add-one, arith}
+use Rattle.std.proofs.Common.{◌≡◌, ℕ, zero, suc, ◌+◌, ◌-◌, ◌*◌, ◌<◌, ◌≤◌, Bool, true, false, cond, not, eqb, List, [], ◌∷◌, ◌++◌, map, length, get_or, take, drop, Some, None, Option, sym, refl, ap, ◌∙◌, subst, ap₂, ⊎_elim, inl, append_assoc, suc-mul, zero-mul, add-one, arith}
 use Rattle.std.specs.List.{flat_map}
 use Rattle.round.specs.Clock.{latest_finish}
 use Rattle.std.proofs.lemmas.List.FromFn.{get_or-map-range_with_len, length-map-range_with_len}
@@ -18,7 +18,7 @@ use Rattle.layers.specs.Flow.{arrivals_at, gather, next, climbs_of, up}
 use Rattle.layers.specs.Lawful.{IsRanged, IsTied, IsRoomy, IsEven, IsLawful}
 use Rattle.layers.specs.Labels.{leg, arrival_over, merge, first_label, first_labels, labels_next, climb, merge_up, no_up, ups}
 use Rattle.layers.specs.Records.{is_used, nodes_in, arcs_read, laid_arcs, arcs_at, record_of_place, labelled_from, labelled_records}
-use Rattle.layers.proofs.Flows.{table_at, ins-from, next-some, gather-all, gather-any}
+use Rattle.layers.proofs.Flows.{Among, table_at, ins-from, next-some, gather-all}
 use Rattle.layers.proofs.Bridge.{table-long, map-table, ups-full, ups-end, Fit, Full, full-first}
 use Rattle.layers.specs.Calls.{records_with}
 use Rattle.layers.proofs.Proper.{RangedAll, tied-ranged}
@@ -50,6 +50,12 @@ mapped-is f g zero [] e h = refl
 mapped-is f g zero (u ∷ us) e h = absurd (omega arith)
 mapped-is f g (suc w) [] e h = absurd (omega arith)
 mapped-is f g (suc w) (u ∷ us) e h = ap₂ (λ y ys. y ∷ ys) (h 0 u (omega arith)) (mapped-is f (λ k. g (suc k)) w us (omega arith) (λ a d lt. h (suc a) d (omega arith)))
+
+-- what is gathered comes from some one
+gather-any : {A : Type 0} (merge : A → A → A) (l : List A) (m : A) → gather merge l ≡ Some m → (x : A) × Among x l
+unfolding gather
+gather-any merge [] m e = absurd cc
+gather-any merge (x ∷ l) m e = (x, inl refl)
 
 -- ---- arcs alone
 -- the arcs of the records are those of the net, w records to a layer, and the end's

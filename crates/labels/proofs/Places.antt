@@ -17,7 +17,7 @@ module _ {S V : Type 0} where
   abbrev pub Stands : (Node S V → Type 0) → ℕ → List (Node S V) → Type 0
   Stands Q m us = (a : ℕ) (d : Node S V) → a < length us → (a < m → is_used (get_or us a d) ≡ true) × (m ≤ a → Q (get_or us a d))
 
-  all-same : (f : Node S V → Node S V) (us : List (Node S V)) → ((a : ℕ) (d : Node S V) → a < length us → f (get_or us a d) ≡ get_or us a d) → map f us ≡ us
+  pub all-same : (f : Node S V → Node S V) (us : List (Node S V)) → ((a : ℕ) (d : Node S V) → a < length us → f (get_or us a d) ≡ get_or us a d) → map f us ≡ us
   all-same f [] g = refl
   all-same f (u ∷ us) g = grind (arith, g 0 u, all-same f us (λ a d lt. g (suc a) d (omega arith)))
 

@@ -10,7 +10,6 @@ use Rattle.layers.specs.Records.{is_used, nodes_in}
 use Rattle.layers.specs.Targets.{targets, with_targets}
 use Rattle.layers.specs.Tidy.{rank, renumber}
 use Rattle.layers.proofs.Flows.{renumber-at}
-use Rattle.layers.proofs.Tied.{renumber-back}
 use Rattle.tidying.specs.Tidied.{lively, reached_next, renewed, renew_at, renewals, together, numbers, tidied}
 use Rattle.tidying.proofs.InUse.{nodes-few, nodes-used, nodes-past, nodes-after, nodes-blank}
 use Rattle.tidying.proofs.Lists.{get_or-mapped, get_or-tail, zero-or-suc}
@@ -29,6 +28,10 @@ module _ {S V : Type 0} (z : Node S V) (new : List ℕ) (x : Node S V) where
   unfolding renewed
   renewed-off true e = absurd (true≢false e)
   renewed-off false e = refl
+
+renumber-back : (fs : List Bool) (b c : ℕ) → renumber fs b ≡ suc c → (get_or fs b false ≡ true) × (rank fs b ≡ c)
+unfolding renumber
+renumber-back fs b c e = grind (arith, e)
 
 -- a node with arcs among these stands at its rank among those that have some
 kept-at : {S V : Type 0} (vs : List (Node S V)) (a : ℕ) (z : Node S V) → lively (get_or vs a z) ≡ true → get_or (filter lively vs) (rank (map lively vs) a) z ≡ get_or vs a z
