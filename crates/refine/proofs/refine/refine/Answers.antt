@@ -7,4 +7,5 @@ pub returns-clause-words : goal.returns-clause-words
 unfolding refine_steps
 returns-clause-words g c fit s =
     let by = lent_setting c.args.by.now (g.R.Rule.sense c.args.by.now.rule.now) (g.T.Tally.sense c.args.by.now.tally.now) in
-    refine_done by (g.met.R.Rule.reflexive c.args.by.now.rule.now) c.args.nodes.now fit s c.sweep_out.new.nodes c.refine_layers-answer.result (cc) (cc)
+    refine_done by (g.met.R.Rule.reflexive c.args.by.now.rule.now) c.args.nodes.now fit s c.sweep_out.new.nodes c.refine_layers-answer.result
+    (rw (c.sweep_out.ensures, c.refine_layers-answer.ensures.records)) c.refine_layers-answer.ensures.answer
