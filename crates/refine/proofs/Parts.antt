@@ -1,6 +1,6 @@
 -- Parting on arcs: the new node is a copy of an old one, its label too. So are the labels of the parted net, as far as relabelling from the layer on rests on them.
 use Rattle.std.proofs.Common.{◌≡◌, ℕ, zero, suc, ◌+◌, ◌-◌, ◌*◌, ◌<◌, ◌≤◌, Bool, ◌&&◌, eqb, List, [], ◌∷◌, ◌++◌, map, length, get_or, take, drop, set, Some, None, Option, sym, refl, ap, ◌∙◌, subst, ap₂, ⊎_elim, append_assoc, suc-mul, zero-mul, arith}
-use lib.Seq.{take-set-lt, take-append-add}
+use lib.Seq.{take-set-lt}
 use lib.ListN.{get_or-map as get_or-mapped}
 use Rattle.std.proofs.lemmas.Bool.{cases_lt, cond_both, eqb-true, and_parts}
 use Rattle.std.proofs.lemmas.List.{take-map, take-set-le, take-append-drop, map-append, map-set, length-map, length-take-le, length-drop, get_or-take, get_or-map, get_or_past, get_or_append_left, get_or-append_right, set-append_left, set-append_right}
