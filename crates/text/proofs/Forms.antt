@@ -38,65 +38,31 @@ then_ok : {A B : Type 0} (r : Result A Refusal) (k : A → Result B Refusal) (b 
 then_ok (Ok a) k b e = (a, refl, e)
 then_ok (Err x) k b e = absurd cc
 
--- a test that was passed
-if_ok : {A : Type 0} (t : Bool) (r : Result A Refusal) (x : Refusal) (b : A) → (if t then r else Err x) ≡ Ok b → (t ≡ true) × (r ≡ Ok b)
-if_ok true r x b e = (refl, e)
-if_ok false r x b e = absurd cc
-
 -- a number that went on
 then-number : {B : Type 0} (low high : ℕ) (f : List ℕ) (line k : ℕ) (K : ℕ → Result B Refusal) (b : B) → high ≤ 9999 → and_then (number_in low high f line k) K ≡ Ok b → (v : ℕ) × Says low high f v × (K v ≡ Ok b)
 then-number low high f line k K b l e =
     let a = then_ok (number_in low high f line k) K b e in
     (a.0, number-says low high f line k a.0 l a.1, a.2)
 
--- ---- kinds
+-- where a line is taken, its kind is the one that is due, which its word alone names
+abbrev Taken : Stage → Draft → ℕ → List (List ℕ) → Stage × Draft → Type 0
+Taken Head d line fs t = (codes "round" ≡ slice_index_or fs 0 []) × (kind_step Head Round d line fs ≡ Ok t)
+Taken (Doors k) d line fs t = (codes "door" ≡ slice_index_or fs 0 []) × (kind_step (Doors k) Door d line fs ≡ Ok t)
+Taken (Drives k) d line fs t = (codes "drive" ≡ slice_index_or fs 0 []) × (kind_step (Drives k) Drive d line fs ≡ Ok t)
+Taken Pairs d line fs t = (codes "first" ≡ slice_index_or fs 0 []) × (kind_step Pairs First d line fs ≡ Ok t)
 
--- the kind that is due
-abbrev due : Stage → Kind
-due Head = Round
-due (Doors k) = Door
-due (Drives k) = Drive
-due Pairs = First
+line-due : (s : Stage) (d : Draft) (line : ℕ) (fs : List (List ℕ)) (t : Stage × Draft) → line_step s d line fs ≡ Ok t → Taken s d line fs t
+line-due Head d line fs t e = grind (arith, bytes_eq-Decides (slice_index_or fs 0 []))
+line-due (Doors k) d line fs t e = grind (arith, bytes_eq-Decides (slice_index_or fs 0 []))
+line-due (Drives k) d line fs t e = grind (arith, bytes_eq-Decides (slice_index_or fs 0 []))
+line-due Pairs d line fs t e = grind (arith, bytes_eq-Decides (slice_index_or fs 0 []))
 
--- where a line is taken, its kind is the one that is due
-kind-due : (s : Stage) (k : Kind) (d : Draft) (line : ℕ) (fs : List (List ℕ)) (t : Stage × Draft) → kind_step s k d line fs ≡ Ok t → k ≡ due s
-kind-due Head Round d line fs t e = refl
-kind-due (Doors i) Door d line fs t e = refl
-kind-due (Drives i) Drive d line fs t e = refl
-kind-due Pairs First d line fs t e = refl
-kind-due s k d line fs t e = absurd cc
-
--- a kind is named by its word alone
-abbrev Named : Kind → List ℕ → Type 0
-Named Round f = codes "round" ≡ f
-Named Door f = codes "door" ≡ f
-Named Drive f = codes "drive" ≡ f
-Named First f = codes "first" ≡ f
-Named Other f = Unit {0}
-
--- a field is a word or is not
-word_tells : (f w : List ℕ) → ((bytes_eq f w ≡ true) × (f ≡ w)) ⊎ ((bytes_eq f w ≡ false) × (f ≢ w))
-word_tells f w = grind (arith, bytes_eq-Decides f w)
-
-named-is : (f : List ℕ) (k : Kind) → named f ≡ k → Named k f
-named-is f Round e = grind (arith, word_tells f)
-named-is f Door e = grind (arith, word_tells f)
-named-is f Drive e = grind (arith, word_tells f)
-named-is f First e = grind (arith, word_tells f)
-named-is f Other e = tt
-
--- a line that is taken has the word of the kind that is due
-line-due : (s : Stage) (d : Draft) (line : ℕ) (fs : List (List ℕ)) (t : Stage × Draft) → line_step s d line fs ≡ Ok t → Named (due s) (slice_index_or fs 0 []) × (kind_step s (due s) d line fs ≡ Ok t)
-line-due s d line fs t e =
-    let k = kind-due s (named (slice_index_or fs 0 [])) d line fs t e in
-    (named-is (slice_index_or fs 0 []) (due s) k, rw k at e)
-
--- the fields of a line that has so many
-fields-are : {A : Type 0} (n line : ℕ) (fs : List (List ℕ)) (r : Result A Refusal) (b : A) → counted n line fs r ≡ Ok b → (length fs ≡ n) × (fs ≡ map (λ k. slice_index_or fs k []) (range_with_len 0 n)) × (r ≡ Ok b)
-fields-are n line fs r b e =
-    let c = if_ok (nat_eq (length fs) n) r (FieldCount line) b e in
-    let many = eqb-true (length fs) n c.0 in
-    (many, fill_by_all (λ k. slice_index_or fs k []) fs n [] many (λ k m. refl), c.1)
+-- the fields of a line that has so many, where what they say went on
+fields-are : {A B : Type 0} (n line : ℕ) (fs : List (List ℕ)) (r : Result A Refusal) (k : A → Result B Refusal) (b : B) → and_then (counted n line fs r) k ≡ Ok b → (length fs ≡ n) × (fs ≡ map (λ k. slice_index_or fs k []) (range_with_len 0 n)) × (a : A) × (r ≡ Ok a) × (k a ≡ Ok b)
+fields-are n line fs r k b e =
+    let o = then_ok (counted n line fs r) k b e in
+    let c : (length fs ≡ n) × (r ≡ Ok o.0) = grind (arith, nat_tests, o.1) in
+    (c.0, fill_by_all (λ k. slice_index_or fs k []) fs n [] c.0 (λ k m. refl), o.0, c.1, o.2)
 
 -- ---- a line of each kind
 
@@ -104,23 +70,21 @@ fields-are n line fs r b e =
 pair-form : (d : Draft) (line : ℕ) (fs : List (List ℕ)) (t : Stage × Draft) → d.n ≤ 16 → line_step Pairs d line fs ≡ Ok t → (p : pair.Pair) × (pair_fields p ≡ fs) × PairFits d.n p × ((Pairs, with_pair d p) ≡ t)
 pair-form d line fs t l e =
     let q = line-due Pairs d line fs t e in
-    let o = then_ok (pair_of d.n line fs) _ t q.1 in
-    let c = fields-are 3 line fs _ o.0 o.1 in
-    let a = then-number 1 d.n (slice_index_or fs 1 []) line 2 _ o.0 (omega arith) c.2 in
-    let b = then-number 1 d.n (slice_index_or fs 2 []) line 3 _ o.0 (omega arith) a.2 in
+    let c = fields-are 3 line fs _ _ t q.1 in
+    let a = then-number 1 d.n (slice_index_or fs 1 []) line 2 _ c.2 (omega arith) c.3 in
+    let b = then-number 1 d.n (slice_index_or fs 2 []) line 3 _ c.2 (omega arith) a.2 in
     let p : pair.Pair = record { first = a.0; then = b.0 } in
-    let r : (a.0 ≢ b.0) × (p ≡ o.0) = grind (arith, nat_tests, b.2) in
+    let r : (a.0 ≢ b.0) × (p ≡ c.2) = grind (arith, nat_tests, b.2) in
     (p, cc, record { first = a.1.from; most = a.1.to; second = b.1.from; last = b.1.to; apart = r.0 }, cc)
 
 -- so is a round line
 head-form : (line : ℕ) (fs : List (List ℕ)) (t : Stage × Draft) → line_step Head unread line fs ≡ Ok t → (h : head.Head) × (head_fields h ≡ fs) × Says 1 16 (slice_index_or fs 1 []) h.n × Says h.load 999 (slice_index_or fs 3 []) h.cap × ((Doors 1, with_head unread h) ≡ t)
 head-form line fs t e =
     let q = line-due Head unread line fs t e in
-    let o = then_ok (head_of line fs) _ t q.1 in
-    let c = fields-are 4 line fs _ o.0 o.1 in
-    let a = then-number 1 16 (slice_index_or fs 1 []) line 2 _ o.0 (omega arith) c.2 in
-    let b = then-number 0 999 (slice_index_or fs 2 []) line 3 _ o.0 (omega arith) a.2 in
-    let f = then-number b.0 999 (slice_index_or fs 3 []) line 4 _ o.0 (omega arith) b.2 in
+    let c = fields-are 4 line fs _ _ t q.1 in
+    let a = then-number 1 16 (slice_index_or fs 1 []) line 2 _ c.2 (omega arith) c.3 in
+    let b = then-number 0 999 (slice_index_or fs 2 []) line 3 _ c.2 (omega arith) a.2 in
+    let f = then-number b.0 999 (slice_index_or fs 3 []) line 4 _ c.2 (omega arith) b.2 in
     (record { n = a.0; load = b.0; cap = f.0 }, cc, a.1, f.1, cc)
 
 -- where a line goes on after its number, that is the one that is due
@@ -128,17 +92,16 @@ turn-says : {A : Type 0} (low high due line : ℕ) (fs : List (List ℕ)) (r : R
 turn-says low high due line fs r b l e =
     let o = then_ok (in_turn low high due line fs) _ b e in
     let a = then-number low high (slice_index_or fs 1 []) line 2 _ o.0 l o.1 in
-    let c = if_ok (nat_eq a.0 due) (Ok tt) (OutOfTurn line 2) o.0 a.2 in
-    (subst (Says low high (slice_index_or fs 1 [])) (eqb-true a.0 due c.0) a.1, o.2)
+    let c : a.0 ≡ due = grind (arith, nat_tests, a.2) in
+    (rw (← c) a.1, o.2)
 
 -- so is a door line
 door-form : (d : Draft) (k line : ℕ) (fs : List (List ℕ)) (t : Stage × Draft) → d.n ≤ 16 → line_step (Doors k) d line fs ≡ Ok t → (x : door.Door) × (door_fields k x ≡ fs) × DoorFits x × ((if nat_lt k d.n then Doors (k + 1) else Drives 0, with_door d k x) ≡ t)
 door-form d k line fs t l e =
     let q = line-due (Doors k) d line fs t e in
-    let o = then_ok (door_due d.n k line fs) _ t q.1 in
-    let x = o.0 in
-    let c = fields-are 7 line fs _ x o.1 in
-    let i = turn-says 1 d.n k line fs _ x (omega arith) c.2 in
+    let c = fields-are 7 line fs _ _ t q.1 in
+    let x = c.2 in
+    let i = turn-says 1 d.n k line fs _ x (omega arith) c.3 in
     let a = then-number 0 9999 (slice_index_or fs 2 []) line 3 _ x (omega arith) i.1 in
     let b = then-number 0 9999 (slice_index_or fs 3 []) line 4 _ x (omega arith) a.2 in
     let f = then-number 0 9999 (slice_index_or fs 4 []) line 5 _ x (omega arith) b.2 in
@@ -153,7 +116,7 @@ door-form d k line fs t l e =
 leg-form : (i j line : ℕ) (fs : List (List ℕ)) (v : ℕ) → leg_in i j line fs ≡ Ok v → (leg_field i j v ≡ slice_index_or fs (j + 2 - 1) []) × LegFits i j v
 leg-form i j line fs v e =
     let f = slice_index_or fs (j + 2 - 1) [] in
-    grind (arith, nat_tests, word_tells f (codes "-"), number-says 0 999 f line (j + 2) v)
+    grind (arith, nat_tests, bytes_eq-Decides f (codes "-"), number-says 0 999 f line (j + 2) v)
 
 -- and the fields of the drives to the doors from j on
 legs-form : (m i j line : ℕ) (fs : List (List ℕ)) (row out : List ℕ) → length fs ≡ j + 1 + m → row_from m i j line fs row ≡ Ok out → (vs : List ℕ) × (length vs ≡ m) × (map_from (leg_field i) j vs ≡ drop (j + 1) fs) × (fill j vs row ≡ out) × AllFrom (LegFits i) j vs
@@ -171,10 +134,9 @@ legs-form (suc m) i j line fs row out l e =
 row-form : (d : Draft) (k line : ℕ) (fs : List (List ℕ)) (t : Stage × Draft) → d.n ≤ 16 → line_step (Drives k) d line fs ≡ Ok t → (vs : List ℕ) × (row_fields k vs ≡ fs) × RowFits d.n k vs × ((if nat_lt k d.n then Drives (k + 1) else Pairs, with_row d k (row_of vs)) ≡ t)
 row-form d k line fs t l e =
     let q = line-due (Drives k) d line fs t e in
-    let o = then_ok (row_due d.n k line fs) _ t q.1 in
-    let c = fields-are (d.n + 2) line fs _ o.0 o.1 in
-    let i = turn-says 0 d.n k line fs _ o.0 (omega arith) c.2 in
-    let r = legs-form d.n k 1 line fs (replicate 17 0) o.0 (omega arith) i.1 in
+    let c = fields-are (d.n + 2) line fs _ _ t q.1 in
+    let i = turn-says 0 d.n k line fs _ c.2 (omega arith) c.3 in
+    let r = legs-form d.n k 1 line fs (replicate 17 0) c.2 (omega arith) i.1 in
     let s = drop_more fs 0 [] (omega arith) in
     let u = drop_more fs 1 [] (omega arith) in
     (r.0, cc, (r.1, r.4), cc)
@@ -195,8 +157,8 @@ end-run line s d e h = absurd cc
 run-lines : (ps : List (List ℕ)) (line : ℕ) (s : Stage) (d e : Draft) → 0 < length ps → read_lines ps line s d ≡ Ok e → (fss : List (List (List ℕ))) × (written fss ≡ join_with_byte 10 ps) × Run fss s d e
 run-lines [] line s d e l h = absurd (omega arith)
 run-lines (p ∷ []) line s d e l h =
-    let a = if_ok (nat_eq (length p) 0) (at_end s d line) (Unended line) e h in
-    ([], sym (nil_from_length p (eqb-true (length p) 0 a.0)), end-run line s d e a.1)
+    let a : (length p ≡ 0) × (at_end s d line ≡ Ok e) = grind (arith, nat_tests) in
+    ([], sym (nil_from_length p a.0), end-run line s d e a.1)
 run-lines (p ∷ q ∷ ps) line s d e l h =
     let a = then_ok (line_step s d line (fields_in p)) _ e h in
     let r = run-lines (q ∷ ps) (line + 1) a.0.0 a.0.1 e (omega arith) a.2 in
