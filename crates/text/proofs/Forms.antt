@@ -145,20 +145,15 @@ row-form d k line fs t l e =
 
 -- the lines by their fields, one step for each
 abbrev Run : List (List (List ℕ)) → Stage → Draft → Draft → Type 0
-Run [] s d e = (s ≡ Pairs) × (d ≡ e)
+Run [] s d e = (line : ℕ) × (at_end s d line ≡ Ok e)
 Run (fs ∷ fss) s d e = (line : ℕ) × (t : Stage × Draft) × (line_step s d line fs ≡ Ok t) × Run fss t.0 t.1 e
-
--- a text ends with pairs
-end-run : (line : ℕ) (s : Stage) (d e : Draft) → at_end s d line ≡ Ok e → (s ≡ Pairs) × (d ≡ e)
-end-run line Pairs d e h = (refl, cc)
-end-run line s d e h = absurd cc
 
 -- the lines of an accepted text are taken one after another
 run-lines : (ps : List (List ℕ)) (line : ℕ) (s : Stage) (d e : Draft) → 0 < length ps → read_lines ps line s d ≡ Ok e → (fss : List (List (List ℕ))) × (written fss ≡ join_with_byte 10 ps) × Run fss s d e
 run-lines [] line s d e l h = absurd (omega arith)
 run-lines (p ∷ []) line s d e l h =
     let a : (length p ≡ 0) × (at_end s d line ≡ Ok e) = grind (arith, nat_tests) in
-    ([], sym (nil_from_length p a.0), end-run line s d e a.1)
+    ([], sym (nil_from_length p a.0), (line, a.1))
 run-lines (p ∷ q ∷ ps) line s d e l h =
     let a = then_ok (line_step s d line (fields_in p)) _ e h in
     let r = run-lines (q ∷ ps) (line + 1) a.0.0 a.0.1 e (omega arith) a.2 in
@@ -167,7 +162,7 @@ run-lines (p ∷ q ∷ ps) line s d e l h =
 
 -- the lines from the first pair on
 pairs-form : (fss : List (List (List ℕ))) (d e : Draft) → d.n ≤ 16 → Run fss Pairs d e → (qs : List pair.Pair) × (map pair_fields qs ≡ fss) × (record d { ahead = fold with_ahead d.ahead qs } ≡ e) × All (PairFits d.n) qs
-pairs-form [] d e l r = ([], refl, r.1, All-nil (PairFits d.n))
+pairs-form [] d e l r = ([], refl, cc, All-nil (PairFits d.n))
 pairs-form (fs ∷ fss) d e l r =
     let q = pair-form d r.0 fs r.1 l r.2 in
     let i = pairs-form fss (with_pair d q.0) e l (subst (λ (z : Stage × Draft). Run fss z.0 z.1 e) (sym q.3) r.3) in

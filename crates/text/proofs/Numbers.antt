@@ -43,16 +43,11 @@ value-step a i l d e =
 
 -- ---- from the bytes to the number
 
--- digits that do not start with 0 are how their value is written
-decimal-positive : (f : List ℕ) → positive f ≡ true → digits_value 10 f ≤ 9999 → decimal (digits_value 10 f) ≡ f
-decimal-positive f e l =
-    let p : (all_ascii_digits f ≡ true) × (48 < slice_index_or f 0 0) = grind (arith, nat_tests) in
-    decimal-digits_value own f p.0 (grind (arith, get_or_past f 0 0)) (λ z. absurd (omega arith)) (omega arith)
-
--- so is 0
+-- digits with no leading zero are how their value is written
 decimal-plain : (f : List ℕ) → plain f ≡ true → digits_value 10 f ≤ 9999 → decimal (digits_value 10 f) ≡ f
 decimal-plain f e l =
-    grind (arith, nat_tests, bytes_eq-Decides f (codes "0"), decimal-positive f, decimal_digit 0 (omega arith))
+    let p : (all_ascii_digits f ≡ true) × (0 < length f) × (slice_index_or f 0 0 ≡ 48 → length f ≡ 1) = grind (arith, nat_tests, bytes_eq-Decides f (codes "0"), get_or_past f 0 0) in
+    decimal-digits_value own f p.0 p.1 p.2 (omega arith)
 
 -- v is a number from low to high, and f is how it is written
 pub record Says (low high : ℕ) (f : List ℕ) (v : ℕ) : Type 0 where
@@ -88,7 +83,7 @@ change-says f line k z e =
     let q : ((plain f ≡ true) × (v ≤ 99) × (pos v ≡ z)) ⊎ ((minus f ≡ true) × (w ≤ 99) × (neg_ℤ (pos w) ≡ z)) = grind (arith, nat_tests) in
     ⊎_elim
     (λ p. subst (Changes f) p.2 (record { text = decimal-plain f p.0 (omega (arith, p.1)); low = omega (arith, ints, p.1); high = omega (arith, ints, p.1) }))
-    (λ m. subst (Changes f) m.2 (changes-minus f w m.0 (decimal-positive (drop 1 f) (grind (arith, nat_tests, m.0)) (omega (arith, m.1))) m.1))
+    (λ m. subst (Changes f) m.2 (changes-minus f w m.0 (decimal-plain (drop 1 f) (grind (arith, nat_tests, m.0)) (omega (arith, m.1))) m.1))
     q
 
 -- ---- from the number to the bytes
