@@ -26,8 +26,8 @@ use Rattle.text.specs.Reading.{read_lines, read_text}
 use Rattle.text.specs.Drafts.{unread, with_head, with_door, with_row, with_ahead, with_pair}
 use Rattle.text.specs.Form.{Content, Fits, map_from, head_fields, door_fields, leg_field, row_fields, pair_fields, records, written, AllFrom, DoorFits, LegFits, RowFits, PairFits, fill, row_of, round_of, HasForm}
 use Rattle.text.proofs.Numbers.{own, number-back, change-back}
-use Rattle.text.proofs.Pieces.{Lacks, some-piece, pieces_more}
-use Rattle.text.proofs.Texts.{read_more}
+use Rattle.text.proofs.Pieces.{Lacks, pieces_more}
+use Rattle.text.proofs.Texts.{read-step, doors_from, drives_from, after}
 
 -- ---- what stands in a field is no separator
 
@@ -58,24 +58,18 @@ lacks-clear s f l h =
 abbrev Clean : List (List ℕ) → Type 0
 Clean fs = (0 < length fs) × (list_all clear fs ≡ true)
 
--- such fields, joined by tabs, are cut into the same fields
-pieces-joined : (fs : List (List ℕ)) → Clean fs → fields_in (join_with_byte 9 fs) ≡ fs
-pieces-joined [] c = absurd (omega arith)
-pieces-joined (f ∷ []) c =
-    slice_split_none (λ b. nat_eq b 9) f (lacks-clear 9 f (omega arith) (and_parts (clear f) true c.1).0)
-pieces-joined (f ∷ g ∷ fs) c =
+-- such fields, joined by tabs, are cut into the same fields, and have no line feed
+joined : (fs : List (List ℕ)) → Clean fs → (fields_in (join_with_byte 9 fs) ≡ fs) × Lacks 10 (join_with_byte 9 fs)
+joined [] c = absurd (omega arith)
+joined (f ∷ []) c =
+    let p = and_parts (clear f) true c.1 in
+    (slice_split_none (λ b. nat_eq b 9) f (lacks-clear 9 f (omega arith) p.0), lacks-clear 10 f (omega arith) p.0)
+joined (f ∷ g ∷ fs) c =
     let p = and_parts (clear f) (list_all clear (g ∷ fs)) c.1 in
-    pieces_more 9 f (join_with_byte 9 (g ∷ fs)) (lacks-clear 9 f (omega arith) p.0)
-    ∙ ap (λ t. f ∷ t) (pieces-joined (g ∷ fs) (omega arith, p.1))
-
--- no line feed stands in a line of such fields
-lacks-joined : (fs : List (List ℕ)) → list_all clear fs ≡ true → Lacks 10 (join_with_byte 9 fs)
-lacks-joined [] c = All-nil (λ b. nat_eq b 10 ≡ false)
-lacks-joined (f ∷ []) c = lacks-clear 10 f (omega arith) (and_parts (clear f) true c).0
-lacks-joined (f ∷ g ∷ fs) c =
-    let p = and_parts (clear f) (list_all clear (g ∷ fs)) c in
-    All-append (λ b. nat_eq b 10 ≡ false) f (9 ∷ join_with_byte 9 (g ∷ fs)) (lacks-clear 10 f (omega arith) p.0)
-    (All-cons (λ b. nat_eq b 10 ≡ false) 9 (join_with_byte 9 (g ∷ fs)) refl (lacks-joined (g ∷ fs) p.1))
+    let i = joined (g ∷ fs) (omega arith, p.1) in
+    let w = join_with_byte 9 (g ∷ fs) in
+    (pieces_more 9 f w (lacks-clear 9 f (omega arith) p.0) ∙ ap (λ t. f ∷ t) i.0,
+      All-append (λ b. nat_eq b 10 ≡ false) f (9 ∷ w) (lacks-clear 10 f (omega arith) p.0) (All-cons (λ b. nat_eq b 10 ≡ false) 9 w refl i.1))
 
 -- ---- a line of each kind is taken
 
@@ -86,9 +80,9 @@ Gives fss line s d e = read_lines (lines_in (written fss)) line s d ≡ Ok e
 -- a line that is taken, and the lines after it
 line-gives : (fs : List (List ℕ)) (fss : List (List (List ℕ))) (line : ℕ) (s t : Stage) (d u e : Draft) → Clean fs → line_step s d line fs ≡ Ok (t, u) → Gives fss (line + 1) t u e → Gives (fs ∷ fss) line s d e
 line-gives fs fss line s t d u e c h g =
-    let r = read_more (join_with_byte 9 fs) (lines_in (written fss)) line s d (some-piece 10 (written fss)) in
-    let step = pieces_more 10 (join_with_byte 9 fs) (written fss) (lacks-joined fs c.1) in
-    rw (step, ← r, pieces-joined fs c, h) g
+    let j = joined fs c in
+    let w = join_with_byte 9 fs in
+    sym (read-step (w ++ 10 ∷ written fss) w (written fss) line s d (Ok (t, u)) (pieces_more 10 w (written fss) j.1) (rw j.0 (sym h))) ∙ g
 
 -- the round line is taken as it is written
 head-back : (d : Draft) (h : head.Head) (line : ℕ) → 1 ≤ h.n → h.n ≤ 16 → h.load ≤ h.cap → h.cap ≤ 999 → line_step Head d line (head_fields h) ≡ Ok (Doors 1, with_head d h)
@@ -96,7 +90,7 @@ head-back d h line a b c e =
     rw (number-back 1 16 h.n line 2 a b (omega arith), number-back 0 999 h.load line 3 (omega arith) (omega arith) (omega arith), number-back h.load 999 h.cap line 4 c e (omega arith))
 
 -- so is the line of door k
-door-back : (k : ℕ) (d : Draft) (x : door.Door) (line : ℕ) → 1 ≤ k → k ≤ d.n → d.n ≤ 16 → DoorFits x → line_step (Doors k) d line (door_fields k x) ≡ Ok (if nat_lt k d.n then Doors (k + 1) else Drives 0, with_door d k x)
+door-back : (k : ℕ) (d : Draft) (x : door.Door) (line : ℕ) → 1 ≤ k → k ≤ d.n → d.n ≤ 16 → DoorFits x → line_step (Doors k) d line (door_fields k x) ≡ Ok (doors_from d.n (k + 1), with_door d k x)
 door-back k d x line a b c f =
     rw (
       number-back 1 d.n k line 2 a b (omega arith),
@@ -106,6 +100,7 @@ door-back k d x line a b c f =
       number-back 0 9999 x.due line 5 (omega arith) f.due (omega arith),
       number-back 1 999 x.work line 6 f.some f.work (omega arith),
       change-back x.change line 7 f.low f.high,
+      after d.n k (Doors (k + 1)) (Drives 0),
     )
 
 -- and the line of a pair
@@ -139,11 +134,11 @@ length-map_from f i [] = refl
 length-map_from f i (x ∷ xs) = ap suc (length-map_from f (i + 1) xs)
 
 -- and the drive line of place k
-row-back : (k : ℕ) (d : Draft) (vs : List ℕ) (line : ℕ) → k ≤ d.n → d.n ≤ 16 → RowFits d.n k vs → line_step (Drives k) d line (row_fields k vs) ≡ Ok (if nat_lt k d.n then Drives (k + 1) else Pairs, with_row d k (row_of vs))
+row-back : (k : ℕ) (d : Draft) (vs : List ℕ) (line : ℕ) → k ≤ d.n → d.n ≤ 16 → RowFits d.n k vs → line_step (Drives k) d line (row_fields k vs) ≡ Ok (drives_from d.n (k + 1), with_row d k (row_of vs))
 row-back k d vs line a b f =
     let many : length (row_fields k vs) ≡ d.n + 2 = omega (arith, length-map_from (leg_field k) 1 vs) in
     let row : row_from d.n k 1 line (row_fields k vs) (replicate 17 0) ≡ Ok (row_of vs) = rw (← f.0) (legs-back vs k 1 line (row_fields k vs) (replicate 17 0) refl f.1) in
-    rw (eq-eqb (length (row_fields k vs)) (d.n + 2) many, number-back 0 d.n k line 2 (omega arith) a (omega arith), eq-eqb k k refl, row)
+    rw (eq-eqb (length (row_fields k vs)) (d.n + 2) many, number-back 0 d.n k line 2 (omega arith) a (omega arith), eq-eqb k k refl, row, after d.n k (Drives (k + 1)) Pairs)
 
 -- ---- the lines of a text are taken
 
@@ -165,47 +160,36 @@ gives-pairs (p ∷ qs) line d l f =
     let clean : Clean (pair_fields p) = (omega arith, rw (clear-decimal p.first (omega (arith, fits.most)), clear-decimal p.then (omega (arith, fits.last)))) in
     line-gives (pair_fields p) (map pair_fields qs) line Pairs Pairs d (with_pair d p) _ clean (pair-back d p line l fits) (gives-pairs qs (line + 1) (with_pair d p) l (All-tail (PairFits d.n) p qs f))
 
--- the drive line of place k, and the lines after it
-row-gives : (vs : List ℕ) (fss : List (List (List ℕ))) (k line : ℕ) (d e : Draft) → d.n ≤ 16 → k ≤ d.n → RowFits d.n k vs → Gives fss (line + 1) (if nat_lt k d.n then Drives (k + 1) else Pairs) (with_row d k (row_of vs)) e → Gives (row_fields k vs ∷ fss) line (Drives k) d e
-row-gives vs fss k line d e l m f g =
-    let clean : Clean (row_fields k vs) = (omega arith, rw (clear-decimal k (omega arith)) (clean-legs k 1 vs f.1)) in
-    line-gives (row_fields k vs) fss line (Drives k) _ d (with_row d k (row_of vs)) e clean (row-back k d vs line m l f) g
-
 -- the drive lines from place k on, and the lines after them
-gives-rows : (rs : List (List ℕ)) (gss : List (List (List ℕ))) (k line : ℕ) (d e : Draft) → d.n ≤ 16 → k ≤ d.n → length rs + k ≡ d.n + 1 → AllFrom (RowFits d.n) k rs → ((m : ℕ) → Gives gss m Pairs (record d { drives = fill k (map row_of rs) d.drives }) e) → Gives (map_from row_fields k rs ++ gss) line (Drives k) d e
-gives-rows [] gss k line d e l m c f g = absurd (omega arith)
-gives-rows (r ∷ []) gss k line d e l m c f g =
-    row-gives r gss k line d e l m f.0 (rw (le-ltb k d.n (omega arith)) (g (line + 1)))
-gives-rows (r ∷ x ∷ rs) gss k line d e l m c f g =
-    row-gives r (map_from row_fields (k + 1) (x ∷ rs) ++ gss) k line d e l m f.0
-    (rw (lt-ltb k d.n (omega arith)) (gives-rows (x ∷ rs) gss (k + 1) (line + 1) (with_row d k (row_of r)) e l (omega arith) (omega arith) f.1 g))
-
--- the line of door k, and the lines after it
-door-gives : (x : door.Door) (fss : List (List (List ℕ))) (k line : ℕ) (d e : Draft) → d.n ≤ 16 → 1 ≤ k → k ≤ d.n → DoorFits x → Gives fss (line + 1) (if nat_lt k d.n then Doors (k + 1) else Drives 0) (with_door d k x) e → Gives (door_fields k x ∷ fss) line (Doors k) d e
-door-gives x fss k line d e l o m f g =
-    line-gives (door_fields k x) fss line (Doors k) _ d (with_door d k x) e (clean-door k x (omega arith) f) (door-back k d x line o m l f) g
+gives-rows : (rs : List (List ℕ)) (gss : List (List (List ℕ))) (k line : ℕ) (d e : Draft) → d.n ≤ 16 → length rs + k ≡ d.n + 1 → AllFrom (RowFits d.n) k rs → ((m : ℕ) → Gives gss m Pairs (record d { drives = fill k (map row_of rs) d.drives }) e) → Gives (map_from row_fields k rs ++ gss) line (drives_from d.n k) d e
+gives-rows [] gss k line d e l c f g = rw (lt-ltb d.n k (omega arith)) (g line)
+gives-rows (r ∷ rs) gss k line d e l c f g =
+    let clean : Clean (row_fields k r) = (omega arith, rw (clear-decimal k (omega arith)) (clean-legs k 1 r f.0.1)) in
+    let rest = gives-rows rs gss (k + 1) (line + 1) (with_row d k (row_of r)) e l (omega arith) f.1 g in
+    rw (le-ltb d.n k (omega arith)) (line-gives (row_fields k r) _ line (Drives k) _ d (with_row d k (row_of r)) e clean (row-back k d r line (omega arith) l f.0) rest)
 
 -- the door lines from door k on, and the lines after them
-gives-doors : (xs : List door.Door) (gss : List (List (List ℕ))) (k line : ℕ) (d e : Draft) → d.n ≤ 16 → 1 ≤ k → k ≤ d.n → length xs + k ≡ d.n + 1 → All DoorFits xs → ((m : ℕ) → Gives gss m (Drives 0) (record d { doors = fill k xs d.doors }) e) → Gives (map_from door_fields k xs ++ gss) line (Doors k) d e
-gives-doors [] gss k line d e l o m c f g = absurd (omega arith)
-gives-doors (x ∷ []) gss k line d e l o m c f g =
-    door-gives x gss k line d e l o m (All-head DoorFits x [] f) (rw (le-ltb k d.n (omega arith)) (g (line + 1)))
-gives-doors (x ∷ y ∷ xs) gss k line d e l o m c f g =
-    door-gives x (map_from door_fields (k + 1) (y ∷ xs) ++ gss) k line d e l o m (All-head DoorFits x (y ∷ xs) f)
-    (rw (lt-ltb k d.n (omega arith)) (gives-doors (y ∷ xs) gss (k + 1) (line + 1) (with_door d k x) e l (omega arith) (omega arith) (omega arith) (All-tail DoorFits x (y ∷ xs) f) g))
+gives-doors : (xs : List door.Door) (gss : List (List (List ℕ))) (k line : ℕ) (d e : Draft) → d.n ≤ 16 → 1 ≤ k → length xs + k ≡ d.n + 1 → All DoorFits xs → ((m : ℕ) → Gives gss m (Drives 0) (record d { doors = fill k xs d.doors }) e) → Gives (map_from door_fields k xs ++ gss) line (doors_from d.n k) d e
+gives-doors [] gss k line d e l o c f g = rw (lt-ltb d.n k (omega arith)) (g line)
+gives-doors (x ∷ xs) gss k line d e l o c f g =
+    let h = All-head DoorFits x xs f in
+    let rest = gives-doors xs gss (k + 1) (line + 1) (with_door d k x) e l (omega arith) (omega arith) (All-tail DoorFits x xs f) g in
+    rw (le-ltb d.n k (omega arith)) (line-gives (door_fields k x) _ line (Doors k) _ d (with_door d k x) e (clean-door k x (omega arith) h) (door-back k d x line o (omega arith) l h) rest)
 
 -- all lines of a content in range are accepted, and give its round
 gives-all : (c : Content) → Fits c → Gives (records c) 1 Head unread (round_of c)
 gives-all c f =
     let h = c.head in
     let d = with_head unread h in
+    let e = round_of c in
+    let ps = map pair_fields c.pairs in
     let u : Draft = record d { doors = fill 1 c.doors unread.doors } in
     let v : Draft = record u { drives = fill 0 (map row_of c.rows) unread.drives } in
     let clean : Clean (head_fields h) = (omega arith, rw (clear-decimal h.n (omega (arith, f.most)), clear-decimal h.load (omega (arith, f.load, f.cap)), clear-decimal h.cap (omega (arith, f.cap)))) in
     line-gives (head_fields h) _ 1 Head (Doors 1) unread d _ clean (head-back unread h 1 f.one f.most f.load f.cap)
-    (gives-doors c.doors _ 1 2 d _ f.most (omega arith) f.one (omega (arith, f.many)) f.doors
-    (λ m. gives-rows c.rows _ 0 m u _ f.most (omega arith) (omega (arith, f.places)) f.rows
-    (λ n. gives-pairs c.pairs n v f.most f.pairs)))
+    (rw (le-ltb h.n 1 f.one) at (gives-doors c.doors (map_from row_fields 0 c.rows ++ ps) 1 2 d e f.most (omega arith) (omega (arith, f.many)) f.doors
+    (λ m. rw (le-ltb h.n 0 (omega arith)) at (gives-rows c.rows ps 0 m u e f.most (omega (arith, f.places)) f.rows
+    (λ n. gives-pairs c.pairs n v f.most f.pairs)))))
 
 -- a text of the form is accepted, and gives the round of that form
 pub form-accepted : (text : List ℕ) (d : Draft) → HasForm text d → read_text text ≡ Ok d

@@ -1,5 +1,5 @@
 -- An accepted text has the form of a round's text.
-use Rattle.std.proofs.Common.{◌≡◌, ◌≢◌, ◌⊎◌, ℕ, zero, suc, ◌+◌, ◌-◌, ◌<◌, ◌≤◌, Bool, true, false, nat_eq, nat_lt, List, [], ◌∷◌, ◌++◌, map, fold, length, slice_index_or, drop, slice_set, replicate, Ok, Err, codes, Result, sym, refl, ap, ◌∙◌, subst, ⊎_elim, arith, eqb-true, ltb-true, ltb-false}
+use Rattle.std.proofs.Common.{◌≡◌, ◌≢◌, ◌⊎◌, ℕ, zero, suc, ◌+◌, ◌-◌, ◌<◌, ◌≤◌, Bool, true, false, nat_eq, nat_lt, List, [], ◌∷◌, ◌++◌, map, fold, length, slice_index_or, drop, slice_set, replicate, Ok, Err, codes, Result, sym, refl, ap, ◌∙◌, subst, ⊎_elim, arith, le-ltb, lt-ltb}
 use Rattle.std.specs.List.{All, join_with_byte, range_with_len}
 use Rattle.std.specs.Bool.{if◌then◌else◌}
 use Rattle.std.specs.Str.{bytes_eq}
@@ -29,6 +29,7 @@ use Rattle.text.specs.Reading.{read_lines, read_text, at_end}
 use Rattle.text.specs.Drafts.{unread, with_head, with_door, with_row, with_ahead, with_pair}
 use Rattle.text.specs.Form.{map_from, head_fields, door_fields, leg_field, row_fields, pair_fields, written, AllFrom, DoorFits, LegFits, RowFits, PairFits, fill, row_of, HasForm}
 use Rattle.text.proofs.Pieces.{some-piece}
+use Rattle.text.proofs.Texts.{doors_from, drives_from, after}
 use Rattle.text.proofs.Numbers.{Says, number-says, change-says}
 
 -- ---- results
@@ -96,7 +97,7 @@ turn-says low high due line fs r b l e =
     (rw (← c) a.1, o.2)
 
 -- so is a door line
-door-form : (d : Draft) (k line : ℕ) (fs : List (List ℕ)) (t : Stage × Draft) → d.n ≤ 16 → line_step (Doors k) d line fs ≡ Ok t → (x : door.Door) × (door_fields k x ≡ fs) × DoorFits x × ((if nat_lt k d.n then Doors (k + 1) else Drives 0, with_door d k x) ≡ t)
+door-form : (d : Draft) (k line : ℕ) (fs : List (List ℕ)) (t : Stage × Draft) → d.n ≤ 16 → line_step (Doors k) d line fs ≡ Ok t → (x : door.Door) × (door_fields k x ≡ fs) × DoorFits x × ((doors_from d.n (k + 1), with_door d k x) ≡ t)
 door-form d k line fs t l e =
     let q = line-due (Doors k) d line fs t e in
     let c = fields-are 7 line fs _ _ t q.1 in
@@ -110,7 +111,7 @@ door-form d k line fs t l e =
     let z = change-says (slice_index_or fs 6 []) line 7 g.0 g.1 in
     let r : door.Door = record { opens = a.0; closes = b.0; due = f.0; work = w.0; change = g.0 } in
     let fits : DoorFits r = record { opens = a.1.to; closes = b.1.to; due = f.1.to; some = w.1.from; work = w.1.to; low = z.low; high = z.high } in
-    (r, cc, fits, cc)
+    (r, cc, fits, cc (after d.n k (Doors (k + 1)) (Drives 0)))
 
 -- and the field of a drive
 leg-form : (i j line : ℕ) (fs : List (List ℕ)) (v : ℕ) → leg_in i j line fs ≡ Ok v → (leg_field i j v ≡ slice_index_or fs (j + 2 - 1) []) × LegFits i j v
@@ -131,7 +132,7 @@ legs-form (suc m) i j line fs row out l e =
     (a.0 ∷ h.0, omega (arith, h.1), cc, h.3, (f.1, h.4))
 
 -- and a drive line
-row-form : (d : Draft) (k line : ℕ) (fs : List (List ℕ)) (t : Stage × Draft) → d.n ≤ 16 → line_step (Drives k) d line fs ≡ Ok t → (vs : List ℕ) × (row_fields k vs ≡ fs) × RowFits d.n k vs × ((if nat_lt k d.n then Drives (k + 1) else Pairs, with_row d k (row_of vs)) ≡ t)
+row-form : (d : Draft) (k line : ℕ) (fs : List (List ℕ)) (t : Stage × Draft) → d.n ≤ 16 → line_step (Drives k) d line fs ≡ Ok t → (vs : List ℕ) × (row_fields k vs ≡ fs) × RowFits d.n k vs × ((drives_from d.n (k + 1), with_row d k (row_of vs)) ≡ t)
 row-form d k line fs t l e =
     let q = line-due (Drives k) d line fs t e in
     let c = fields-are (d.n + 2) line fs _ _ t q.1 in
@@ -139,7 +140,7 @@ row-form d k line fs t l e =
     let r = legs-form d.n k 1 line fs (replicate 17 0) c.2 (omega arith) i.1 in
     let s = drop_more fs 0 [] (omega arith) in
     let u = drop_more fs 1 [] (omega arith) in
-    (r.0, cc, (r.1, r.4), cc)
+    (r.0, cc, (r.1, r.4), cc (after d.n k (Drives (k + 1)) Pairs))
 
 -- ---- the lines of each kind
 
@@ -168,39 +169,34 @@ pairs-form (fs ∷ fss) d e l r =
     let i = pairs-form fss (with_pair d q.0) e l (subst (λ (z : Stage × Draft). Run fss z.0 z.1 e) (sym q.3) r.3) in
     (q.0 ∷ i.0, cc, i.2, All-cons (PairFits d.n) q.0 i.0 q.2 i.3)
 
--- the lines from the drives of place k on: drive lines, and what pairs make of the rest
-rows-form : (fss : List (List (List ℕ))) (k : ℕ) (d e : Draft) → d.n ≤ 16 → k ≤ d.n → Run fss (Drives k) d e → (rs : List (List ℕ)) × (gss : List (List (List ℕ))) × (map_from row_fields k rs ++ gss ≡ fss) × (length rs + k ≡ d.n + 1) × AllFrom (RowFits d.n) k rs × Run gss Pairs (record d { drives = fill k (map row_of rs) d.drives }) e
-rows-form [] k d e l m r = absurd cc
-rows-form (fs ∷ fss) k d e l m r =
-    let q = row-form d k r.0 fs r.1 l r.2 in
-    let go = subst (λ (z : Stage × Draft). Run fss z.0 z.1 e) (sym q.3) r.3 in
-    ⊎_elim
-    (λ t.
-    let i = rows-form fss (k + 1) (with_row d k (row_of q.0)) e l (omega (arith, ltb-true k d.n t)) (rw t at go) in
-    (q.0 ∷ i.0, i.1, cc, omega (arith, i.3), (q.2, i.4), i.5))
-    (λ t. (q.0 ∷ [], fss, cc, omega (arith, ltb-false k d.n t), (q.2, tt), rw t at go))
-    (cases_Bool (nat_lt k d.n))
+-- the lines from the drives of place k on, of m places: drive lines, and what pairs make of the rest
+rows-form : (m : ℕ) (fss : List (List (List ℕ))) (k : ℕ) (d e : Draft) → d.n ≤ 16 → k + m ≡ d.n + 1 → Run fss (drives_from d.n k) d e → (rs : List (List ℕ)) × (gss : List (List (List ℕ))) × (map_from row_fields k rs ++ gss ≡ fss) × (length rs ≡ m) × AllFrom (RowFits d.n) k rs × Run gss Pairs (record d { drives = fill k (map row_of rs) d.drives }) e
+rows-form zero fss k d e l h r = ([], fss, refl, refl, tt, rw (lt-ltb d.n k (omega arith)) at r)
+rows-form (suc m) [] k d e l h r = let o = rw (le-ltb d.n k (omega arith)) at r in absurd cc
+rows-form (suc m) (fs ∷ fss) k d e l h r =
+    let o = rw (le-ltb d.n k (omega arith)) at r in
+    let q = row-form d k o.0 fs o.1 l o.2 in
+    let i = rows-form m fss (k + 1) (with_row d k (row_of q.0)) e l (omega arith) (subst (λ (z : Stage × Draft). Run fss z.0 z.1 e) (sym q.3) o.3) in
+    (q.0 ∷ i.0, i.1, cc, cc, (q.2, i.4), i.5)
 
--- the lines from door k on: door lines, and what drives make of the rest
-doors-form : (fss : List (List (List ℕ))) (k : ℕ) (d e : Draft) → d.n ≤ 16 → k ≤ d.n → Run fss (Doors k) d e → (xs : List door.Door) × (gss : List (List (List ℕ))) × (map_from door_fields k xs ++ gss ≡ fss) × (length xs + k ≡ d.n + 1) × All DoorFits xs × Run gss (Drives 0) (record d { doors = fill k xs d.doors }) e
-doors-form [] k d e l m r = absurd cc
-doors-form (fs ∷ fss) k d e l m r =
-    let q = door-form d k r.0 fs r.1 l r.2 in
-    let go = subst (λ (z : Stage × Draft). Run fss z.0 z.1 e) (sym q.3) r.3 in
-    ⊎_elim
-    (λ t.
-    let i = doors-form fss (k + 1) (with_door d k q.0) e l (omega (arith, ltb-true k d.n t)) (rw t at go) in
-    (q.0 ∷ i.0, i.1, cc, omega (arith, i.3), All-cons DoorFits q.0 i.0 q.2 i.4, i.5))
-    (λ t. (q.0 ∷ [], fss, cc, omega (arith, ltb-false k d.n t), All-cons DoorFits q.0 [] q.2 (All-nil DoorFits), rw t at go))
-    (cases_Bool (nat_lt k d.n))
+-- the lines from door k on, of m doors: door lines, and what drives make of the rest
+doors-form : (m : ℕ) (fss : List (List (List ℕ))) (k : ℕ) (d e : Draft) → d.n ≤ 16 → k + m ≡ d.n + 1 → Run fss (doors_from d.n k) d e → (xs : List door.Door) × (gss : List (List (List ℕ))) × (map_from door_fields k xs ++ gss ≡ fss) × (length xs ≡ m) × All DoorFits xs × Run gss (Drives 0) (record d { doors = fill k xs d.doors }) e
+doors-form zero fss k d e l h r = ([], fss, refl, refl, All-nil DoorFits, rw (lt-ltb d.n k (omega arith)) at r)
+doors-form (suc m) [] k d e l h r = let o = rw (le-ltb d.n k (omega arith)) at r in absurd cc
+doors-form (suc m) (fs ∷ fss) k d e l h r =
+    let o = rw (le-ltb d.n k (omega arith)) at r in
+    let q = door-form d k o.0 fs o.1 l o.2 in
+    let i = doors-form m fss (k + 1) (with_door d k q.0) e l (omega arith) (subst (λ (z : Stage × Draft). Run fss z.0 z.1 e) (sym q.3) o.3) in
+    (q.0 ∷ i.0, i.1, cc, cc, All-cons DoorFits q.0 i.0 q.2 i.4, i.5)
 
 -- all lines
 run-form : (fss : List (List (List ℕ))) (e : Draft) → Run fss Head unread e → HasForm (written fss) e
 run-form [] e r = absurd cc
 run-form (fs ∷ fss) e r =
     let h = head-form r.0 fs r.1 r.2 in
-    let x = doors-form fss 1 (with_head unread h.0) e h.2.to h.2.from (subst (λ (z : Stage × Draft). Run fss z.0 z.1 e) (sym h.4) r.3) in
-    let w = rows-form x.1 0 (record (with_head unread h.0) { doors = fill 1 x.0 unread.doors }) e h.2.to (omega arith) x.5 in
+    let n = h.0.n in
+    let x = doors-form n fss 1 (with_head unread h.0) e h.2.to (omega arith) (rw (le-ltb n 1 h.2.from) (subst (λ (z : Stage × Draft). Run fss z.0 z.1 e) (sym h.4) r.3)) in
+    let w = rows-form (n + 1) x.1 0 (record (with_head unread h.0) { doors = fill 1 x.0 unread.doors }) e h.2.to (omega arith) (rw (le-ltb n 0 (omega arith)) x.5) in
     let p = pairs-form w.1 (record (with_head unread h.0) { doors = fill 1 x.0 unread.doors; drives = fill 0 (map row_of w.0) unread.drives }) e h.2.to w.5 in
     record {
       content = record { head = h.0; doors = x.0; rows = w.0; pairs = p.0 };
@@ -209,9 +205,9 @@ run-form (fs ∷ fss) e r =
         most = h.2.to;
         load = h.3.from;
         cap = h.3.to;
-        many = omega (arith, x.3);
+        many = x.3;
         doors = x.4;
-        places = omega (arith, w.3);
+        places = w.3;
         rows = w.4;
         pairs = p.3;
       };

@@ -1,6 +1,9 @@
--- One line more of a text.
-use Rattle.std.proofs.Common.{◌≡◌, ℕ, ◌+◌, ◌<◌, List, [], ◌∷◌, length, refl, arith}
+-- One line more of a text, and the stage after it.
+use Rattle.std.proofs.Common.{◌≡◌, ℕ, ◌+◌, ◌<◌, nat_lt, List, [], ◌∷◌, length, refl, arith}
+use Rattle.std.specs.Bool.{if◌then◌else◌}
+use Rattle.std.proofs.lemmas.Bool.Decides.{nat_tests}
 use Rattle.text.specs.declared.stage.Stage.{Stage}
+use Rattle.text.specs.declared.stage.Stage.TheVariants.{Doors, Drives, Pairs}
 use Rattle.text.specs.declared.draft.Draft.{Draft}
 use Rattle.text.specs.Pieces.{fields_in, lines_in}
 use Rattle.text.specs.Lines.{and_then}
@@ -9,7 +12,7 @@ use Rattle.text.specs.Reading.{read_lines}
 use Rattle.text.proofs.Pieces.{some-piece}
 
 -- the first of the lines, and those after it
-pub read_more : (p : List ℕ) (ps : List (List ℕ)) (line : ℕ) (s : Stage) (d : Draft) → 0 < length ps → and_then (line_step s d line (fields_in p)) (λ t. read_lines ps (line + 1) t.0 t.1) ≡ read_lines (p ∷ ps) line s d
+read_more : (p : List ℕ) (ps : List (List ℕ)) (line : ℕ) (s : Stage) (d : Draft) → 0 < length ps → and_then (line_step s d line (fields_in p)) (λ t. read_lines ps (line + 1) t.0 t.1) ≡ read_lines (p ∷ ps) line s d
 read_more p [] line s d l = absurd (omega arith)
 read_more p (q ∷ ps) line s d l = refl
 
@@ -17,3 +20,15 @@ read_more p (q ∷ ps) line s d l = refl
 pub read-step : (text p rest : List ℕ) (line : ℕ) (s : Stage) (d : Draft) (r : Next) → lines_in text ≡ p ∷ lines_in rest → r ≡ line_step s d line (fields_in p) → and_then r (λ t. read_lines (lines_in rest) (line + 1) t.0 t.1) ≡ read_lines (lines_in text) line s d
 read-step text p rest line s d r cut h =
     rw (cut, h) (read_more p (lines_in rest) line s d (some-piece 10 rest))
+
+-- the stage where door k of n is the next, or none is left
+abbrev pub doors_from : ℕ → ℕ → Stage
+doors_from n k = if nat_lt n k then Drives 0 else Doors k
+
+-- the stage where the drives from place k are the next, or none are left
+abbrev pub drives_from : ℕ → ℕ → Stage
+drives_from n k = if nat_lt n k then Pairs else Drives k
+
+-- after number k of n the next is due, or none is left
+pub after : (n k : ℕ) (next end : Stage) → (if nat_lt k n then next else end) ≡ (if nat_lt n (k + 1) then end else next)
+after n k next end = grind (arith, nat_tests)
