@@ -3,13 +3,12 @@ use Rattle.std.proofs.Common.{◌≡◌, ℕ, suc, ◌+◌, ◌-◌, ◌<◌, �
 use borrow.Author.Differences.{ints}
 use Rattle.std.specs.Fmt.{signed_decimal}
 use Rattle.std.specs.List.{All, list_all, join_with_byte}
-use Rattle.std.specs.Bool.{if◌then◌else◌}
 use Rattle.std.specs.Str.{all_ascii_digits}
 use Rattle.std.proofs.lemmas.Bool.{and_parts}
 use Rattle.std.proofs.lemmas.Bool.Decides.{nat_tests}
 use Rattle.std.proofs.lemmas.Fmt.{digits_decimal}
 use Rattle.std.proofs.lemmas.List.{drop-drop, get_or-drop}
-use Rattle.std.proofs.lemmas.List.Elements.{All-append, All-cons, All-head, All-tail, All-nil, All-weaker}
+use Rattle.std.proofs.lemmas.List.Elements.{All-append, All-cons, All-head, All-tail, All-weaker}
 use Rattle.std.proofs.lemmas.List.Splits.{slice_split_none}
 use Rattle.std.proofs.lemmas.List.Sums.{AllPass-from_list_all}
 use Rattle.text.specs.declared.refusal.Refusal.{Refusal}
@@ -67,9 +66,10 @@ joined (f ∷ []) c =
 joined (f ∷ g ∷ fs) c =
     let p = and_parts (clear f) (list_all clear (g ∷ fs)) c.1 in
     let i = joined (g ∷ fs) (omega arith, p.1) in
-    let w = join_with_byte 9 (g ∷ fs) in
-    (pieces_more 9 f w (lacks-clear 9 f (omega arith) p.0) ∙ ap (λ t. f ∷ t) i.0,
-      All-append (λ b. nat_eq b 10 ≡ false) f (9 ∷ w) (lacks-clear 10 f (omega arith) p.0) (All-cons (λ b. nat_eq b 10 ≡ false) 9 w refl i.1))
+    let w = join_with_byte 9 (g ∷ fs) in (
+      pieces_more 9 f w (lacks-clear 9 f (omega arith) p.0) ∙ ap (λ t. f ∷ t) i.0,
+      All-append (λ b. nat_eq b 10 ≡ false) f (9 ∷ w) (lacks-clear 10 f (omega arith) p.0) (All-cons (λ b. nat_eq b 10 ≡ false) 9 w refl i.1),
+    )
 
 -- ---- a line of each kind is taken
 

@@ -1,5 +1,5 @@
 -- The round of contents in range is lawful.
-use Rattle.std.proofs.Common.{◌≡◌, ◌⊎◌, ℕ, zero, suc, ◌+◌, ◌<◌, ◌≤◌, List, [], ◌∷◌, map, length, slice_index_or, slice_set, replicate, pos, negsuc, ◌≤ℤ◌, refl, ⊎_elim, arith, length-set}
+use Rattle.std.proofs.Common.{◌⊎◌, ℕ, zero, suc, ◌+◌, ◌<◌, ◌≤◌, List, [], ◌∷◌, map, length, slice_index_or, slice_set, replicate, pos, negsuc, ◌≤ℤ◌, refl, ⊎_elim, arith, length-set}
 use borrow.Author.Differences.{ints}
 use Rattle.std.specs.List.{All}
 use Rattle.std.proofs.lemmas.Bool.{cases_eq}
