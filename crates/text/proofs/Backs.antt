@@ -26,7 +26,7 @@ use Rattle.text.specs.Drafts.{unread, with_head, with_door, with_row, with_ahead
 use Rattle.text.specs.Form.{Content, Fits, map_from, head_fields, door_fields, leg_field, row_fields, pair_fields, records, written, AllFrom, DoorFits, LegFits, RowFits, PairFits, fill, row_of, round_of, HasForm}
 use Rattle.text.proofs.Numbers.{own, number-back, change-back}
 use Rattle.text.proofs.Pieces.{Lacks, pieces_more}
-use Rattle.text.proofs.Texts.{read-step, doors_from, drives_from, after}
+use Rattle.text.proofs.Texts.{read_step, doors_from, drives_from, after}
 
 -- ---- what stands in a field is no separator
 
@@ -82,7 +82,7 @@ line-gives : (fs : List (List ℕ)) (fss : List (List (List ℕ))) (line : ℕ) 
 line-gives fs fss line s t d u e c h g =
     let j = joined fs c in
     let w = join_with_byte 9 fs in
-    sym (read-step (w ++ 10 ∷ written fss) w (written fss) line s d (Ok (t, u)) (pieces_more 10 w (written fss) j.1) (rw j.0 (sym h))) ∙ g
+    rw (read_step (w ++ 10 ∷ written fss) w (written fss) line s d (pieces_more 10 w (written fss) j.1), j.0, h) g
 
 -- the round line is taken as it is written
 head-back : (d : Draft) (h : head.Head) (line : ℕ) → 1 ≤ h.n → h.n ≤ 16 → h.load ≤ h.cap → h.cap ≤ 999 → line_step Head d line (head_fields h) ≡ Ok (Doors 1, with_head d h)
