@@ -196,5 +196,5 @@ pub form-accepted : (text : List ℕ) (d : Draft) → HasForm text d → read_te
 form-accepted text d h = rw (← h.same, ← h.round) (gives-all h.content h.fits)
 
 -- a refused text has not the form
-pub refused-form : (text : List ℕ) (r : Refusal) → Err r ≡ read_text text → (d : Draft) → ¬ HasForm text d
-refused-form text r e d h = let t = form-accepted text d h in absurd cc
+pub refused_form : (text : List ℕ) (r : Refusal) → Err r ≡ read_text text → (d : Draft) → ¬ HasForm text d
+refused_form text r e d h = let t = form-accepted text d h in absurd cc

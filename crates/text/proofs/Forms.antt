@@ -210,7 +210,7 @@ run-form (fs ∷ fss) e r =
     }
 
 -- an accepted text has the form, and gives the round of that form
-pub accepted-form : (text : List ℕ) (d : Draft) → read_text text ≡ Ok d → HasForm text d
-accepted-form text d h =
+pub accepted_form : (text : List ℕ) (d : Draft) → read_text text ≡ Ok d → HasForm text d
+accepted_form text d h =
     let r = run-lines (lines_in text) 1 Head unread d (some-piece 10 text) h in
     subst (λ t. HasForm t d) (r.1 ∙ join_with_byte-slice_split 10 text) (run-form r.0 d r.2)

@@ -3,7 +3,6 @@ use Rattle.std.proofs.Common.{◌≡◌, ◌⊎◌, ℕ, zero, suc, ◌+◌, ◌
 use borrow.Author.Differences.{ints}
 use Rattle.std.specs.Char.{digit_value, is_ascii_digit}
 use Rattle.std.specs.Fmt.{signed_decimal}
-use Rattle.std.specs.Int.{IsInRange}
 use Rattle.std.specs.List.{list_all}
 use Rattle.std.specs.Str.{all_ascii_digits}
 use Rattle.std.specs.Str.Parse.{digits_value}
@@ -23,23 +22,20 @@ all-digits [] = refl
 all-digits (x ∷ a) = ap (λ t. is_ascii_digit x && t) (all-digits a)
 
 -- the first digit is not 0, and the rest tells
-pub positive-rest : (a : List ℕ) → 1 ≤ length a → 49 ≤ slice_index_or a 0 0 → slice_index_or a 0 0 ≤ 57 → list_all is_ascii_digit (take (length a - 1) (drop 1 a)) ≡ positive a
-positive-rest [] l m n = absurd (omega arith)
-positive-rest (x ∷ a) l m n = rw (take_rest (x ∷ a) 1) (grind (arith, nat_tests, all-digits a))
+pub positive_rest : (a : List ℕ) → 1 ≤ length a → 49 ≤ slice_index_or a 0 0 → slice_index_or a 0 0 ≤ 57 → list_all is_ascii_digit (take (length a - 1) (drop 1 a)) ≡ positive a
+positive_rest [] l m n = absurd (omega arith)
+positive_rest (x ∷ a) l m n = rw (take_rest (x ∷ a) 1) (grind (arith, nat_tests, all-digits a))
 
 -- digits are numerals, and this is their value
 pub own : IsNumeralModel (λ ds. all_ascii_digits ds ≡ true) (digits_value 10)
 own = numerals_by_value _ tells_all_ascii_digits
 
--- a byte among digits is one
-pub digit-place : (a : List ℕ) (i : ℕ) → all_ascii_digits a ≡ true → i < length a → IsInRange 48 57 (slice_index_or a i 0)
-digit-place a i h l = digit_at a i (own.to a h) l
-
 -- one digit more
-pub value-step : (a : List ℕ) (i : ℕ) → i < length a → 48 ≤ slice_index_or a i 0 → slice_index_or a i 0 ≤ 57 → digits_value 10 (take (i + 1) a) ≡ digits_value 10 (take i a) * 10 + (slice_index_or a i 0 - 48)
-value-step a i l d e =
+pub value_step : (a : List ℕ) (i : ℕ) → all_ascii_digits a ≡ true → i < length a → (48 ≤ slice_index_or a i 0) × (slice_index_or a i 0 ≤ 57) × (digits_value 10 (take (i + 1) a) ≡ digits_value 10 (take i a) * 10 + (slice_index_or a i 0 - 48))
+value_step a i h l =
+    let d = digit_at a i (own.to a h) l in
     let v : digit_value (slice_index_or a i 0) ≡ slice_index_or a i 0 - 48 = grind (arith, nat_tests) in
-    digits_value_more 10 a i l ∙ ap (λ t. digits_value 10 (take i a) * 10 + t) v
+    (d.0, d.1, rw v at (digits_value_more 10 a i l))
 
 -- ---- from the bytes to the number
 

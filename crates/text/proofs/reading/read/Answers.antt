@@ -1,13 +1,13 @@
 use Rattle.std.proofs.Common.{sym, refl}
 use Rattle.std.proofs.lemmas.Result.{err_from_is_err_and}
 use Rattle.text.proofs.Lawful.{doors-fair, rows-fair}
-use Rattle.text.proofs.Forms.{accepted-form}
-use Rattle.text.proofs.Backs.{refused-form}
+use Rattle.text.proofs.Forms.{accepted_form}
+use Rattle.text.proofs.Backs.{refused_form}
 use Rattle.text.proofs.reading.read.Goals as goal
 
 pub invariant_of-round : goal.invariant_of-round
 invariant_of-round c =
-    let w = accepted-form c.args.text.now c.in_ok-n.field-0 (sym c.in_ok-n.ensures) in
+    let w = accepted_form c.args.text.now c.in_ok-n.field-0 (sym c.in_ok-n.ensures) in
     let doors = doors-fair w.content w.fits in
     let rows = rows-fair w.content w.fits in
     rw (← w.round) (record {
@@ -29,7 +29,4 @@ invariant_of-round c =
 pub returns-in_err-n-clause-form : goal.returns-in_err-n-clause-form
 returns-in_err-n-clause-form c =
     let e = err_from_is_err_and c.from_residual.result c.from_residual.ensures.1 in
-    rw e.1 (refused-form c.args.text.now _ c.in_err-n.ensures)
-
-pub returns-clause-form : goal.returns-clause-form
-returns-clause-form c = accepted-form c.args.text.now c.in_ok-n.field-0 (sym c.in_ok-n.ensures)
+    rw e.1 (refused_form c.args.text.now _ c.in_err-n.ensures)

@@ -1,4 +1,4 @@
-use Rattle.std.proofs.Common.{◌∙◌, arith, rules}
+use Rattle.std.proofs.Common.{arith}
 use Rattle.text.proofs.Texts.{read_step}
 use Rattle.text.proofs.text.draft_of.Goals as goal
 
