@@ -9,7 +9,7 @@ use Rattle.std.proofs.lemmas.Bool.Decides.{nat_tests}
 use Rattle.std.proofs.lemmas.Fmt.{digits_decimal}
 use Rattle.std.proofs.lemmas.List.{drop-drop, get_or-drop}
 use Rattle.std.proofs.lemmas.List.Elements.{All-append, All-cons, All-head, All-tail, All-weaker}
-use Rattle.std.proofs.lemmas.List.Splits.{slice_split_none}
+use Rattle.std.proofs.lemmas.List.Splits.{slice_split_at, slice_split_none}
 use Rattle.std.proofs.lemmas.List.Sums.{AllPass-from_list_all}
 use Rattle.text.specs.declared.refusal.Refusal.{Refusal}
 use Rattle.text.specs.declared.stage.Stage.{Stage}
@@ -18,17 +18,24 @@ use Rattle.text.specs.declared.draft.Draft.{Draft}
 use Rattle.round.specs.declared.door.Door as door
 use Rattle.text.specs.declared.line.Head as head
 use Rattle.text.specs.declared.line.Pair as pair
-use Rattle.text.specs.Pieces.{fields_in, lines_in}
-use Rattle.text.specs.Lines.{and_then, leg_in, row_from}
+use Rattle.text.specs.Pieces.{pieces, fields_in, lines_in}
+use Rattle.text.specs.Lines.{leg_in, row_from}
 use Rattle.text.specs.Steps.{line_step}
 use Rattle.text.specs.Reading.{read_lines, read_text}
 use Rattle.text.specs.Drafts.{unread, with_head, with_door, with_row, with_ahead, with_pair}
 use Rattle.text.specs.Form.{Content, Fits, map_from, head_fields, door_fields, leg_field, row_fields, pair_fields, records, written, AllFrom, DoorFits, LegFits, RowFits, PairFits, fill, row_of, round_of, HasForm}
 use Rattle.text.proofs.Numbers.{own, number-back, change-back}
-use Rattle.text.proofs.Pieces.{Lacks, pieces_more}
 use Rattle.text.proofs.Texts.{read_step, doors_from, drives_from, after}
 
 -- ---- what stands in a field is no separator
+
+-- s is not in the list
+abbrev Lacks : ℕ → List ℕ → Type 0
+Lacks s bs = All (λ b. nat_eq b s ≡ false) bs
+
+-- a piece without the separator, then the separator
+pieces_more : (s : ℕ) (a b : List ℕ) → Lacks s a → pieces s (a ++ s ∷ b) ≡ a ∷ pieces s b
+pieces_more s a b h = slice_split_at (λ b. nat_eq b s) a s b h (grind arith)
 
 -- each byte is above the separators
 abbrev clear : List ℕ → Bool
@@ -125,8 +132,7 @@ legs-back (v ∷ vs) i j line fs row e f =
     let place : j + 2 - 1 ≡ j + 1 + 0 = omega arith in
     let first = ap (λ k. slice_index_or fs k []) place ∙ sym (get_or-drop (j + 1) fs 0 []) ∙ ap (λ t. slice_index_or t 0 []) e in
     let rest = sym (drop-drop 1 (j + 1) fs) ∙ ap (λ t. drop 1 t) e in
-    ap (λ r. and_then r (λ leg. row_from (length vs) i (j + 1) line fs (slice_set row j leg))) (leg-back i j line v fs first f.0)
-    ∙ legs-back vs i (j + 1) line fs (slice_set row j v) rest f.1
+    rw (leg-back i j line v fs first f.0) (legs-back vs i (j + 1) line fs (slice_set row j v) rest f.1)
 
 -- as many as there were
 length-map_from : {A B : Type 0} (f : ℕ → A → B) (i : ℕ) (xs : List A) → length (map_from f i xs) ≡ length xs

@@ -22,8 +22,7 @@ use Rattle.text.specs.Steps.{line_step, kind_step}
 use Rattle.text.specs.Reading.{read_lines, read_text, at_end}
 use Rattle.text.specs.Drafts.{unread, with_head, with_door, with_row, with_ahead, with_pair}
 use Rattle.text.specs.Form.{map_from, head_fields, door_fields, leg_field, row_fields, pair_fields, written, AllFrom, DoorFits, LegFits, RowFits, PairFits, fill, row_of, HasForm}
-use Rattle.text.proofs.Pieces.{some-piece}
-use Rattle.text.proofs.Texts.{doors_from, drives_from, after}
+use Rattle.text.proofs.Texts.{some-piece, doors_from, drives_from, after}
 use Rattle.text.proofs.Numbers.{Says, number-says, change-says}
 
 -- ---- results

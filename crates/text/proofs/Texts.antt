@@ -1,15 +1,19 @@
 -- One line more of a text, and the stage after it.
-use Rattle.std.proofs.Common.{◌≡◌, ℕ, suc, ◌+◌, ◌-◌, ◌<◌, ◌≤◌, nat_lt, slice_set, List, [], ◌∷◌, length, refl, arith}
+use Rattle.std.proofs.Common.{◌≡◌, ℕ, suc, ◌+◌, ◌-◌, ◌<◌, ◌≤◌, nat_eq, nat_lt, slice_set, List, [], ◌∷◌, length, refl, arith}
 use Rattle.std.specs.Bool.{if◌then◌else◌}
 use Rattle.std.proofs.lemmas.Bool.Decides.{nat_tests}
+use Rattle.std.proofs.lemmas.List.Splits.{length-slice_split}
 use Rattle.text.specs.declared.stage.Stage.{Stage}
 use Rattle.text.specs.declared.stage.Stage.TheVariants.{Doors, Drives, Pairs}
 use Rattle.text.specs.declared.draft.Draft.{Draft}
-use Rattle.text.specs.Pieces.{fields_in, lines_in}
+use Rattle.text.specs.Pieces.{pieces, fields_in, lines_in}
 use Rattle.text.specs.Lines.{and_then, leg_in, row_from}
 use Rattle.text.specs.Steps.{line_step}
 use Rattle.text.specs.Reading.{read_lines}
-use Rattle.text.proofs.Pieces.{some-piece}
+
+-- there is a piece
+pub some-piece : (s : ℕ) (a : List ℕ) → 0 < length (pieces s a)
+some-piece s a = omega (arith, length-slice_split (λ b. nat_eq b s) a)
 
 -- the first of the lines, and those after it
 read_more : (p : List ℕ) (ps : List (List ℕ)) (line : ℕ) (s : Stage) (d : Draft) → 0 < length ps → read_lines (p ∷ ps) line s d ≡ and_then (line_step s d line (fields_in p)) (λ t. read_lines ps (line + 1) t.0 t.1)
