@@ -6,15 +6,14 @@ use Rattle.std.proofs.lemmas.List.Sums.{position_or_len_is}
 use Rattle.text.specs.Pieces.{pieces}
 use Rattle.text.proofs.cut.cut_at.Goals as goal
 
--- the first separator, at n, ends the first piece
-pieces-cut : (s : ℕ) (a : List ℕ) (n : ℕ) → n < length a → ((k : ℕ) → k < n → nat_eq (slice_index_or a k 0) s ≡ false) → nat_eq (slice_index_or a n 0) s ≡ true → pieces s a ≡ take n a ∷ pieces s (take (length a - (n + 1)) (drop (n + 1) a))
-pieces-cut s a n l h e =
-    let first = position_or_len_is (λ b. nat_eq b s) a n 0 (omega arith) h (λ _. e) in
-    rw take_rest (subst (λ i. pieces s a ≡ take i a ∷ pieces s (drop (i + 1) a)) first (slice_split_first (λ b. nat_eq b s) a 0 (omega (arith, first))))
-
+-- the first separator ends the first piece
 pub returns-in-Some-clause-parts : goal.returns-in-Some-clause-parts
 returns-in-Some-clause-parts c =
-    pieces-cut c.args.sep c.args.bytes.now c.in-Some.n (search rules) (λ k l. search (rules, tests)) (search (rules, tests))
+    let a = c.args.bytes.now in
+    let test = λ (b : ℕ). nat_eq b c.args.sep in
+    let within : c.in-Some.n < length a = search rules in
+    let first = position_or_len_is test a c.in-Some.n 0 (omega arith) (λ k l. search (rules, tests)) (λ _. search (rules, tests)) in
+    rw take_rest (subst (λ i. pieces c.args.sep a ≡ take i a ∷ pieces c.args.sep (drop (i + 1) a)) first (slice_split_first test a 0 (omega (arith, first))))
 
 pub returns-in-None-clause-parts : goal.returns-in-None-clause-parts
 returns-in-None-clause-parts c =
