@@ -59,22 +59,10 @@ last-rest x v l = record { none_after = λ u p a. l.none_after (x ∷ u) (IsPerm
 
 -- no number of the rest is above the first one: else it would go ahead
 first-high : (x : ℕ) (v : List ℕ) (j : ℕ) → IsLast (x ∷ v) → j < length v → get_or v j 0 ≤ x
-first-high x v j l h = ⊎_elim (λ a. absurd (higher a)) (λ e. e) (cases_lt x y)
-  where
-    y : ℕ
-    y = get_or v j 0
-
-    rest : List ℕ
-    rest = remove v j
-
-    out : IsPermutation v (y ∷ rest)
-    out = IsPermutation-remove v j y h (sym (get_or_default_zero v j y h))
-
-    led : IsPermutation (x ∷ v) (y ∷ x ∷ rest)
-    led = IsPermutation-trans (x ∷ v) (x ∷ y ∷ rest) (y ∷ x ∷ rest) (IsPermutation-cons x v (y ∷ rest) out) (IsPermutation-swap (x ∷ y ∷ rest) (y ∷ x ∷ rest) 0 1 (omega arith) (omega arith) refl)
-
-    higher : ¬ (x < y)
-    higher a = l.none_after (y ∷ x ∷ rest) led (inl a)
+first-high x v j l h =
+    let y = get_or v j 0 in
+    let led = IsPermutation-remove (x ∷ v) (suc j) y (omega arith) (sym (get_or_default_zero v j y h)) in
+    ⊎_elim (λ a. absurd (l.none_after (y ∷ remove (x ∷ v) (suc j)) led (inl a))) (λ e. e) (cases_lt x y)
 
 -- the numbers of the last list go down
 falls : (v : List ℕ) → IsLast v → (i j : ℕ) → i ≤ j → j < length v → get_or v j 0 ≤ get_or v i 0
