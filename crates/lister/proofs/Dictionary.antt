@@ -12,11 +12,11 @@ use Rattle.lister.proofs.Permutations.{unled}
 
 -- ---- an order of lists
 
-pub trichotomy : (v w : List ℕ) → ComesBefore v w ⊎ ((v ≡ w) ⊎ ComesBefore w v)
-trichotomy [] [] = inr (inl refl)
-trichotomy [] (y ∷ w) = inl tt
-trichotomy (x ∷ v) [] = inr (inr tt)
-trichotomy (x ∷ v) (y ∷ w) = grind (arith, cases_order x y, trichotomy v w)
+pub upto-or-after : (v w : List ℕ) → (ComesBefore v w ⊎ (v ≡ w)) ⊎ ComesBefore w v
+upto-or-after [] [] = inl (inr refl)
+upto-or-after [] (y ∷ w) = inl (inl tt)
+upto-or-after (x ∷ v) [] = inr tt
+upto-or-after (x ∷ v) (y ∷ w) = grind (arith, cases_order x y, upto-or-after v w)
 
 pub before-trans : (u v w : List ℕ) → ComesBefore u v → ComesBefore v w → ComesBefore u w
 before-trans [] [] w a b = absurd a

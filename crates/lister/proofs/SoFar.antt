@@ -10,7 +10,7 @@ use Rattle.round.specs.declared.table.Round.{Round}
 use Rattle.orders.specs.Allowed.{IsAllowed}
 use Rattle.lister.specs.Listed.{LooksAt}
 use Rattle.lister.specs.Orders.{ComesBefore, IsNext, IsLast}
-use Rattle.lister.proofs.Dictionary.{trichotomy, before-trans, none_before}
+use Rattle.lister.proofs.Dictionary.{upto-or-after, before-trans, none_before}
 use Rattle.lister.proofs.Doors.{reordered}
 
 -- os are the allowed orders that stand Here
@@ -50,18 +50,16 @@ module _ (r : Round) (Keeps : List ℕ → Type 0) where
       rises : (i j : ℕ) → i ≤ j → j < length (range_with_len 1 r.n) → get_or (range_with_len 1 r.n) i 0 ≤ get_or (range_with_len 1 r.n) j 0
       rises i j h e = omega (arith, length-range_with_len 1 r.n, get_or-range_with_len 1 r.n i 0, get_or-range_with_len 1 r.n j 0)
 
-  -- an allowed order is listed, or comes after v, whose numbers it has
-  listed-or : (v w : List ℕ) (os : List (List ℕ)) → Listing r Keeps (UpTo v) os → IsPermutation (range_with_len 1 r.n) v → IsAllowed r Keeps w → Contains os w ⊎ (ComesBefore v w × IsPermutation v w)
-  listed-or v w os s p x =
-      let same = IsPermutation-trans v (range_with_len 1 r.n) w (IsPermutation-sym (range_with_len 1 r.n) v p) (reordered r.n w x.part x.whole) in
-      ⊎_elim (λ a. inl (s.whole w x (inl a))) (⊎_elim (λ e. inl (s.whole w x (inr e))) (λ a. inr (a, same))) (trichotomy w v)
+  -- each allowed order has the numbers of the order that is looked at
+  same : (v w : List ℕ) → IsPermutation (range_with_len 1 r.n) v → IsAllowed r Keeps w → IsPermutation v w
+  same v w p a = IsPermutation-trans v (range_with_len 1 r.n) w (IsPermutation-sym (range_with_len 1 r.n) v p) (reordered r.n w a.part a.whole)
 
   pub stepped : (v w : List ℕ) (os : List (List ℕ)) → Listing r Keeps (UpTo v) os → IsNext v w → IsPermutation (range_with_len 1 r.n) v → SoFar w os
   stepped v w os s n p = record {
-    whole = λ u x b. ⊎_elim (λ h. h) (λ a. absurd (n.none_between u a.1 a.0 b)) (listed-or v u os s p x);
+    whole = λ u x b. ⊎_elim (s.whole u x) (λ a. absurd (n.none_between u (same v u p x) a b)) (upto-or-after u v);
     ascending = s.ascending;
     only = All-weaker (UpTo v) (λ u. ComesBefore u w) (λ u. ⊎_elim (λ b. before-trans u v w b n.after) (λ e. rw e n.after)) os s.only;
   }
 
   pub ended : (v : List ℕ) (os : List (List ℕ)) → Listing r Keeps (UpTo v) os → IsLast v → IsPermutation (range_with_len 1 r.n) v → (u : List ℕ) → IsAllowed r Keeps u → Contains os u
-  ended v os s l p u x = ⊎_elim (λ h. h) (λ a. absurd (l.none_after u a.1 a.0)) (listed-or v u os s p x)
+  ended v os s l p u x = ⊎_elim (s.whole u x) (λ a. absurd (l.none_after u (same v u p x) a)) (upto-or-after u v)
