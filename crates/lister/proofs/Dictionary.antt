@@ -27,12 +27,13 @@ before-trans (x ∷ u) (y ∷ v) (z ∷ w) a b = grind (arith, before-trans u v 
 
 -- ---- the last list
 
-last-none : IsLast []
-last-none = record { none_after = none }
+pub last-empty : (v : List ℕ) → length v ≡ 0 → IsLast v
+last-empty [] e = record { none_after = none }
   where
     none : (u : List ℕ) → IsPermutation [] u → ¬ ComesBefore [] u
     none [] p a = a
     none (z ∷ u) p a = omega (arith, length_permutation [] (z ∷ u) p)
+last-empty (x ∷ v) e = absurd (omega arith)
 
 -- the same with one more number ahead
 pub next-led : (x : ℕ) (v w : List ℕ) → IsNext v w → IsNext (x ∷ v) (x ∷ w)
@@ -101,10 +102,7 @@ module _ (x k : ℕ) (v : List ℕ) (last : IsLast v) (within : k < length v) (a
 
   -- each number is at most x, or at least y
   apart : All (λ j. (j ≤ x) ⊎ (y ≤ j)) v
-  apart = All-from_get_or (λ j. (j ≤ x) ⊎ (y ≤ j)) v 0 side
-    where
-      side : (m : ℕ) → m < length v → (get_or v m 0 ≤ x) ⊎ (y ≤ get_or v m 0)
-      side m h = grind (arith, cases_lt k m, falls v last m k, below m)
+  apart = All-from_get_or (λ j. (j ≤ x) ⊎ (y ≤ j)) v 0 (λ m h. grind (arith, cases_lt k m, falls v last m k, below m))
 
   pub next-turned : IsPermutation (x ∷ v) (y ∷ turned) → IsNext (x ∷ v) (y ∷ turned)
   next-turned same = record { after = inl above; none_between = none }
@@ -133,10 +131,6 @@ next-put (x ∷ v) w h n = rw (put_rest x v w) (next-led x v w (rw (mid_rest x v
 pub last-put : (v : List ℕ) → 0 < length v → All (λ j. j ≤ get_or v 0 0) (mid_of 1 (length v - 1) v) → IsLast (mid_of 1 (length v - 1) v) → IsLast v
 last-put [] h a l = absurd (omega arith)
 last-put (x ∷ v) h a l = last-led x v (rw (mid_rest x v) at a) (rw (mid_rest x v) at l)
-
-pub last-empty : (v : List ℕ) → length v ≡ 0 → IsLast v
-last-empty [] e = last-none
-last-empty (x ∷ v) e = absurd (omega arith)
 
 -- v is what the rest still is, w the list after the swap, and u its rest turned round
 pub next-turned-put : (l v w u : List ℕ) (k : ℕ) → 0 < length l → v ≡ mid_of 1 (length l - 1) l → IsLast v → k < length v → get_or l 0 0 < get_or v k 0

@@ -19,12 +19,6 @@ rank-before [] [] e h b = absurd b
 rank-before [] (y ∷ w) e h b = absurd (omega arith)
 rank-before (x ∷ v) [] e h b = absurd b
 rank-before (x ∷ v) (y ∷ w) e h (inl b) =
-    let p = 17 ^ length v in
-    let same : 17 ^ length v ≡ 17 ^ length w = ap (λ (n : ℕ). 17 ^ n) (omega arith) in
-    let rest : rank v < p = rank-lt v (All-tail (λ j. j ≤ 16) x v h) in
-    let more : (x + 1) * p ≤ y * p = mul-le-mul_right p (omega arith) in
-    omega (arith, ap (λ (n : ℕ). y * n) same)
-rank-before (x ∷ v) (y ∷ w) e h (inr b) =
-    let rest : rank v < rank w = rank-before v w (omega arith) (All-tail (λ j. j ≤ 16) x v h) b.1 in
-    let same : x * 17 ^ length v ≡ y * 17 ^ length w = ap₂ (λ (i n : ℕ). i * 17 ^ n) b.0 (omega arith) in
-    omega arith
+    let more : (x + 1) * 17 ^ length v ≤ y * 17 ^ length v = mul-le-mul_right (17 ^ length v) (omega arith) in
+    grind (arith, rank-lt v (All-tail (λ j. j ≤ 16) x v h))
+rank-before (x ∷ v) (y ∷ w) e h (inr b) = grind (arith, rank-before v w (omega arith) (All-tail (λ j. j ≤ 16) x v h) b.1)
