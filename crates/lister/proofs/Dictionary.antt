@@ -6,7 +6,7 @@ use Rattle.std.proofs.lemmas.Bool.{cases_order, cases_lt}
 use Rattle.std.proofs.lemmas.Grind.{common_steps, get_or_default_zero}
 use Rattle.std.proofs.lemmas.List.{get_or-reverse, length-reverse, length-set}
 use Rattle.std.proofs.lemmas.List.Elements.{All-cons, All-head, All-from_get_or}
-use Rattle.std.proofs.lemmas.List.Sorted.{IsPermutation-cons, IsPermutation-sym, IsPermutation-trans, IsPermutation-remove, IsPermutation-swap, All-permutation, length_permutation}
+use Rattle.std.proofs.lemmas.List.Sorted.{IsPermutation-cons, IsPermutation-sym, IsPermutation-trans, IsPermutation-remove, All-permutation, length_permutation}
 use Rattle.lister.specs.Orders.{ComesBefore, IsNext, IsLast}
 use Rattle.lister.proofs.Permutations.{unled}
 
@@ -90,15 +90,13 @@ module _ (x k : ℕ) (v : List ℕ) (last : IsLast v) (within : k < length v) (a
   abbrev turned : List ℕ
   turned = reverse (set v k x)
 
-  set-falls : (i j : ℕ) → i ≤ j → j < length v → get_or (set v k x) j 0 ≤ get_or (set v k x) i 0
-  set-falls i j h e = grind (arith, common_steps, falls v last i j h e, falls v last i k, falls v last k j, below j, below i)
-
   turned-rises : (i j : ℕ) → i ≤ j → j < length turned → get_or turned i 0 ≤ get_or turned j 0
   turned-rises i j h e =
       let w = set v k x in
-      let long : length turned ≡ length v = length-reverse w ∙ length-set v k x in
-      let same : length w ≡ length v = length-set v k x in
-      rw (get_or-reverse w i 0 (omega arith), get_or-reverse w j 0 (omega arith)) (set-falls (length w - 1 - j) (length w - 1 - i) (omega arith) (omega arith))
+      let a = length w - 1 - j in
+      let b = length w - 1 - i in
+      let long : (length turned ≡ length w) × (length w ≡ length v) = (length-reverse w, length-set v k x) in
+      rw (get_or-reverse w i 0 (omega arith), get_or-reverse w j 0 (omega arith)) (grind (arith, common_steps, falls v last a b, falls v last a k, falls v last k b, below b, below a))
 
   -- each number is at most x, or at least y
   apart : All (λ j. (j ≤ x) ⊎ (y ≤ j)) v

@@ -1,13 +1,12 @@
 -- From each order to the next one, and at the last.
-use Rattle.std.proofs.Common.{◌≡◌, ℕ, ◌-◌, ◌^◌, ◌<◌, ◌≤◌, List, ◌++◌, length, take, drop, refl, sym, ap, ◌∙◌, subst, take_all, le_refl, arith}
+use Rattle.std.proofs.Common.{◌≡◌, ℕ, ◌^◌, ◌<◌, List, ◌++◌, length, take, drop, refl, sym, ap, ◌∙◌, subst, take_all, le_refl, arith}
 use Rattle.std.specs.List.{range_with_len}
 use Rattle.std.specs.List.Sorted.{IsPermutation}
 use Rattle.std.proofs.lemmas.List.{take-append-le}
 use Rattle.std.proofs.lemmas.Slice.{drop-append-drop}
 use Rattle.std.proofs.lemmas.List.Elements.{All-nil}
 use Rattle.std.proofs.lemmas.List.Sorted.{IsPermutation-refl, IsPermutation-trans}
-use Rattle.lister.specs.Listed.{IsGood, listed_orders}
-use Rattle.lister.specs.Orders.{IsNext}
+use Rattle.lister.specs.Listed.{IsGood}
 use Rattle.lister.proofs.Rank.{rank, rank-lt, rank-before}
 use Rattle.lister.proofs.Doors.{long, small, by_number}
 use Rattle.lister.proofs.SoFar.{looked, started, stepped, ended}
