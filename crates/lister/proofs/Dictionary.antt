@@ -142,6 +142,5 @@ next-turned-put (x ∷ r) v w u k h is last within above below swapped round sam
     let put : w ≡ y ∷ t =
     swapped ∙ ap (λ (l : List ℕ). swap l 0 (k + 1)) (put_rest x r v) ∙ ap (λ (m : ℕ). swap (x ∷ v) 0 m) (add-one k)
     ∙ ap (λ (i : ℕ). i ∷ t) (get_or_default_zero v k x within) in
-    let turned : u ≡ reverse t = rw (round, put, mid_rest y t) refl in
-    let made : put_mid 1 (length w - 1) w u ≡ y ∷ reverse t = rw (put, put_rest y t u, turned) refl in
+    let made : put_mid 1 (length w - 1) w u ≡ y ∷ reverse t = rw (round, put, mid_rest y t, put_rest y t (reverse t)) refl in
     rw (made, ← whole) (next-turned x k v last within above below (rw (made, ← whole) at same))

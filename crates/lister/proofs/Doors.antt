@@ -1,6 +1,6 @@
 -- Each list of all doors, none twice, has the doors by number in another order.
 use Rattle.std.proofs.Common.{◌≡◌, ℕ, zero, suc, ◌+◌, ◌≤◌, List, [], ◌∷◌, length, take, All, sym, refl, ◌∙◌, subst₂, map-id, arith}
-use Rattle.std.specs.Prelude.{if◌then◌else◌}
+use Rattle.std.specs.Prelude.{if◌then◌else◌, nat_le, nat_lt, ◌&&◌}
 use Rattle.std.specs.List.{range_with_len}
 use Rattle.std.specs.List.Sorted.{IsPermutation}
 use Rattle.std.proofs.lemmas.Bool.{cases_Bool}
@@ -26,18 +26,12 @@ times-door n k w p e =
 
 -- ---- the doors by number
 
-in-range : (k a m : ℕ) → StandsIn k (range_with_len a m) → a ≤ k
-in-range k a zero h = absurd h
-in-range k a (suc m) h = grind (arith, in-range k (a + 1) m)
-
-part-range : (n a m : ℕ) → 1 ≤ a → a + m ≤ n + 1 → IsPartOrder n (range_with_len a m)
-part-range n a zero l h = tt
-part-range n a (suc m) l h = grind (arith, in-range a (a + 1) m, part-range n (a + 1) m)
+times-range : (k a m : ℕ) → times k (range_with_len a m) ≡ (if nat_le a k && nat_lt k (a + m) then 1 else 0)
+times-range k a zero = grind (arith, nat_tests)
+times-range k a (suc m) = grind (arith, nat_tests, times-cons k a (range_with_len (a + 1) m), times-range k (a + 1) m)
 
 pub reordered : (n : ℕ) (w : List ℕ) → IsPartOrder n w → length w ≡ n → IsPermutation (range_with_len 1 n) w
-reordered n w p e =
-    let first = range_with_len 1 n in
-    permuted first w (λ k. times-door n k first (part-range n 1 n (omega arith) (omega arith)) (length-range_with_len 1 n) ∙ sym (times-door n k w p e))
+reordered n w p e = permuted (range_with_len 1 n) w (λ k. grind (arith, nat_tests, times-range k 1 n, times-door n k w p e))
 
 -- ---- what has the doors by number in another order
 
