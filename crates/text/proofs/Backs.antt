@@ -91,12 +91,7 @@ line-gives fs fss line s t d u e c h g =
     let w = join_with_byte 9 fs in
     rw (read_step (w ++ 10 ∷ written fss) w (written fss) line s d (pieces_more 10 w (written fss) j.1), j.0, h) g
 
--- the round line is taken as it is written
-head-back : (d : Draft) (h : head.Head) (line : ℕ) → 1 ≤ h.n → h.n ≤ 16 → h.load ≤ h.cap → h.cap ≤ 999 → line_step Head d line (head_fields h) ≡ Ok (Doors 1, with_head d h)
-head-back d h line a b c e =
-    rw (number-back 1 16 h.n line 2 a b (omega arith), number-back 0 999 h.load line 3 (omega arith) (omega arith) (omega arith), number-back h.load 999 h.cap line 4 c e (omega arith))
-
--- so is the line of door k
+-- the line of door k is taken as it is written
 door-back : (k : ℕ) (d : Draft) (x : door.Door) (line : ℕ) → 1 ≤ k → k ≤ d.n → d.n ≤ 16 → DoorFits x → line_step (Doors k) d line (door_fields k x) ≡ Ok (doors_from d.n (k + 1), with_door d k x)
 door-back k d x line a b c f =
     rw (
@@ -108,15 +103,6 @@ door-back k d x line a b c f =
       number-back 1 999 x.work line 6 f.some f.work (omega arith),
       change-back x.change line 7 f.low f.high,
       after d.n k (Doors (k + 1)) (Drives 0),
-    )
-
--- and the line of a pair
-pair-back : (d : Draft) (p : pair.Pair) (line : ℕ) → d.n ≤ 16 → PairFits d.n p → line_step Pairs d line (pair_fields p) ≡ Ok (Pairs, with_pair d p)
-pair-back d p line l f =
-    rw (
-      number-back 1 d.n p.first line 2 f.first f.most (omega arith),
-      number-back 1 d.n p.then line 3 f.second f.last (omega arith),
-      ne_eqb p.first p.then f.apart,
     )
 
 -- and the field of a drive
@@ -153,18 +139,15 @@ clean-legs : (i j : ℕ) (vs : List ℕ) → AllFrom (LegFits i) j vs → list_a
 clean-legs i j [] f = refl
 clean-legs i j (v ∷ vs) f = grind (arith, nat_tests, clear-decimal v, clean-legs i (j + 1) vs f.1)
 
--- nor do those of a door line
-clean-door : (k : ℕ) (x : door.Door) → k ≤ 16 → DoorFits x → Clean (door_fields k x)
-clean-door k x l f =
-    (omega arith, rw (clear-decimal k (omega arith), clear-decimal x.opens f.opens, clear-decimal x.closes f.closes, clear-decimal x.due f.due, clear-decimal x.work (omega (arith, f.work)), clear-signed x.change f.low f.high))
-
 -- the lines of pairs are accepted to the end
 gives-pairs : (qs : List pair.Pair) (line : ℕ) (d : Draft) → d.n ≤ 16 → All (PairFits d.n) qs → Gives (map pair_fields qs) line Pairs d (record d { ahead = fold with_ahead d.ahead qs })
 gives-pairs [] line d l f = refl
 gives-pairs (p ∷ qs) line d l f =
     let fits = All-head (PairFits d.n) p qs f in
-    let clean : Clean (pair_fields p) = (omega arith, rw (clear-decimal p.first (omega (arith, fits.most)), clear-decimal p.then (omega (arith, fits.last)))) in
-    line-gives (pair_fields p) (map pair_fields qs) line Pairs Pairs d (with_pair d p) _ clean (pair-back d p line l fits) (gives-pairs qs (line + 1) (with_pair d p) l (All-tail (PairFits d.n) p qs f))
+    let clean : Clean (pair_fields p) = (omega arith, grind (arith, clear-decimal)) in
+    let step : line_step Pairs d line (pair_fields p) ≡ Ok (Pairs, with_pair d p) =
+    grind (arith, nat_tests, number-back 1 d.n p.first line 2, number-back 1 d.n p.then line 3) in
+    line-gives (pair_fields p) (map pair_fields qs) line Pairs Pairs d (with_pair d p) _ clean step (gives-pairs qs (line + 1) (with_pair d p) l (All-tail (PairFits d.n) p qs f))
 
 -- the drive lines from place k on, and the lines after them
 gives-rows : (rs : List (List ℕ)) (gss : List (List (List ℕ))) (k line : ℕ) (d e : Draft) → d.n ≤ 16 → length rs + k ≡ d.n + 1 → AllFrom (RowFits d.n) k rs → ((m : ℕ) → Gives gss m Pairs (record d { drives = fill k (map row_of rs) d.drives }) e) → Gives (map_from row_fields k rs ++ gss) line (drives_from d.n k) d e
@@ -179,8 +162,9 @@ gives-doors : (xs : List door.Door) (gss : List (List (List ℕ))) (k line : ℕ
 gives-doors [] gss k line d e l o c f g = rw (lt-ltb d.n k (omega arith)) (g line)
 gives-doors (x ∷ xs) gss k line d e l o c f g =
     let h = All-head DoorFits x xs f in
+    let clean : Clean (door_fields k x) = (omega arith, grind (arith, clear-decimal, clear-signed)) in
     let rest = gives-doors xs gss (k + 1) (line + 1) (with_door d k x) e l (omega arith) (omega arith) (All-tail DoorFits x xs f) g in
-    rw (le-ltb d.n k (omega arith)) (line-gives (door_fields k x) _ line (Doors k) _ d (with_door d k x) e (clean-door k x (omega arith) h) (door-back k d x line o (omega arith) l h) rest)
+    rw (le-ltb d.n k (omega arith)) (line-gives (door_fields k x) _ line (Doors k) _ d (with_door d k x) e clean (door-back k d x line o (omega arith) l h) rest)
 
 -- all lines of a content in range are accepted, and give its round
 gives-all : (c : Content) → Fits c → Gives (records c) 1 Head unread (round_of c)
@@ -191,8 +175,10 @@ gives-all c f =
     let ps = map pair_fields c.pairs in
     let u : Draft = record d { doors = fill 1 c.doors unread.doors } in
     let v : Draft = record u { drives = fill 0 (map row_of c.rows) unread.drives } in
-    let clean : Clean (head_fields h) = (omega arith, rw (clear-decimal h.n (omega (arith, f.most)), clear-decimal h.load (omega (arith, f.load, f.cap)), clear-decimal h.cap (omega (arith, f.cap)))) in
-    line-gives (head_fields h) _ 1 Head (Doors 1) unread d _ clean (head-back unread h 1 f.one f.most f.load f.cap)
+    let clean : Clean (head_fields h) = (omega arith, grind (arith, clear-decimal)) in
+    let step : line_step Head unread 1 (head_fields h) ≡ Ok (Doors 1, d) =
+    grind (arith, nat_tests, number-back 1 16 h.n 1 2, number-back 0 999 h.load 1 3, number-back h.load 999 h.cap 1 4) in
+    line-gives (head_fields h) _ 1 Head (Doors 1) unread d _ clean step
     (rw (le-ltb h.n 1 f.one) at (gives-doors c.doors (map_from row_fields 0 c.rows ++ ps) 1 2 d e f.most (omega arith) (omega (arith, f.many)) f.doors
     (λ m. rw (le-ltb h.n 0 (omega arith)) at (gives-rows c.rows ps 0 m u e f.most (omega (arith, f.places)) f.rows
     (λ n. gives-pairs c.pairs n v f.most f.pairs)))))
