@@ -1,5 +1,5 @@
 -- A text of the form is accepted.
-use Rattle.std.proofs.Common.{◌≡◌, ℕ, suc, ◌+◌, ◌-◌, ◌<◌, ◌≤◌, Bool, true, false, nat_eq, nat_lt, List, [], ◌∷◌, ◌++◌, map, fold, length, slice_index_or, drop, slice_set, replicate, ℤ, pos, negsuc, ◌≤ℤ◌, Ok, Err, decimal, sym, refl, ap, ◌∙◌, arith, le-ltb, lt-ltb, eq-eqb, ne_eqb}
+use Rattle.std.proofs.Common.{◌≡◌, ℕ, suc, ◌+◌, ◌-◌, ◌<◌, ◌≤◌, Bool, true, false, nat_eq, nat_lt, List, [], ◌∷◌, ◌++◌, map, fold, length, slice_index_or, drop, slice_set, replicate, ℤ, pos, negsuc, ◌≤ℤ◌, Ok, Err, decimal, sym, refl, ap, ◌∙◌, arith, le-ltb, lt-ltb, eq-eqb}
 use borrow.Author.Differences.{ints}
 use Rattle.std.specs.Fmt.{signed_decimal}
 use Rattle.std.specs.List.{All, list_all, join_with_byte}
@@ -16,7 +16,6 @@ use Rattle.text.specs.declared.stage.Stage.{Stage}
 use Rattle.text.specs.declared.stage.Stage.TheVariants.{Head, Doors, Drives, Pairs}
 use Rattle.text.specs.declared.draft.Draft.{Draft}
 use Rattle.round.specs.declared.door.Door as door
-use Rattle.text.specs.declared.line.Head as head
 use Rattle.text.specs.declared.line.Pair as pair
 use Rattle.text.specs.Pieces.{pieces, fields_in, lines_in}
 use Rattle.text.specs.Lines.{leg_in, row_from}
@@ -94,16 +93,9 @@ line-gives fs fss line s t d u e c h g =
 -- the line of door k is taken as it is written
 door-back : (k : ℕ) (d : Draft) (x : door.Door) (line : ℕ) → 1 ≤ k → k ≤ d.n → d.n ≤ 16 → DoorFits x → line_step (Doors k) d line (door_fields k x) ≡ Ok (doors_from d.n (k + 1), with_door d k x)
 door-back k d x line a b c f =
-    rw (
-      number-back 1 d.n k line 2 a b (omega arith),
-      eq-eqb k k refl,
-      number-back 0 9999 x.opens line 3 (omega arith) f.opens (omega arith),
-      number-back 0 9999 x.closes line 4 (omega arith) f.closes (omega arith),
-      number-back 0 9999 x.due line 5 (omega arith) f.due (omega arith),
-      number-back 1 999 x.work line 6 f.some f.work (omega arith),
-      change-back x.change line 7 f.low f.high,
-      after d.n k (Doors (k + 1)) (Drives 0),
-    )
+    let number = λ (v k : ℕ). number-back 0 9999 v line k in
+    rw (number-back 1 d.n k line 2 a b (omega arith), eq-eqb k k refl, after d.n k (Doors (k + 1)) (Drives 0))
+    (grind (arith, number x.opens 3, number x.closes 4, number x.due 5, number-back 1 999 x.work line 6, change-back x.change line 7))
 
 -- and the field of a drive
 leg-back : (i j line v : ℕ) (fs : List (List ℕ)) → slice_index_or fs (j + 2 - 1) [] ≡ leg_field i j v → LegFits i j v → leg_in i j line fs ≡ Ok v
