@@ -19,8 +19,7 @@ upto-or-after (x ∷ v) [] = inr tt
 upto-or-after (x ∷ v) (y ∷ w) = grind (arith, cases_order x y, upto-or-after v w)
 
 pub before-trans : (u v w : List ℕ) → ComesBefore u v → ComesBefore v w → ComesBefore u w
-before-trans [] [] w a b = absurd a
-before-trans (x ∷ u) [] w a b = absurd a
+before-trans u [] w a b = absurd a
 before-trans u (y ∷ v) [] a b = absurd b
 before-trans [] (y ∷ v) (z ∷ w) a b = tt
 before-trans (x ∷ u) (y ∷ v) (z ∷ w) a b = grind (arith, before-trans u v w)
@@ -75,8 +74,7 @@ falls (x ∷ v) l (suc i) (suc j) h e = falls v (last-rest x v l) i j (omega ari
 
 -- none comes before a list that goes up
 pub none_before : (v : List ℕ) → ((i j : ℕ) → i ≤ j → j < length v → get_or v i 0 ≤ get_or v j 0) → (u : List ℕ) → IsPermutation v u → ¬ ComesBefore u v
-none_before [] up [] p b = b
-none_before [] up (z ∷ u) p b = b
+none_before [] up u p b = b
 none_before (x ∷ v) up [] p b = absurd (omega (arith, length_permutation (x ∷ v) [] p))
 none_before (x ∷ v) up (z ∷ u) p b =
     let high = held (λ j. x ≤ j) x z v u (le_refl x) (All-from_get_or (λ j. x ≤ j) v 0 (λ i h. up 0 (suc i) (omega arith) (omega arith))) p in

@@ -1,5 +1,5 @@
 -- Each list of all doors, none twice, has the doors by number in another order.
-use Rattle.std.proofs.Common.{◌≡◌, ℕ, zero, suc, ◌+◌, ◌≤◌, List, [], ◌∷◌, length, take, All, sym, refl, ◌∙◌, subst₂, map-id, arith}
+use Rattle.std.proofs.Common.{◌≡◌, ℕ, zero, suc, ◌+◌, ◌≤◌, List, [], ◌∷◌, length, take, All, refl, ◌∙◌, subst₂, map-id, arith}
 use Rattle.std.specs.Prelude.{if◌then◌else◌, nat_le, nat_lt, ◌&&◌}
 use Rattle.std.specs.List.{range_with_len}
 use Rattle.std.specs.List.Sorted.{IsPermutation}
@@ -8,7 +8,7 @@ use Rattle.std.proofs.lemmas.Bool.Decides.{nat_tests}
 use Rattle.std.proofs.lemmas.List.Elements.{All-from_get_or}
 use Rattle.std.proofs.lemmas.List.FromFn.{length-range_with_len, get_or-range_with_len, take-map-range_with_len}
 use Rattle.std.proofs.lemmas.List.Sorted.{All-permutation, length_permutation}
-use Rattle.doors.specs.Orders.{StandsIn, IsPartOrder, is_in, is_door}
+use Rattle.doors.specs.Orders.{IsPartOrder, is_in, is_door}
 use Rattle.doors.proofs.Orders.{is-in, in_is, is-door, door-is, not-door}
 use Rattle.doors.proofs.Sets.{part_length, part-door}
 use Rattle.lister.proofs.Permutations.{times, times-cons, permuted}

@@ -15,9 +15,8 @@ rank-lt (x ∷ w) h =
 
 -- of two lists of one length
 pub rank-before : (v w : List ℕ) → length v ≡ length w → All (λ j. j ≤ 16) v → ComesBefore v w → rank v < rank w
-rank-before [] [] e h b = absurd b
+rank-before v [] e h b = absurd b
 rank-before [] (y ∷ w) e h b = absurd (omega arith)
-rank-before (x ∷ v) [] e h b = absurd b
 rank-before (x ∷ v) (y ∷ w) e h (inl b) =
     let more : (x + 1) * 17 ^ length v ≤ y * 17 ^ length v = mul-le-mul_right (17 ^ length v) (omega arith) in
     grind (arith, rank-lt v (All-tail (λ j. j ≤ 16) x v h))

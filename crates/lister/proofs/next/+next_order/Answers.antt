@@ -11,8 +11,7 @@ returns-then-is_empty-clause-last t c = λ e. last-empty c.args.doors.now (grind
 
 pub returns-then-next_order-clause-same_doors : goal.returns-then-next_order-clause-same_doors
 returns-then-next_order-clause-same_doors t c =
-    let xs = c.args.doors.now in
-    IsPermutation-put_mid 1 (length xs - 1) xs c.next_order.new.doors c.next_order.ensures.same_doors
+    IsPermutation-put_mid 1 (length c.args.doors.now - 1) c.args.doors.now c.next_order.new.doors c.next_order.ensures.same_doors
 
 pub returns-then-next_order-clause-next : goal.returns-then-next_order-clause-next
 returns-then-next_order-clause-next t c = λ e.
