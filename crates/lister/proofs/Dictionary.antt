@@ -6,33 +6,33 @@ use Rattle.std.proofs.lemmas.Bool.{cases_order, cases_lt}
 use Rattle.std.proofs.lemmas.Grind.{common_steps, get_or_default_zero}
 use Rattle.std.proofs.lemmas.List.{get_or-reverse, length-reverse, length-set}
 use Rattle.std.proofs.lemmas.List.Elements.{All-cons, All-head, All-from_get_or}
-use Rattle.std.proofs.lemmas.List.Sorted.{IsPermutation-cons, IsPermutation-sym, IsPermutation-trans, IsPermutation-remove, IsPermutation-swap, All-permutation, length_permutation}
+use Rattle.std.proofs.lemmas.List.Sorted.{IsPermutation-cons, IsPermutation-sym, IsPermutation-trans, IsPermutation-remove, All-permutation, length_permutation}
 use Rattle.lister.specs.Orders.{ComesBefore, IsNext, IsLast}
 use Rattle.lister.proofs.Permutations.{unled}
 
 -- ---- an order of lists
 
-pub trichotomy : (v w : List ℕ) → ComesBefore v w ⊎ ((v ≡ w) ⊎ ComesBefore w v)
-trichotomy [] [] = inr (inl refl)
-trichotomy [] (y ∷ w) = inl tt
-trichotomy (x ∷ v) [] = inr (inr tt)
-trichotomy (x ∷ v) (y ∷ w) = grind (arith, cases_order x y, trichotomy v w)
+pub upto-or-after : (v w : List ℕ) → (ComesBefore v w ⊎ (v ≡ w)) ⊎ ComesBefore w v
+upto-or-after [] [] = inl (inr refl)
+upto-or-after [] (y ∷ w) = inl (inl tt)
+upto-or-after (x ∷ v) [] = inr tt
+upto-or-after (x ∷ v) (y ∷ w) = grind (arith, cases_order x y, upto-or-after v w)
 
 pub before-trans : (u v w : List ℕ) → ComesBefore u v → ComesBefore v w → ComesBefore u w
-before-trans [] [] w a b = absurd a
-before-trans (x ∷ u) [] w a b = absurd a
+before-trans u [] w a b = absurd a
 before-trans u (y ∷ v) [] a b = absurd b
 before-trans [] (y ∷ v) (z ∷ w) a b = tt
 before-trans (x ∷ u) (y ∷ v) (z ∷ w) a b = grind (arith, before-trans u v w)
 
 -- ---- the last list
 
-last-none : IsLast []
-last-none = record { none_after = none }
+pub last-empty : (v : List ℕ) → length v ≡ 0 → IsLast v
+last-empty [] e = record { none_after = none }
   where
     none : (u : List ℕ) → IsPermutation [] u → ¬ ComesBefore [] u
     none [] p a = a
     none (z ∷ u) p a = omega (arith, length_permutation [] (z ∷ u) p)
+last-empty (x ∷ v) e = absurd (omega arith)
 
 -- the same with one more number ahead
 pub next-led : (x : ℕ) (v w : List ℕ) → IsNext v w → IsNext (x ∷ v) (x ∷ w)
@@ -59,22 +59,10 @@ last-rest x v l = record { none_after = λ u p a. l.none_after (x ∷ u) (IsPerm
 
 -- no number of the rest is above the first one: else it would go ahead
 first-high : (x : ℕ) (v : List ℕ) (j : ℕ) → IsLast (x ∷ v) → j < length v → get_or v j 0 ≤ x
-first-high x v j l h = ⊎_elim (λ a. absurd (higher a)) (λ e. e) (cases_lt x y)
-  where
-    y : ℕ
-    y = get_or v j 0
-
-    rest : List ℕ
-    rest = remove v j
-
-    out : IsPermutation v (y ∷ rest)
-    out = IsPermutation-remove v j y h (sym (get_or_default_zero v j y h))
-
-    led : IsPermutation (x ∷ v) (y ∷ x ∷ rest)
-    led = IsPermutation-trans (x ∷ v) (x ∷ y ∷ rest) (y ∷ x ∷ rest) (IsPermutation-cons x v (y ∷ rest) out) (IsPermutation-swap (x ∷ y ∷ rest) (y ∷ x ∷ rest) 0 1 (omega arith) (omega arith) refl)
-
-    higher : ¬ (x < y)
-    higher a = l.none_after (y ∷ x ∷ rest) led (inl a)
+first-high x v j l h =
+    let y = get_or v j 0 in
+    let led = IsPermutation-remove (x ∷ v) (suc j) y (omega arith) (sym (get_or_default_zero v j y h)) in
+    ⊎_elim (λ a. absurd (l.none_after (y ∷ remove (x ∷ v) (suc j)) led (inl a))) (λ e. e) (cases_lt x y)
 
 -- the numbers of the last list go down
 falls : (v : List ℕ) → IsLast v → (i j : ℕ) → i ≤ j → j < length v → get_or v j 0 ≤ get_or v i 0
@@ -86,8 +74,7 @@ falls (x ∷ v) l (suc i) (suc j) h e = falls v (last-rest x v l) i j (omega ari
 
 -- none comes before a list that goes up
 pub none_before : (v : List ℕ) → ((i j : ℕ) → i ≤ j → j < length v → get_or v i 0 ≤ get_or v j 0) → (u : List ℕ) → IsPermutation v u → ¬ ComesBefore u v
-none_before [] up [] p b = b
-none_before [] up (z ∷ u) p b = b
+none_before [] up u p b = b
 none_before (x ∷ v) up [] p b = absurd (omega (arith, length_permutation (x ∷ v) [] p))
 none_before (x ∷ v) up (z ∷ u) p b =
     let high = held (λ j. x ≤ j) x z v u (le_refl x) (All-from_get_or (λ j. x ≤ j) v 0 (λ i h. up 0 (suc i) (omega arith) (omega arith))) p in
@@ -101,22 +88,17 @@ module _ (x k : ℕ) (v : List ℕ) (last : IsLast v) (within : k < length v) (a
   abbrev turned : List ℕ
   turned = reverse (set v k x)
 
-  set-falls : (i j : ℕ) → i ≤ j → j < length v → get_or (set v k x) j 0 ≤ get_or (set v k x) i 0
-  set-falls i j h e = grind (arith, common_steps, falls v last i j h e, falls v last i k, falls v last k j, below j, below i)
-
   turned-rises : (i j : ℕ) → i ≤ j → j < length turned → get_or turned i 0 ≤ get_or turned j 0
   turned-rises i j h e =
       let w = set v k x in
-      let long : length turned ≡ length v = length-reverse w ∙ length-set v k x in
-      let same : length w ≡ length v = length-set v k x in
-      rw (get_or-reverse w i 0 (omega arith), get_or-reverse w j 0 (omega arith)) (set-falls (length w - 1 - j) (length w - 1 - i) (omega arith) (omega arith))
+      let a = length w - 1 - j in
+      let b = length w - 1 - i in
+      let long : (length turned ≡ length w) × (length w ≡ length v) = (length-reverse w, length-set v k x) in
+      rw (get_or-reverse w i 0 (omega arith), get_or-reverse w j 0 (omega arith)) (grind (arith, common_steps, falls v last a b, falls v last a k, falls v last k b, below b, below a))
 
   -- each number is at most x, or at least y
   apart : All (λ j. (j ≤ x) ⊎ (y ≤ j)) v
-  apart = All-from_get_or (λ j. (j ≤ x) ⊎ (y ≤ j)) v 0 side
-    where
-      side : (m : ℕ) → m < length v → (get_or v m 0 ≤ x) ⊎ (y ≤ get_or v m 0)
-      side m h = grind (arith, cases_lt k m, falls v last m k, below m)
+  apart = All-from_get_or (λ j. (j ≤ x) ⊎ (y ≤ j)) v 0 (λ m h. grind (arith, cases_lt k m, falls v last m k, below m))
 
   pub next-turned : IsPermutation (x ∷ v) (y ∷ turned) → IsNext (x ∷ v) (y ∷ turned)
   next-turned same = record { after = inl above; none_between = none }
@@ -146,10 +128,6 @@ pub last-put : (v : List ℕ) → 0 < length v → All (λ j. j ≤ get_or v 0 0
 last-put [] h a l = absurd (omega arith)
 last-put (x ∷ v) h a l = last-led x v (rw (mid_rest x v) at a) (rw (mid_rest x v) at l)
 
-pub last-empty : (v : List ℕ) → length v ≡ 0 → IsLast v
-last-empty [] e = last-none
-last-empty (x ∷ v) e = absurd (omega arith)
-
 -- v is what the rest still is, w the list after the swap, and u its rest turned round
 pub next-turned-put : (l v w u : List ℕ) (k : ℕ) → 0 < length l → v ≡ mid_of 1 (length l - 1) l → IsLast v → k < length v → get_or l 0 0 < get_or v k 0
     → ((m : ℕ) → k < m → m < length v → get_or v m 0 ≤ get_or l 0 0) → w ≡ swap (put_mid 1 (length l - 1) l v) 0 (k + 1) → u ≡ reverse (mid_of 1 (length w - 1) w)
@@ -162,6 +140,5 @@ next-turned-put (x ∷ r) v w u k h is last within above below swapped round sam
     let put : w ≡ y ∷ t =
     swapped ∙ ap (λ (l : List ℕ). swap l 0 (k + 1)) (put_rest x r v) ∙ ap (λ (m : ℕ). swap (x ∷ v) 0 m) (add-one k)
     ∙ ap (λ (i : ℕ). i ∷ t) (get_or_default_zero v k x within) in
-    let turned : u ≡ reverse t = rw (round, put, mid_rest y t) refl in
-    let made : put_mid 1 (length w - 1) w u ≡ y ∷ reverse t = rw (put, put_rest y t u, turned) refl in
+    let made : put_mid 1 (length w - 1) w u ≡ y ∷ reverse t = rw (round, put, mid_rest y t, put_rest y t (reverse t)) refl in
     rw (made, ← whole) (next-turned x k v last within above below (rw (made, ← whole) at same))

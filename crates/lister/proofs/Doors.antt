@@ -1,6 +1,6 @@
 -- Each list of all doors, none twice, has the doors by number in another order.
-use Rattle.std.proofs.Common.{◌≡◌, ℕ, zero, suc, ◌+◌, ◌≤◌, List, [], ◌∷◌, length, take, All, sym, refl, ◌∙◌, subst₂, map-id, arith}
-use Rattle.std.specs.Prelude.{if◌then◌else◌}
+use Rattle.std.proofs.Common.{◌≡◌, ℕ, zero, suc, ◌+◌, ◌≤◌, List, [], ◌∷◌, length, take, All, refl, ◌∙◌, subst₂, map-id, arith}
+use Rattle.std.specs.Prelude.{if◌then◌else◌, nat_le, nat_lt, ◌&&◌}
 use Rattle.std.specs.List.{range_with_len}
 use Rattle.std.specs.List.Sorted.{IsPermutation}
 use Rattle.std.proofs.lemmas.Bool.{cases_Bool}
@@ -8,42 +8,30 @@ use Rattle.std.proofs.lemmas.Bool.Decides.{nat_tests}
 use Rattle.std.proofs.lemmas.List.Elements.{All-from_get_or}
 use Rattle.std.proofs.lemmas.List.FromFn.{length-range_with_len, get_or-range_with_len, take-map-range_with_len}
 use Rattle.std.proofs.lemmas.List.Sorted.{All-permutation, length_permutation}
-use Rattle.doors.specs.Orders.{StandsIn, IsDoor, IsPartOrder, is_in, is_door}
-use Rattle.doors.proofs.Orders.{is-in, in_is, is-door, door-is}
+use Rattle.doors.specs.Orders.{IsPartOrder, is_in, is_door}
+use Rattle.doors.proofs.Orders.{is-in, in_is, is-door, door-is, not-door}
 use Rattle.doors.proofs.Sets.{part_length, part-door}
 use Rattle.lister.proofs.Permutations.{times, times-cons, permuted}
 
 -- ---- how often a door stands in a list
 
-times-none : (k : ℕ) (w : List ℕ) → ¬ StandsIn k w → times k w ≡ 0
-times-none k [] n = refl
-times-none k (x ∷ w) n = grind (arith, nat_tests, times-cons k x w, times-none k w)
+times-in : (n k : ℕ) (w : List ℕ) → IsPartOrder n w → times k w ≡ (if is_in k w then 1 else 0)
+times-in n k [] p = refl
+times-in n k (x ∷ w) p = grind (arith, nat_tests, times-cons k x w, times-in n k w, is-in k w)
 
-times-once : (n k : ℕ) (w : List ℕ) → IsPartOrder n w → StandsIn k w → times k w ≡ 1
-times-once n k [] p h = absurd h
-times-once n k (x ∷ w) p h = grind (arith, nat_tests, times-cons k x w, times-once n k w, times-none x w)
-
--- a list of n doors, none twice, has each door
-all_there : (n k : ℕ) (w : List ℕ) → IsPartOrder n w → length w ≡ n → IsDoor n k → StandsIn k w
-all_there n k w p e d = grind (arith, cases_Bool (is_in k w), is-in k w, in_is k w, part_length n (k ∷ w))
-
+-- a list of n doors, none twice, has each door once
 times-door : (n k : ℕ) (w : List ℕ) → IsPartOrder n w → length w ≡ n → times k w ≡ (if is_door n k then 1 else 0)
-times-door n k w p e = grind (arith, nat_tests, is-door n k, door-is n k, all_there n k w, times-once n k w, times-none k w, part-door n w k)
+times-door n k w p e =
+    grind (arith, cases_Bool (is_in k w), times-in n k w, is-in k w, in_is k w, is-door n k, door-is n k, not-door n k, part-door n w k, part_length n (k ∷ w))
 
 -- ---- the doors by number
 
-in-range : (k a m : ℕ) → StandsIn k (range_with_len a m) → a ≤ k
-in-range k a zero h = absurd h
-in-range k a (suc m) h = grind (arith, in-range k (a + 1) m)
-
-part-range : (n a m : ℕ) → 1 ≤ a → a + m ≤ n + 1 → IsPartOrder n (range_with_len a m)
-part-range n a zero l h = tt
-part-range n a (suc m) l h = grind (arith, in-range a (a + 1) m, part-range n (a + 1) m)
+times-range : (k a m : ℕ) → times k (range_with_len a m) ≡ (if nat_le a k && nat_lt k (a + m) then 1 else 0)
+times-range k a zero = grind (arith, nat_tests)
+times-range k a (suc m) = grind (arith, nat_tests, times-cons k a (range_with_len (a + 1) m), times-range k (a + 1) m)
 
 pub reordered : (n : ℕ) (w : List ℕ) → IsPartOrder n w → length w ≡ n → IsPermutation (range_with_len 1 n) w
-reordered n w p e =
-    let first = range_with_len 1 n in
-    permuted first w (λ k. times-door n k first (part-range n 1 n (omega arith) (omega arith)) (length-range_with_len 1 n) ∙ sym (times-door n k w p e))
+reordered n w p e = permuted (range_with_len 1 n) w (λ k. grind (arith, nat_tests, times-range k 1 n, times-door n k w p e))
 
 -- ---- what has the doors by number in another order
 

@@ -3,4 +3,3 @@ pub mod Doors
 pub mod Permutations
 pub mod Rank
 pub mod SoFar
-pub mod Verdicts

@@ -1,5 +1,5 @@
 -- A list as a number whose digits are below 17: what comes before another list is less.
-use Rattle.std.proofs.Common.{◌≡◌, ℕ, ◌+◌, ◌*◌, ◌^◌, ◌<◌, ◌≤◌, List, [], ◌∷◌, length, All, inl, inr, ap, ap₂, arith, mul-le-mul_right, pow-suc}
+use Rattle.std.proofs.Common.{◌≡◌, ℕ, ◌+◌, ◌*◌, ◌^◌, ◌<◌, ◌≤◌, List, [], ◌∷◌, length, All, inl, inr, arith, mul-le-mul_right, pow-suc}
 use Rattle.std.proofs.lemmas.List.Elements.{All-head, All-tail}
 use Rattle.lister.specs.Orders.{ComesBefore}
 
@@ -15,16 +15,9 @@ rank-lt (x ∷ w) h =
 
 -- of two lists of one length
 pub rank-before : (v w : List ℕ) → length v ≡ length w → All (λ j. j ≤ 16) v → ComesBefore v w → rank v < rank w
-rank-before [] [] e h b = absurd b
+rank-before v [] e h b = absurd b
 rank-before [] (y ∷ w) e h b = absurd (omega arith)
-rank-before (x ∷ v) [] e h b = absurd b
 rank-before (x ∷ v) (y ∷ w) e h (inl b) =
-    let p = 17 ^ length v in
-    let same : 17 ^ length v ≡ 17 ^ length w = ap (λ (n : ℕ). 17 ^ n) (omega arith) in
-    let rest : rank v < p = rank-lt v (All-tail (λ j. j ≤ 16) x v h) in
-    let more : (x + 1) * p ≤ y * p = mul-le-mul_right p (omega arith) in
-    omega (arith, ap (λ (n : ℕ). y * n) same)
-rank-before (x ∷ v) (y ∷ w) e h (inr b) =
-    let rest : rank v < rank w = rank-before v w (omega arith) (All-tail (λ j. j ≤ 16) x v h) b.1 in
-    let same : x * 17 ^ length v ≡ y * 17 ^ length w = ap₂ (λ (i n : ℕ). i * 17 ^ n) b.0 (omega arith) in
-    omega arith
+    let more : (x + 1) * 17 ^ length v ≤ y * 17 ^ length v = mul-le-mul_right (17 ^ length v) (omega arith) in
+    grind (arith, rank-lt v (All-tail (λ j. j ≤ 16) x v h))
+rank-before (x ∷ v) (y ∷ w) e h (inr b) = grind (arith, rank-before v w (omega arith) (All-tail (λ j. j ≤ 16) x v h) b.1)

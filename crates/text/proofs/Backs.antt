@@ -1,35 +1,40 @@
 -- A text of the form is accepted.
-use Rattle.std.proofs.Common.{◌≡◌, ℕ, suc, ◌+◌, ◌-◌, ◌<◌, ◌≤◌, Bool, true, false, nat_eq, nat_lt, List, [], ◌∷◌, ◌++◌, map, fold, length, slice_index_or, drop, slice_set, replicate, ℤ, pos, negsuc, ◌≤ℤ◌, Ok, Err, decimal, sym, refl, ap, ◌∙◌, arith, le-ltb, lt-ltb, eq-eqb, ne_eqb}
+use Rattle.std.proofs.Common.{◌≡◌, ℕ, suc, ◌+◌, ◌-◌, ◌<◌, ◌≤◌, Bool, true, false, nat_eq, nat_lt, List, [], ◌∷◌, ◌++◌, map, fold, length, slice_index_or, drop, slice_set, replicate, ℤ, pos, negsuc, ◌≤ℤ◌, Ok, Err, decimal, sym, refl, ap, ◌∙◌, arith, le-ltb, lt-ltb, eq-eqb}
 use borrow.Author.Differences.{ints}
 use Rattle.std.specs.Fmt.{signed_decimal}
 use Rattle.std.specs.List.{All, list_all, join_with_byte}
-use Rattle.std.specs.Bool.{if◌then◌else◌}
 use Rattle.std.specs.Str.{all_ascii_digits}
 use Rattle.std.proofs.lemmas.Bool.{and_parts}
 use Rattle.std.proofs.lemmas.Bool.Decides.{nat_tests}
 use Rattle.std.proofs.lemmas.Fmt.{digits_decimal}
 use Rattle.std.proofs.lemmas.List.{drop-drop, get_or-drop}
-use Rattle.std.proofs.lemmas.List.Elements.{All-append, All-cons, All-head, All-tail, All-nil, All-weaker}
-use Rattle.std.proofs.lemmas.List.Splits.{slice_split_none}
+use Rattle.std.proofs.lemmas.List.Elements.{All-append, All-cons, All-head, All-tail, All-weaker}
+use Rattle.std.proofs.lemmas.List.Splits.{slice_split_at, slice_split_none}
 use Rattle.std.proofs.lemmas.List.Sums.{AllPass-from_list_all}
 use Rattle.text.specs.declared.refusal.Refusal.{Refusal}
 use Rattle.text.specs.declared.stage.Stage.{Stage}
 use Rattle.text.specs.declared.stage.Stage.TheVariants.{Head, Doors, Drives, Pairs}
 use Rattle.text.specs.declared.draft.Draft.{Draft}
 use Rattle.round.specs.declared.door.Door as door
-use Rattle.text.specs.declared.line.Head as head
 use Rattle.text.specs.declared.line.Pair as pair
-use Rattle.text.specs.Pieces.{fields_in, lines_in}
-use Rattle.text.specs.Lines.{and_then, leg_in, row_from}
+use Rattle.text.specs.Pieces.{pieces, fields_in, lines_in}
+use Rattle.text.specs.Lines.{leg_in, row_from}
 use Rattle.text.specs.Steps.{line_step}
 use Rattle.text.specs.Reading.{read_lines, read_text}
 use Rattle.text.specs.Drafts.{unread, with_head, with_door, with_row, with_ahead, with_pair}
 use Rattle.text.specs.Form.{Content, Fits, map_from, head_fields, door_fields, leg_field, row_fields, pair_fields, records, written, AllFrom, DoorFits, LegFits, RowFits, PairFits, fill, row_of, round_of, HasForm}
 use Rattle.text.proofs.Numbers.{own, number-back, change-back}
-use Rattle.text.proofs.Pieces.{Lacks, some-piece, pieces_more}
-use Rattle.text.proofs.Texts.{read_more}
+use Rattle.text.proofs.Texts.{read_step, doors_from, drives_from, after}
 
 -- ---- what stands in a field is no separator
+
+-- s is not in the list
+abbrev Lacks : ℕ → List ℕ → Type 0
+Lacks s bs = All (λ b. nat_eq b s ≡ false) bs
+
+-- a piece without the separator, then the separator
+pieces_more : (s : ℕ) (a b : List ℕ) → Lacks s a → pieces s (a ++ s ∷ b) ≡ a ∷ pieces s b
+pieces_more s a b h = slice_split_at (λ b. nat_eq b s) a s b h (grind arith)
 
 -- each byte is above the separators
 abbrev clear : List ℕ → Bool
@@ -58,24 +63,19 @@ lacks-clear s f l h =
 abbrev Clean : List (List ℕ) → Type 0
 Clean fs = (0 < length fs) × (list_all clear fs ≡ true)
 
--- such fields, joined by tabs, are cut into the same fields
-pieces-joined : (fs : List (List ℕ)) → Clean fs → fields_in (join_with_byte 9 fs) ≡ fs
-pieces-joined [] c = absurd (omega arith)
-pieces-joined (f ∷ []) c =
-    slice_split_none (λ b. nat_eq b 9) f (lacks-clear 9 f (omega arith) (and_parts (clear f) true c.1).0)
-pieces-joined (f ∷ g ∷ fs) c =
+-- such fields, joined by tabs, are cut into the same fields, and have no line feed
+joined : (fs : List (List ℕ)) → Clean fs → (fields_in (join_with_byte 9 fs) ≡ fs) × Lacks 10 (join_with_byte 9 fs)
+joined [] c = absurd (omega arith)
+joined (f ∷ []) c =
+    let p = and_parts (clear f) true c.1 in
+    (slice_split_none (λ b. nat_eq b 9) f (lacks-clear 9 f (omega arith) p.0), lacks-clear 10 f (omega arith) p.0)
+joined (f ∷ g ∷ fs) c =
     let p = and_parts (clear f) (list_all clear (g ∷ fs)) c.1 in
-    pieces_more 9 f (join_with_byte 9 (g ∷ fs)) (lacks-clear 9 f (omega arith) p.0)
-    ∙ ap (λ t. f ∷ t) (pieces-joined (g ∷ fs) (omega arith, p.1))
-
--- no line feed stands in a line of such fields
-lacks-joined : (fs : List (List ℕ)) → list_all clear fs ≡ true → Lacks 10 (join_with_byte 9 fs)
-lacks-joined [] c = All-nil (λ b. nat_eq b 10 ≡ false)
-lacks-joined (f ∷ []) c = lacks-clear 10 f (omega arith) (and_parts (clear f) true c).0
-lacks-joined (f ∷ g ∷ fs) c =
-    let p = and_parts (clear f) (list_all clear (g ∷ fs)) c in
-    All-append (λ b. nat_eq b 10 ≡ false) f (9 ∷ join_with_byte 9 (g ∷ fs)) (lacks-clear 10 f (omega arith) p.0)
-    (All-cons (λ b. nat_eq b 10 ≡ false) 9 (join_with_byte 9 (g ∷ fs)) refl (lacks-joined (g ∷ fs) p.1))
+    let i = joined (g ∷ fs) (omega arith, p.1) in
+    let w = join_with_byte 9 (g ∷ fs) in (
+      pieces_more 9 f w (lacks-clear 9 f (omega arith) p.0) ∙ ap (λ t. f ∷ t) i.0,
+      All-append (λ b. nat_eq b 10 ≡ false) f (9 ∷ w) (lacks-clear 10 f (omega arith) p.0) (All-cons (λ b. nat_eq b 10 ≡ false) 9 w refl i.1),
+    )
 
 -- ---- a line of each kind is taken
 
@@ -86,36 +86,16 @@ Gives fss line s d e = read_lines (lines_in (written fss)) line s d ≡ Ok e
 -- a line that is taken, and the lines after it
 line-gives : (fs : List (List ℕ)) (fss : List (List (List ℕ))) (line : ℕ) (s t : Stage) (d u e : Draft) → Clean fs → line_step s d line fs ≡ Ok (t, u) → Gives fss (line + 1) t u e → Gives (fs ∷ fss) line s d e
 line-gives fs fss line s t d u e c h g =
-    let r = read_more (join_with_byte 9 fs) (lines_in (written fss)) line s d (some-piece 10 (written fss)) in
-    let step = pieces_more 10 (join_with_byte 9 fs) (written fss) (lacks-joined fs c.1) in
-    rw (step, ← r, pieces-joined fs c, h) g
+    let j = joined fs c in
+    let w = join_with_byte 9 fs in
+    rw (read_step (w ++ 10 ∷ written fss) w (written fss) line s d (pieces_more 10 w (written fss) j.1), j.0, h) g
 
--- the round line is taken as it is written
-head-back : (d : Draft) (h : head.Head) (line : ℕ) → 1 ≤ h.n → h.n ≤ 16 → h.load ≤ h.cap → h.cap ≤ 999 → line_step Head d line (head_fields h) ≡ Ok (Doors 1, with_head d h)
-head-back d h line a b c e =
-    rw (number-back 1 16 h.n line 2 a b (omega arith), number-back 0 999 h.load line 3 (omega arith) (omega arith) (omega arith), number-back h.load 999 h.cap line 4 c e (omega arith))
-
--- so is the line of door k
-door-back : (k : ℕ) (d : Draft) (x : door.Door) (line : ℕ) → 1 ≤ k → k ≤ d.n → d.n ≤ 16 → DoorFits x → line_step (Doors k) d line (door_fields k x) ≡ Ok (if nat_lt k d.n then Doors (k + 1) else Drives 0, with_door d k x)
+-- the line of door k is taken as it is written
+door-back : (k : ℕ) (d : Draft) (x : door.Door) (line : ℕ) → 1 ≤ k → k ≤ d.n → d.n ≤ 16 → DoorFits x → line_step (Doors k) d line (door_fields k x) ≡ Ok (doors_from d.n (k + 1), with_door d k x)
 door-back k d x line a b c f =
-    rw (
-      number-back 1 d.n k line 2 a b (omega arith),
-      eq-eqb k k refl,
-      number-back 0 9999 x.opens line 3 (omega arith) f.opens (omega arith),
-      number-back 0 9999 x.closes line 4 (omega arith) f.closes (omega arith),
-      number-back 0 9999 x.due line 5 (omega arith) f.due (omega arith),
-      number-back 1 999 x.work line 6 f.some f.work (omega arith),
-      change-back x.change line 7 f.low f.high,
-    )
-
--- and the line of a pair
-pair-back : (d : Draft) (p : pair.Pair) (line : ℕ) → d.n ≤ 16 → PairFits d.n p → line_step Pairs d line (pair_fields p) ≡ Ok (Pairs, with_pair d p)
-pair-back d p line l f =
-    rw (
-      number-back 1 d.n p.first line 2 f.first f.most (omega arith),
-      number-back 1 d.n p.then line 3 f.second f.last (omega arith),
-      ne_eqb p.first p.then f.apart,
-    )
+    let number = λ (v k : ℕ). number-back 0 9999 v line k in
+    rw (number-back 1 d.n k line 2 a b (omega arith), eq-eqb k k refl, after d.n k (Doors (k + 1)) (Drives 0))
+    (grind (arith, number x.opens 3, number x.closes 4, number x.due 5, number-back 1 999 x.work line 6, change-back x.change line 7))
 
 -- and the field of a drive
 leg-back : (i j line v : ℕ) (fs : List (List ℕ)) → slice_index_or fs (j + 2 - 1) [] ≡ leg_field i j v → LegFits i j v → leg_in i j line fs ≡ Ok v
@@ -130,8 +110,7 @@ legs-back (v ∷ vs) i j line fs row e f =
     let place : j + 2 - 1 ≡ j + 1 + 0 = omega arith in
     let first = ap (λ k. slice_index_or fs k []) place ∙ sym (get_or-drop (j + 1) fs 0 []) ∙ ap (λ t. slice_index_or t 0 []) e in
     let rest = sym (drop-drop 1 (j + 1) fs) ∙ ap (λ t. drop 1 t) e in
-    ap (λ r. and_then r (λ leg. row_from (length vs) i (j + 1) line fs (slice_set row j leg))) (leg-back i j line v fs first f.0)
-    ∙ legs-back vs i (j + 1) line fs (slice_set row j v) rest f.1
+    rw (leg-back i j line v fs first f.0) (legs-back vs i (j + 1) line fs (slice_set row j v) rest f.1)
 
 -- as many as there were
 length-map_from : {A B : Type 0} (f : ℕ → A → B) (i : ℕ) (xs : List A) → length (map_from f i xs) ≡ length xs
@@ -139,11 +118,11 @@ length-map_from f i [] = refl
 length-map_from f i (x ∷ xs) = ap suc (length-map_from f (i + 1) xs)
 
 -- and the drive line of place k
-row-back : (k : ℕ) (d : Draft) (vs : List ℕ) (line : ℕ) → k ≤ d.n → d.n ≤ 16 → RowFits d.n k vs → line_step (Drives k) d line (row_fields k vs) ≡ Ok (if nat_lt k d.n then Drives (k + 1) else Pairs, with_row d k (row_of vs))
+row-back : (k : ℕ) (d : Draft) (vs : List ℕ) (line : ℕ) → k ≤ d.n → d.n ≤ 16 → RowFits d.n k vs → line_step (Drives k) d line (row_fields k vs) ≡ Ok (drives_from d.n (k + 1), with_row d k (row_of vs))
 row-back k d vs line a b f =
     let many : length (row_fields k vs) ≡ d.n + 2 = omega (arith, length-map_from (leg_field k) 1 vs) in
     let row : row_from d.n k 1 line (row_fields k vs) (replicate 17 0) ≡ Ok (row_of vs) = rw (← f.0) (legs-back vs k 1 line (row_fields k vs) (replicate 17 0) refl f.1) in
-    rw (eq-eqb (length (row_fields k vs)) (d.n + 2) many, number-back 0 d.n k line 2 (omega arith) a (omega arith), eq-eqb k k refl, row)
+    rw (eq-eqb (length (row_fields k vs)) (d.n + 2) many, number-back 0 d.n k line 2 (omega arith) a (omega arith), eq-eqb k k refl, row, after d.n k (Drives (k + 1)) Pairs)
 
 -- ---- the lines of a text are taken
 
@@ -152,65 +131,54 @@ clean-legs : (i j : ℕ) (vs : List ℕ) → AllFrom (LegFits i) j vs → list_a
 clean-legs i j [] f = refl
 clean-legs i j (v ∷ vs) f = grind (arith, nat_tests, clear-decimal v, clean-legs i (j + 1) vs f.1)
 
--- nor do those of a door line
-clean-door : (k : ℕ) (x : door.Door) → k ≤ 16 → DoorFits x → Clean (door_fields k x)
-clean-door k x l f =
-    (omega arith, rw (clear-decimal k (omega arith), clear-decimal x.opens f.opens, clear-decimal x.closes f.closes, clear-decimal x.due f.due, clear-decimal x.work (omega (arith, f.work)), clear-signed x.change f.low f.high))
-
 -- the lines of pairs are accepted to the end
 gives-pairs : (qs : List pair.Pair) (line : ℕ) (d : Draft) → d.n ≤ 16 → All (PairFits d.n) qs → Gives (map pair_fields qs) line Pairs d (record d { ahead = fold with_ahead d.ahead qs })
 gives-pairs [] line d l f = refl
 gives-pairs (p ∷ qs) line d l f =
     let fits = All-head (PairFits d.n) p qs f in
-    let clean : Clean (pair_fields p) = (omega arith, rw (clear-decimal p.first (omega (arith, fits.most)), clear-decimal p.then (omega (arith, fits.last)))) in
-    line-gives (pair_fields p) (map pair_fields qs) line Pairs Pairs d (with_pair d p) _ clean (pair-back d p line l fits) (gives-pairs qs (line + 1) (with_pair d p) l (All-tail (PairFits d.n) p qs f))
-
--- the drive line of place k, and the lines after it
-row-gives : (vs : List ℕ) (fss : List (List (List ℕ))) (k line : ℕ) (d e : Draft) → d.n ≤ 16 → k ≤ d.n → RowFits d.n k vs → Gives fss (line + 1) (if nat_lt k d.n then Drives (k + 1) else Pairs) (with_row d k (row_of vs)) e → Gives (row_fields k vs ∷ fss) line (Drives k) d e
-row-gives vs fss k line d e l m f g =
-    let clean : Clean (row_fields k vs) = (omega arith, rw (clear-decimal k (omega arith)) (clean-legs k 1 vs f.1)) in
-    line-gives (row_fields k vs) fss line (Drives k) _ d (with_row d k (row_of vs)) e clean (row-back k d vs line m l f) g
+    let clean : Clean (pair_fields p) = (omega arith, grind (arith, clear-decimal)) in
+    let step : line_step Pairs d line (pair_fields p) ≡ Ok (Pairs, with_pair d p) =
+    grind (arith, nat_tests, number-back 1 d.n p.first line 2, number-back 1 d.n p.then line 3) in
+    line-gives (pair_fields p) (map pair_fields qs) line Pairs Pairs d (with_pair d p) _ clean step (gives-pairs qs (line + 1) (with_pair d p) l (All-tail (PairFits d.n) p qs f))
 
 -- the drive lines from place k on, and the lines after them
-gives-rows : (rs : List (List ℕ)) (gss : List (List (List ℕ))) (k line : ℕ) (d e : Draft) → d.n ≤ 16 → k ≤ d.n → length rs + k ≡ d.n + 1 → AllFrom (RowFits d.n) k rs → ((m : ℕ) → Gives gss m Pairs (record d { drives = fill k (map row_of rs) d.drives }) e) → Gives (map_from row_fields k rs ++ gss) line (Drives k) d e
-gives-rows [] gss k line d e l m c f g = absurd (omega arith)
-gives-rows (r ∷ []) gss k line d e l m c f g =
-    row-gives r gss k line d e l m f.0 (rw (le-ltb k d.n (omega arith)) (g (line + 1)))
-gives-rows (r ∷ x ∷ rs) gss k line d e l m c f g =
-    row-gives r (map_from row_fields (k + 1) (x ∷ rs) ++ gss) k line d e l m f.0
-    (rw (lt-ltb k d.n (omega arith)) (gives-rows (x ∷ rs) gss (k + 1) (line + 1) (with_row d k (row_of r)) e l (omega arith) (omega arith) f.1 g))
-
--- the line of door k, and the lines after it
-door-gives : (x : door.Door) (fss : List (List (List ℕ))) (k line : ℕ) (d e : Draft) → d.n ≤ 16 → 1 ≤ k → k ≤ d.n → DoorFits x → Gives fss (line + 1) (if nat_lt k d.n then Doors (k + 1) else Drives 0) (with_door d k x) e → Gives (door_fields k x ∷ fss) line (Doors k) d e
-door-gives x fss k line d e l o m f g =
-    line-gives (door_fields k x) fss line (Doors k) _ d (with_door d k x) e (clean-door k x (omega arith) f) (door-back k d x line o m l f) g
+gives-rows : (rs : List (List ℕ)) (gss : List (List (List ℕ))) (k line : ℕ) (d e : Draft) → d.n ≤ 16 → length rs + k ≡ d.n + 1 → AllFrom (RowFits d.n) k rs → ((m : ℕ) → Gives gss m Pairs (record d { drives = fill k (map row_of rs) d.drives }) e) → Gives (map_from row_fields k rs ++ gss) line (drives_from d.n k) d e
+gives-rows [] gss k line d e l c f g = rw (lt-ltb d.n k (omega arith)) (g line)
+gives-rows (r ∷ rs) gss k line d e l c f g =
+    let clean : Clean (row_fields k r) = (omega arith, rw (clear-decimal k (omega arith)) (clean-legs k 1 r f.0.1)) in
+    let rest = gives-rows rs gss (k + 1) (line + 1) (with_row d k (row_of r)) e l (omega arith) f.1 g in
+    rw (le-ltb d.n k (omega arith)) (line-gives (row_fields k r) _ line (Drives k) _ d (with_row d k (row_of r)) e clean (row-back k d r line (omega arith) l f.0) rest)
 
 -- the door lines from door k on, and the lines after them
-gives-doors : (xs : List door.Door) (gss : List (List (List ℕ))) (k line : ℕ) (d e : Draft) → d.n ≤ 16 → 1 ≤ k → k ≤ d.n → length xs + k ≡ d.n + 1 → All DoorFits xs → ((m : ℕ) → Gives gss m (Drives 0) (record d { doors = fill k xs d.doors }) e) → Gives (map_from door_fields k xs ++ gss) line (Doors k) d e
-gives-doors [] gss k line d e l o m c f g = absurd (omega arith)
-gives-doors (x ∷ []) gss k line d e l o m c f g =
-    door-gives x gss k line d e l o m (All-head DoorFits x [] f) (rw (le-ltb k d.n (omega arith)) (g (line + 1)))
-gives-doors (x ∷ y ∷ xs) gss k line d e l o m c f g =
-    door-gives x (map_from door_fields (k + 1) (y ∷ xs) ++ gss) k line d e l o m (All-head DoorFits x (y ∷ xs) f)
-    (rw (lt-ltb k d.n (omega arith)) (gives-doors (y ∷ xs) gss (k + 1) (line + 1) (with_door d k x) e l (omega arith) (omega arith) (omega arith) (All-tail DoorFits x (y ∷ xs) f) g))
+gives-doors : (xs : List door.Door) (gss : List (List (List ℕ))) (k line : ℕ) (d e : Draft) → d.n ≤ 16 → 1 ≤ k → length xs + k ≡ d.n + 1 → All DoorFits xs → ((m : ℕ) → Gives gss m (Drives 0) (record d { doors = fill k xs d.doors }) e) → Gives (map_from door_fields k xs ++ gss) line (doors_from d.n k) d e
+gives-doors [] gss k line d e l o c f g = rw (lt-ltb d.n k (omega arith)) (g line)
+gives-doors (x ∷ xs) gss k line d e l o c f g =
+    let h = All-head DoorFits x xs f in
+    let clean : Clean (door_fields k x) = (omega arith, grind (arith, clear-decimal, clear-signed)) in
+    let rest = gives-doors xs gss (k + 1) (line + 1) (with_door d k x) e l (omega arith) (omega arith) (All-tail DoorFits x xs f) g in
+    rw (le-ltb d.n k (omega arith)) (line-gives (door_fields k x) _ line (Doors k) _ d (with_door d k x) e clean (door-back k d x line o (omega arith) l h) rest)
 
 -- all lines of a content in range are accepted, and give its round
 gives-all : (c : Content) → Fits c → Gives (records c) 1 Head unread (round_of c)
 gives-all c f =
     let h = c.head in
     let d = with_head unread h in
+    let e = round_of c in
+    let ps = map pair_fields c.pairs in
     let u : Draft = record d { doors = fill 1 c.doors unread.doors } in
     let v : Draft = record u { drives = fill 0 (map row_of c.rows) unread.drives } in
-    let clean : Clean (head_fields h) = (omega arith, rw (clear-decimal h.n (omega (arith, f.most)), clear-decimal h.load (omega (arith, f.load, f.cap)), clear-decimal h.cap (omega (arith, f.cap)))) in
-    line-gives (head_fields h) _ 1 Head (Doors 1) unread d _ clean (head-back unread h 1 f.one f.most f.load f.cap)
-    (gives-doors c.doors _ 1 2 d _ f.most (omega arith) f.one (omega (arith, f.many)) f.doors
-    (λ m. gives-rows c.rows _ 0 m u _ f.most (omega arith) (omega (arith, f.places)) f.rows
-    (λ n. gives-pairs c.pairs n v f.most f.pairs)))
+    let clean : Clean (head_fields h) = (omega arith, grind (arith, clear-decimal)) in
+    let step : line_step Head unread 1 (head_fields h) ≡ Ok (Doors 1, d) =
+    grind (arith, nat_tests, number-back 1 16 h.n 1 2, number-back 0 999 h.load 1 3, number-back h.load 999 h.cap 1 4) in
+    line-gives (head_fields h) _ 1 Head (Doors 1) unread d _ clean step
+    (rw (le-ltb h.n 1 f.one) at (gives-doors c.doors (map_from row_fields 0 c.rows ++ ps) 1 2 d e f.most (omega arith) (omega (arith, f.many)) f.doors
+    (λ m. rw (le-ltb h.n 0 (omega arith)) at (gives-rows c.rows ps 0 m u e f.most (omega (arith, f.places)) f.rows
+    (λ n. gives-pairs c.pairs n v f.most f.pairs)))))
 
 -- a text of the form is accepted, and gives the round of that form
 pub form-accepted : (text : List ℕ) (d : Draft) → HasForm text d → read_text text ≡ Ok d
 form-accepted text d h = rw (← h.same, ← h.round) (gives-all h.content h.fits)
 
 -- a refused text has not the form
-pub refused-form : (text : List ℕ) (r : Refusal) → Err r ≡ read_text text → (d : Draft) → ¬ HasForm text d
-refused-form text r e d h = let t = form-accepted text d h in absurd cc
+pub refused_form : (text : List ℕ) (r : Refusal) → Err r ≡ read_text text → (d : Draft) → ¬ HasForm text d
+refused_form text r e d h = let t = form-accepted text d h in absurd cc

@@ -1,9 +1,6 @@
 -- An accepted text has the form of a round's text.
-use Rattle.std.proofs.Common.{◌≡◌, ◌≢◌, ◌⊎◌, ℕ, zero, suc, ◌+◌, ◌-◌, ◌<◌, ◌≤◌, Bool, true, false, nat_eq, nat_lt, List, [], ◌∷◌, ◌++◌, map, fold, length, slice_index_or, drop, slice_set, replicate, Ok, Err, codes, Result, sym, refl, ap, ◌∙◌, subst, ⊎_elim, arith, eqb-true, ltb-true, ltb-false}
+use Rattle.std.proofs.Common.{◌≡◌, ◌≢◌, ℕ, zero, suc, ◌+◌, ◌-◌, ◌<◌, ◌≤◌, List, [], ◌∷◌, ◌++◌, map, fold, length, slice_index_or, drop, slice_set, replicate, Ok, Err, codes, Result, sym, refl, ap, ◌∙◌, subst, arith, le-ltb, lt-ltb}
 use Rattle.std.specs.List.{All, join_with_byte, range_with_len}
-use Rattle.std.specs.Bool.{if◌then◌else◌}
-use Rattle.std.specs.Str.{bytes_eq}
-use Rattle.std.proofs.lemmas.Bool.{cases_Bool}
 use Rattle.std.proofs.lemmas.Bool.Decides.{nat_tests}
 use Rattle.std.proofs.lemmas.List.{drop_more, drop_all, nil_from_length}
 use Rattle.std.proofs.lemmas.List.Elements.{All-nil, All-cons}
@@ -11,9 +8,7 @@ use Rattle.std.proofs.lemmas.List.FromFn.{fill_by_all}
 use Rattle.std.proofs.lemmas.List.Splits.{join_with_byte-slice_split}
 use Rattle.std.proofs.lemmas.Slice.Eq.{bytes_eq-Decides}
 use Rattle.text.specs.declared.refusal.Refusal.{Refusal}
-use Rattle.text.specs.declared.refusal.Refusal.TheVariants.{FieldCount, OutOfTurn, Unended}
-use Rattle.text.specs.declared.kind.Kind.{Kind}
-use Rattle.text.specs.declared.kind.Kind.TheVariants.{Round, Door, Drive, First, Other}
+use Rattle.text.specs.declared.kind.Kind.TheVariants.{Round, Door, Drive, First}
 use Rattle.text.specs.declared.stage.Stage.{Stage}
 use Rattle.text.specs.declared.stage.Stage.TheVariants.{Head, Doors, Drives, Pairs}
 use Rattle.text.specs.declared.draft.Draft.{Draft}
@@ -22,13 +17,12 @@ use Rattle.text.specs.declared.line.Head as head
 use Rattle.text.specs.declared.line.Pair as pair
 use Rattle.text.specs.Fields.{number_in, change_in}
 use Rattle.text.specs.Pieces.{fields_in, lines_in}
-use Rattle.text.specs.Kinds.{named}
-use Rattle.text.specs.Lines.{and_then, counted, head_of, door_due, in_turn, leg_in, row_from, row_due, pair_of}
+use Rattle.text.specs.Lines.{and_then, counted, in_turn, leg_in, row_from}
 use Rattle.text.specs.Steps.{line_step, kind_step}
 use Rattle.text.specs.Reading.{read_lines, read_text, at_end}
 use Rattle.text.specs.Drafts.{unread, with_head, with_door, with_row, with_ahead, with_pair}
 use Rattle.text.specs.Form.{map_from, head_fields, door_fields, leg_field, row_fields, pair_fields, written, AllFrom, DoorFits, LegFits, RowFits, PairFits, fill, row_of, HasForm}
-use Rattle.text.proofs.Pieces.{some-piece}
+use Rattle.text.proofs.Texts.{some-piece, doors_from, drives_from, after}
 use Rattle.text.proofs.Numbers.{Says, number-says, change-says}
 
 -- ---- results
@@ -38,65 +32,31 @@ then_ok : {A B : Type 0} (r : Result A Refusal) (k : A → Result B Refusal) (b 
 then_ok (Ok a) k b e = (a, refl, e)
 then_ok (Err x) k b e = absurd cc
 
--- a test that was passed
-if_ok : {A : Type 0} (t : Bool) (r : Result A Refusal) (x : Refusal) (b : A) → (if t then r else Err x) ≡ Ok b → (t ≡ true) × (r ≡ Ok b)
-if_ok true r x b e = (refl, e)
-if_ok false r x b e = absurd cc
-
 -- a number that went on
 then-number : {B : Type 0} (low high : ℕ) (f : List ℕ) (line k : ℕ) (K : ℕ → Result B Refusal) (b : B) → high ≤ 9999 → and_then (number_in low high f line k) K ≡ Ok b → (v : ℕ) × Says low high f v × (K v ≡ Ok b)
 then-number low high f line k K b l e =
     let a = then_ok (number_in low high f line k) K b e in
     (a.0, number-says low high f line k a.0 l a.1, a.2)
 
--- ---- kinds
+-- where a line is taken, its kind is the one that is due, which its word alone names
+abbrev Taken : Stage → Draft → ℕ → List (List ℕ) → Stage × Draft → Type 0
+Taken Head d line fs t = (codes "round" ≡ slice_index_or fs 0 []) × (kind_step Head Round d line fs ≡ Ok t)
+Taken (Doors k) d line fs t = (codes "door" ≡ slice_index_or fs 0 []) × (kind_step (Doors k) Door d line fs ≡ Ok t)
+Taken (Drives k) d line fs t = (codes "drive" ≡ slice_index_or fs 0 []) × (kind_step (Drives k) Drive d line fs ≡ Ok t)
+Taken Pairs d line fs t = (codes "first" ≡ slice_index_or fs 0 []) × (kind_step Pairs First d line fs ≡ Ok t)
 
--- the kind that is due
-abbrev due : Stage → Kind
-due Head = Round
-due (Doors k) = Door
-due (Drives k) = Drive
-due Pairs = First
+line-due : (s : Stage) (d : Draft) (line : ℕ) (fs : List (List ℕ)) (t : Stage × Draft) → line_step s d line fs ≡ Ok t → Taken s d line fs t
+line-due Head d line fs t e = grind (arith, bytes_eq-Decides (slice_index_or fs 0 []))
+line-due (Doors k) d line fs t e = grind (arith, bytes_eq-Decides (slice_index_or fs 0 []))
+line-due (Drives k) d line fs t e = grind (arith, bytes_eq-Decides (slice_index_or fs 0 []))
+line-due Pairs d line fs t e = grind (arith, bytes_eq-Decides (slice_index_or fs 0 []))
 
--- where a line is taken, its kind is the one that is due
-kind-due : (s : Stage) (k : Kind) (d : Draft) (line : ℕ) (fs : List (List ℕ)) (t : Stage × Draft) → kind_step s k d line fs ≡ Ok t → k ≡ due s
-kind-due Head Round d line fs t e = refl
-kind-due (Doors i) Door d line fs t e = refl
-kind-due (Drives i) Drive d line fs t e = refl
-kind-due Pairs First d line fs t e = refl
-kind-due s k d line fs t e = absurd cc
-
--- a kind is named by its word alone
-abbrev Named : Kind → List ℕ → Type 0
-Named Round f = codes "round" ≡ f
-Named Door f = codes "door" ≡ f
-Named Drive f = codes "drive" ≡ f
-Named First f = codes "first" ≡ f
-Named Other f = Unit {0}
-
--- a field is a word or is not
-word_tells : (f w : List ℕ) → ((bytes_eq f w ≡ true) × (f ≡ w)) ⊎ ((bytes_eq f w ≡ false) × (f ≢ w))
-word_tells f w = grind (arith, bytes_eq-Decides f w)
-
-named-is : (f : List ℕ) (k : Kind) → named f ≡ k → Named k f
-named-is f Round e = grind (arith, word_tells f)
-named-is f Door e = grind (arith, word_tells f)
-named-is f Drive e = grind (arith, word_tells f)
-named-is f First e = grind (arith, word_tells f)
-named-is f Other e = tt
-
--- a line that is taken has the word of the kind that is due
-line-due : (s : Stage) (d : Draft) (line : ℕ) (fs : List (List ℕ)) (t : Stage × Draft) → line_step s d line fs ≡ Ok t → Named (due s) (slice_index_or fs 0 []) × (kind_step s (due s) d line fs ≡ Ok t)
-line-due s d line fs t e =
-    let k = kind-due s (named (slice_index_or fs 0 [])) d line fs t e in
-    (named-is (slice_index_or fs 0 []) (due s) k, rw k at e)
-
--- the fields of a line that has so many
-fields-are : {A : Type 0} (n line : ℕ) (fs : List (List ℕ)) (r : Result A Refusal) (b : A) → counted n line fs r ≡ Ok b → (length fs ≡ n) × (fs ≡ map (λ k. slice_index_or fs k []) (range_with_len 0 n)) × (r ≡ Ok b)
-fields-are n line fs r b e =
-    let c = if_ok (nat_eq (length fs) n) r (FieldCount line) b e in
-    let many = eqb-true (length fs) n c.0 in
-    (many, fill_by_all (λ k. slice_index_or fs k []) fs n [] many (λ k m. refl), c.1)
+-- the fields of a line that has so many, where what they say went on
+fields-are : {A B : Type 0} (n line : ℕ) (fs : List (List ℕ)) (r : Result A Refusal) (k : A → Result B Refusal) (b : B) → and_then (counted n line fs r) k ≡ Ok b → (length fs ≡ n) × (fs ≡ map (λ k. slice_index_or fs k []) (range_with_len 0 n)) × (a : A) × (r ≡ Ok a) × (k a ≡ Ok b)
+fields-are n line fs r k b e =
+    let o = then_ok (counted n line fs r) k b e in
+    let c : (length fs ≡ n) × (r ≡ Ok o.0) = grind (arith, nat_tests, o.1) in
+    (c.0, fill_by_all (λ k. slice_index_or fs k []) fs n [] c.0 (λ k m. refl), o.0, c.1, o.2)
 
 -- ---- a line of each kind
 
@@ -104,23 +64,21 @@ fields-are n line fs r b e =
 pair-form : (d : Draft) (line : ℕ) (fs : List (List ℕ)) (t : Stage × Draft) → d.n ≤ 16 → line_step Pairs d line fs ≡ Ok t → (p : pair.Pair) × (pair_fields p ≡ fs) × PairFits d.n p × ((Pairs, with_pair d p) ≡ t)
 pair-form d line fs t l e =
     let q = line-due Pairs d line fs t e in
-    let o = then_ok (pair_of d.n line fs) _ t q.1 in
-    let c = fields-are 3 line fs _ o.0 o.1 in
-    let a = then-number 1 d.n (slice_index_or fs 1 []) line 2 _ o.0 (omega arith) c.2 in
-    let b = then-number 1 d.n (slice_index_or fs 2 []) line 3 _ o.0 (omega arith) a.2 in
+    let c = fields-are 3 line fs _ _ t q.1 in
+    let a = then-number 1 d.n (slice_index_or fs 1 []) line 2 _ c.2 (omega arith) c.3 in
+    let b = then-number 1 d.n (slice_index_or fs 2 []) line 3 _ c.2 (omega arith) a.2 in
     let p : pair.Pair = record { first = a.0; then = b.0 } in
-    let r : (a.0 ≢ b.0) × (p ≡ o.0) = grind (arith, nat_tests, b.2) in
+    let r : (a.0 ≢ b.0) × (p ≡ c.2) = grind (arith, nat_tests, b.2) in
     (p, cc, record { first = a.1.from; most = a.1.to; second = b.1.from; last = b.1.to; apart = r.0 }, cc)
 
 -- so is a round line
 head-form : (line : ℕ) (fs : List (List ℕ)) (t : Stage × Draft) → line_step Head unread line fs ≡ Ok t → (h : head.Head) × (head_fields h ≡ fs) × Says 1 16 (slice_index_or fs 1 []) h.n × Says h.load 999 (slice_index_or fs 3 []) h.cap × ((Doors 1, with_head unread h) ≡ t)
 head-form line fs t e =
     let q = line-due Head unread line fs t e in
-    let o = then_ok (head_of line fs) _ t q.1 in
-    let c = fields-are 4 line fs _ o.0 o.1 in
-    let a = then-number 1 16 (slice_index_or fs 1 []) line 2 _ o.0 (omega arith) c.2 in
-    let b = then-number 0 999 (slice_index_or fs 2 []) line 3 _ o.0 (omega arith) a.2 in
-    let f = then-number b.0 999 (slice_index_or fs 3 []) line 4 _ o.0 (omega arith) b.2 in
+    let c = fields-are 4 line fs _ _ t q.1 in
+    let a = then-number 1 16 (slice_index_or fs 1 []) line 2 _ c.2 (omega arith) c.3 in
+    let b = then-number 0 999 (slice_index_or fs 2 []) line 3 _ c.2 (omega arith) a.2 in
+    let f = then-number b.0 999 (slice_index_or fs 3 []) line 4 _ c.2 (omega arith) b.2 in
     (record { n = a.0; load = b.0; cap = f.0 }, cc, a.1, f.1, cc)
 
 -- where a line goes on after its number, that is the one that is due
@@ -128,17 +86,16 @@ turn-says : {A : Type 0} (low high due line : ℕ) (fs : List (List ℕ)) (r : R
 turn-says low high due line fs r b l e =
     let o = then_ok (in_turn low high due line fs) _ b e in
     let a = then-number low high (slice_index_or fs 1 []) line 2 _ o.0 l o.1 in
-    let c = if_ok (nat_eq a.0 due) (Ok tt) (OutOfTurn line 2) o.0 a.2 in
-    (subst (Says low high (slice_index_or fs 1 [])) (eqb-true a.0 due c.0) a.1, o.2)
+    let c : a.0 ≡ due = grind (arith, nat_tests, a.2) in
+    (rw (← c) a.1, o.2)
 
 -- so is a door line
-door-form : (d : Draft) (k line : ℕ) (fs : List (List ℕ)) (t : Stage × Draft) → d.n ≤ 16 → line_step (Doors k) d line fs ≡ Ok t → (x : door.Door) × (door_fields k x ≡ fs) × DoorFits x × ((if nat_lt k d.n then Doors (k + 1) else Drives 0, with_door d k x) ≡ t)
+door-form : (d : Draft) (k line : ℕ) (fs : List (List ℕ)) (t : Stage × Draft) → d.n ≤ 16 → line_step (Doors k) d line fs ≡ Ok t → (x : door.Door) × (door_fields k x ≡ fs) × DoorFits x × ((doors_from d.n (k + 1), with_door d k x) ≡ t)
 door-form d k line fs t l e =
     let q = line-due (Doors k) d line fs t e in
-    let o = then_ok (door_due d.n k line fs) _ t q.1 in
-    let x = o.0 in
-    let c = fields-are 7 line fs _ x o.1 in
-    let i = turn-says 1 d.n k line fs _ x (omega arith) c.2 in
+    let c = fields-are 7 line fs _ _ t q.1 in
+    let x = c.2 in
+    let i = turn-says 1 d.n k line fs _ x (omega arith) c.3 in
     let a = then-number 0 9999 (slice_index_or fs 2 []) line 3 _ x (omega arith) i.1 in
     let b = then-number 0 9999 (slice_index_or fs 3 []) line 4 _ x (omega arith) a.2 in
     let f = then-number 0 9999 (slice_index_or fs 4 []) line 5 _ x (omega arith) b.2 in
@@ -147,13 +104,13 @@ door-form d k line fs t l e =
     let z = change-says (slice_index_or fs 6 []) line 7 g.0 g.1 in
     let r : door.Door = record { opens = a.0; closes = b.0; due = f.0; work = w.0; change = g.0 } in
     let fits : DoorFits r = record { opens = a.1.to; closes = b.1.to; due = f.1.to; some = w.1.from; work = w.1.to; low = z.low; high = z.high } in
-    (r, cc, fits, cc)
+    (r, cc, fits, cc (after d.n k (Doors (k + 1)) (Drives 0)))
 
 -- and the field of a drive
 leg-form : (i j line : ℕ) (fs : List (List ℕ)) (v : ℕ) → leg_in i j line fs ≡ Ok v → (leg_field i j v ≡ slice_index_or fs (j + 2 - 1) []) × LegFits i j v
 leg-form i j line fs v e =
     let f = slice_index_or fs (j + 2 - 1) [] in
-    grind (arith, nat_tests, word_tells f (codes "-"), number-says 0 999 f line (j + 2) v)
+    grind (arith, nat_tests, bytes_eq-Decides f (codes "-"), number-says 0 999 f line (j + 2) v)
 
 -- and the fields of the drives to the doors from j on
 legs-form : (m i j line : ℕ) (fs : List (List ℕ)) (row out : List ℕ) → length fs ≡ j + 1 + m → row_from m i j line fs row ≡ Ok out → (vs : List ℕ) × (length vs ≡ m) × (map_from (leg_field i) j vs ≡ drop (j + 1) fs) × (fill j vs row ≡ out) × AllFrom (LegFits i) j vs
@@ -168,35 +125,29 @@ legs-form (suc m) i j line fs row out l e =
     (a.0 ∷ h.0, omega (arith, h.1), cc, h.3, (f.1, h.4))
 
 -- and a drive line
-row-form : (d : Draft) (k line : ℕ) (fs : List (List ℕ)) (t : Stage × Draft) → d.n ≤ 16 → line_step (Drives k) d line fs ≡ Ok t → (vs : List ℕ) × (row_fields k vs ≡ fs) × RowFits d.n k vs × ((if nat_lt k d.n then Drives (k + 1) else Pairs, with_row d k (row_of vs)) ≡ t)
+row-form : (d : Draft) (k line : ℕ) (fs : List (List ℕ)) (t : Stage × Draft) → d.n ≤ 16 → line_step (Drives k) d line fs ≡ Ok t → (vs : List ℕ) × (row_fields k vs ≡ fs) × RowFits d.n k vs × ((drives_from d.n (k + 1), with_row d k (row_of vs)) ≡ t)
 row-form d k line fs t l e =
     let q = line-due (Drives k) d line fs t e in
-    let o = then_ok (row_due d.n k line fs) _ t q.1 in
-    let c = fields-are (d.n + 2) line fs _ o.0 o.1 in
-    let i = turn-says 0 d.n k line fs _ o.0 (omega arith) c.2 in
-    let r = legs-form d.n k 1 line fs (replicate 17 0) o.0 (omega arith) i.1 in
+    let c = fields-are (d.n + 2) line fs _ _ t q.1 in
+    let i = turn-says 0 d.n k line fs _ c.2 (omega arith) c.3 in
+    let r = legs-form d.n k 1 line fs (replicate 17 0) c.2 (omega arith) i.1 in
     let s = drop_more fs 0 [] (omega arith) in
     let u = drop_more fs 1 [] (omega arith) in
-    (r.0, cc, (r.1, r.4), cc)
+    (r.0, cc, (r.1, r.4), cc (after d.n k (Drives (k + 1)) Pairs))
 
 -- ---- the lines of each kind
 
 -- the lines by their fields, one step for each
 abbrev Run : List (List (List ℕ)) → Stage → Draft → Draft → Type 0
-Run [] s d e = (s ≡ Pairs) × (d ≡ e)
+Run [] s d e = (line : ℕ) × (at_end s d line ≡ Ok e)
 Run (fs ∷ fss) s d e = (line : ℕ) × (t : Stage × Draft) × (line_step s d line fs ≡ Ok t) × Run fss t.0 t.1 e
-
--- a text ends with pairs
-end-run : (line : ℕ) (s : Stage) (d e : Draft) → at_end s d line ≡ Ok e → (s ≡ Pairs) × (d ≡ e)
-end-run line Pairs d e h = (refl, cc)
-end-run line s d e h = absurd cc
 
 -- the lines of an accepted text are taken one after another
 run-lines : (ps : List (List ℕ)) (line : ℕ) (s : Stage) (d e : Draft) → 0 < length ps → read_lines ps line s d ≡ Ok e → (fss : List (List (List ℕ))) × (written fss ≡ join_with_byte 10 ps) × Run fss s d e
 run-lines [] line s d e l h = absurd (omega arith)
 run-lines (p ∷ []) line s d e l h =
-    let a = if_ok (nat_eq (length p) 0) (at_end s d line) (Unended line) e h in
-    ([], sym (nil_from_length p (eqb-true (length p) 0 a.0)), end-run line s d e a.1)
+    let a : (length p ≡ 0) × (at_end s d line ≡ Ok e) = grind (arith, nat_tests) in
+    ([], sym (nil_from_length p a.0), (line, a.1))
 run-lines (p ∷ q ∷ ps) line s d e l h =
     let a = then_ok (line_step s d line (fields_in p)) _ e h in
     let r = run-lines (q ∷ ps) (line + 1) a.0.0 a.0.1 e (omega arith) a.2 in
@@ -205,45 +156,40 @@ run-lines (p ∷ q ∷ ps) line s d e l h =
 
 -- the lines from the first pair on
 pairs-form : (fss : List (List (List ℕ))) (d e : Draft) → d.n ≤ 16 → Run fss Pairs d e → (qs : List pair.Pair) × (map pair_fields qs ≡ fss) × (record d { ahead = fold with_ahead d.ahead qs } ≡ e) × All (PairFits d.n) qs
-pairs-form [] d e l r = ([], refl, r.1, All-nil (PairFits d.n))
+pairs-form [] d e l r = ([], refl, cc, All-nil (PairFits d.n))
 pairs-form (fs ∷ fss) d e l r =
     let q = pair-form d r.0 fs r.1 l r.2 in
     let i = pairs-form fss (with_pair d q.0) e l (subst (λ (z : Stage × Draft). Run fss z.0 z.1 e) (sym q.3) r.3) in
     (q.0 ∷ i.0, cc, i.2, All-cons (PairFits d.n) q.0 i.0 q.2 i.3)
 
--- the lines from the drives of place k on: drive lines, and what pairs make of the rest
-rows-form : (fss : List (List (List ℕ))) (k : ℕ) (d e : Draft) → d.n ≤ 16 → k ≤ d.n → Run fss (Drives k) d e → (rs : List (List ℕ)) × (gss : List (List (List ℕ))) × (map_from row_fields k rs ++ gss ≡ fss) × (length rs + k ≡ d.n + 1) × AllFrom (RowFits d.n) k rs × Run gss Pairs (record d { drives = fill k (map row_of rs) d.drives }) e
-rows-form [] k d e l m r = absurd cc
-rows-form (fs ∷ fss) k d e l m r =
-    let q = row-form d k r.0 fs r.1 l r.2 in
-    let go = subst (λ (z : Stage × Draft). Run fss z.0 z.1 e) (sym q.3) r.3 in
-    ⊎_elim
-    (λ t.
-    let i = rows-form fss (k + 1) (with_row d k (row_of q.0)) e l (omega (arith, ltb-true k d.n t)) (rw t at go) in
-    (q.0 ∷ i.0, i.1, cc, omega (arith, i.3), (q.2, i.4), i.5))
-    (λ t. (q.0 ∷ [], fss, cc, omega (arith, ltb-false k d.n t), (q.2, tt), rw t at go))
-    (cases_Bool (nat_lt k d.n))
+-- the lines from the drives of place k on, of m places: drive lines, and what pairs make of the rest
+rows-form : (m : ℕ) (fss : List (List (List ℕ))) (k : ℕ) (d e : Draft) → d.n ≤ 16 → k + m ≡ d.n + 1 → Run fss (drives_from d.n k) d e → (rs : List (List ℕ)) × (gss : List (List (List ℕ))) × (map_from row_fields k rs ++ gss ≡ fss) × (length rs ≡ m) × AllFrom (RowFits d.n) k rs × Run gss Pairs (record d { drives = fill k (map row_of rs) d.drives }) e
+rows-form zero fss k d e l h r = ([], fss, refl, refl, tt, rw (lt-ltb d.n k (omega arith)) at r)
+rows-form (suc m) [] k d e l h r = let o = rw (le-ltb d.n k (omega arith)) at r in absurd cc
+rows-form (suc m) (fs ∷ fss) k d e l h r =
+    let o = rw (le-ltb d.n k (omega arith)) at r in
+    let q = row-form d k o.0 fs o.1 l o.2 in
+    let i = rows-form m fss (k + 1) (with_row d k (row_of q.0)) e l (omega arith) (subst (λ (z : Stage × Draft). Run fss z.0 z.1 e) (sym q.3) o.3) in
+    (q.0 ∷ i.0, i.1, cc, cc, (q.2, i.4), i.5)
 
--- the lines from door k on: door lines, and what drives make of the rest
-doors-form : (fss : List (List (List ℕ))) (k : ℕ) (d e : Draft) → d.n ≤ 16 → k ≤ d.n → Run fss (Doors k) d e → (xs : List door.Door) × (gss : List (List (List ℕ))) × (map_from door_fields k xs ++ gss ≡ fss) × (length xs + k ≡ d.n + 1) × All DoorFits xs × Run gss (Drives 0) (record d { doors = fill k xs d.doors }) e
-doors-form [] k d e l m r = absurd cc
-doors-form (fs ∷ fss) k d e l m r =
-    let q = door-form d k r.0 fs r.1 l r.2 in
-    let go = subst (λ (z : Stage × Draft). Run fss z.0 z.1 e) (sym q.3) r.3 in
-    ⊎_elim
-    (λ t.
-    let i = doors-form fss (k + 1) (with_door d k q.0) e l (omega (arith, ltb-true k d.n t)) (rw t at go) in
-    (q.0 ∷ i.0, i.1, cc, omega (arith, i.3), All-cons DoorFits q.0 i.0 q.2 i.4, i.5))
-    (λ t. (q.0 ∷ [], fss, cc, omega (arith, ltb-false k d.n t), All-cons DoorFits q.0 [] q.2 (All-nil DoorFits), rw t at go))
-    (cases_Bool (nat_lt k d.n))
+-- the lines from door k on, of m doors: door lines, and what drives make of the rest
+doors-form : (m : ℕ) (fss : List (List (List ℕ))) (k : ℕ) (d e : Draft) → d.n ≤ 16 → k + m ≡ d.n + 1 → Run fss (doors_from d.n k) d e → (xs : List door.Door) × (gss : List (List (List ℕ))) × (map_from door_fields k xs ++ gss ≡ fss) × (length xs ≡ m) × All DoorFits xs × Run gss (Drives 0) (record d { doors = fill k xs d.doors }) e
+doors-form zero fss k d e l h r = ([], fss, refl, refl, All-nil DoorFits, rw (lt-ltb d.n k (omega arith)) at r)
+doors-form (suc m) [] k d e l h r = let o = rw (le-ltb d.n k (omega arith)) at r in absurd cc
+doors-form (suc m) (fs ∷ fss) k d e l h r =
+    let o = rw (le-ltb d.n k (omega arith)) at r in
+    let q = door-form d k o.0 fs o.1 l o.2 in
+    let i = doors-form m fss (k + 1) (with_door d k q.0) e l (omega arith) (subst (λ (z : Stage × Draft). Run fss z.0 z.1 e) (sym q.3) o.3) in
+    (q.0 ∷ i.0, i.1, cc, cc, All-cons DoorFits q.0 i.0 q.2 i.4, i.5)
 
 -- all lines
 run-form : (fss : List (List (List ℕ))) (e : Draft) → Run fss Head unread e → HasForm (written fss) e
 run-form [] e r = absurd cc
 run-form (fs ∷ fss) e r =
     let h = head-form r.0 fs r.1 r.2 in
-    let x = doors-form fss 1 (with_head unread h.0) e h.2.to h.2.from (subst (λ (z : Stage × Draft). Run fss z.0 z.1 e) (sym h.4) r.3) in
-    let w = rows-form x.1 0 (record (with_head unread h.0) { doors = fill 1 x.0 unread.doors }) e h.2.to (omega arith) x.5 in
+    let n = h.0.n in
+    let x = doors-form n fss 1 (with_head unread h.0) e h.2.to (omega arith) (rw (le-ltb n 1 h.2.from) (subst (λ (z : Stage × Draft). Run fss z.0 z.1 e) (sym h.4) r.3)) in
+    let w = rows-form (n + 1) x.1 0 (record (with_head unread h.0) { doors = fill 1 x.0 unread.doors }) e h.2.to (omega arith) (rw (le-ltb n 0 (omega arith)) x.5) in
     let p = pairs-form w.1 (record (with_head unread h.0) { doors = fill 1 x.0 unread.doors; drives = fill 0 (map row_of w.0) unread.drives }) e h.2.to w.5 in
     record {
       content = record { head = h.0; doors = x.0; rows = w.0; pairs = p.0 };
@@ -252,9 +198,9 @@ run-form (fs ∷ fss) e r =
         most = h.2.to;
         load = h.3.from;
         cap = h.3.to;
-        many = omega (arith, x.3);
+        many = x.3;
         doors = x.4;
-        places = omega (arith, w.3);
+        places = w.3;
         rows = w.4;
         pairs = p.3;
       };
@@ -263,7 +209,7 @@ run-form (fs ∷ fss) e r =
     }
 
 -- an accepted text has the form, and gives the round of that form
-pub accepted-form : (text : List ℕ) (d : Draft) → read_text text ≡ Ok d → HasForm text d
-accepted-form text d h =
+pub accepted_form : (text : List ℕ) (d : Draft) → read_text text ≡ Ok d → HasForm text d
+accepted_form text d h =
     let r = run-lines (lines_in text) 1 Head unread d (some-piece 10 text) h in
     subst (λ t. HasForm t d) (r.1 ∙ join_with_byte-slice_split 10 text) (run-form r.0 d r.2)

@@ -3,7 +3,6 @@ use Rattle.std.proofs.Common.{◌≡◌, ◌⊎◌, ℕ, zero, suc, ◌+◌, ◌
 use borrow.Author.Differences.{ints}
 use Rattle.std.specs.Char.{digit_value, is_ascii_digit}
 use Rattle.std.specs.Fmt.{signed_decimal}
-use Rattle.std.specs.Int.{IsInRange}
 use Rattle.std.specs.List.{list_all}
 use Rattle.std.specs.Str.{all_ascii_digits}
 use Rattle.std.specs.Str.Parse.{digits_value}
@@ -23,36 +22,28 @@ all-digits [] = refl
 all-digits (x ∷ a) = ap (λ t. is_ascii_digit x && t) (all-digits a)
 
 -- the first digit is not 0, and the rest tells
-pub positive-rest : (a : List ℕ) → 1 ≤ length a → 49 ≤ slice_index_or a 0 0 → slice_index_or a 0 0 ≤ 57 → list_all is_ascii_digit (take (length a - 1) (drop 1 a)) ≡ positive a
-positive-rest [] l m n = absurd (omega arith)
-positive-rest (x ∷ a) l m n = rw (take_rest (x ∷ a) 1) (grind (arith, nat_tests, all-digits a))
+pub positive_rest : (a : List ℕ) → 1 ≤ length a → 49 ≤ slice_index_or a 0 0 → slice_index_or a 0 0 ≤ 57 → list_all is_ascii_digit (take (length a - 1) (drop 1 a)) ≡ positive a
+positive_rest [] l m n = absurd (omega arith)
+positive_rest (x ∷ a) l m n = rw (take_rest (x ∷ a) 1) (grind (arith, nat_tests, all-digits a))
 
 -- digits are numerals, and this is their value
 pub own : IsNumeralModel (λ ds. all_ascii_digits ds ≡ true) (digits_value 10)
 own = numerals_by_value _ tells_all_ascii_digits
 
--- a byte among digits is one
-pub digit-place : (a : List ℕ) (i : ℕ) → all_ascii_digits a ≡ true → i < length a → IsInRange 48 57 (slice_index_or a i 0)
-digit-place a i h l = digit_at a i (own.to a h) l
-
 -- one digit more
-pub value-step : (a : List ℕ) (i : ℕ) → i < length a → 48 ≤ slice_index_or a i 0 → slice_index_or a i 0 ≤ 57 → digits_value 10 (take (i + 1) a) ≡ digits_value 10 (take i a) * 10 + (slice_index_or a i 0 - 48)
-value-step a i l d e =
+pub value_step : (a : List ℕ) (i : ℕ) → all_ascii_digits a ≡ true → i < length a → (48 ≤ slice_index_or a i 0) × (slice_index_or a i 0 ≤ 57) × (digits_value 10 (take (i + 1) a) ≡ digits_value 10 (take i a) * 10 + (slice_index_or a i 0 - 48))
+value_step a i h l =
+    let d = digit_at a i (own.to a h) l in
     let v : digit_value (slice_index_or a i 0) ≡ slice_index_or a i 0 - 48 = grind (arith, nat_tests) in
-    digits_value_more 10 a i l ∙ ap (λ t. digits_value 10 (take i a) * 10 + t) v
+    (d.0, d.1, rw v at (digits_value_more 10 a i l))
 
 -- ---- from the bytes to the number
 
--- digits that do not start with 0 are how their value is written
-decimal-positive : (f : List ℕ) → positive f ≡ true → digits_value 10 f ≤ 9999 → decimal (digits_value 10 f) ≡ f
-decimal-positive f e l =
-    let p : (all_ascii_digits f ≡ true) × (48 < slice_index_or f 0 0) = grind (arith, nat_tests) in
-    decimal-digits_value own f p.0 (grind (arith, get_or_past f 0 0)) (λ z. absurd (omega arith)) (omega arith)
-
--- so is 0
+-- digits with no leading zero are how their value is written
 decimal-plain : (f : List ℕ) → plain f ≡ true → digits_value 10 f ≤ 9999 → decimal (digits_value 10 f) ≡ f
 decimal-plain f e l =
-    grind (arith, nat_tests, bytes_eq-Decides f (codes "0"), decimal-positive f, decimal_digit 0 (omega arith))
+    let p : (all_ascii_digits f ≡ true) × (0 < length f) × (slice_index_or f 0 0 ≡ 48 → length f ≡ 1) = grind (arith, nat_tests, bytes_eq-Decides f (codes "0"), get_or_past f 0 0) in
+    decimal-digits_value own f p.0 p.1 p.2 (omega arith)
 
 -- v is a number from low to high, and f is how it is written
 pub record Says (low high : ℕ) (f : List ℕ) (v : ℕ) : Type 0 where
@@ -88,7 +79,7 @@ change-says f line k z e =
     let q : ((plain f ≡ true) × (v ≤ 99) × (pos v ≡ z)) ⊎ ((minus f ≡ true) × (w ≤ 99) × (neg_ℤ (pos w) ≡ z)) = grind (arith, nat_tests) in
     ⊎_elim
     (λ p. subst (Changes f) p.2 (record { text = decimal-plain f p.0 (omega (arith, p.1)); low = omega (arith, ints, p.1); high = omega (arith, ints, p.1) }))
-    (λ m. subst (Changes f) m.2 (changes-minus f w m.0 (decimal-positive (drop 1 f) (grind (arith, nat_tests, m.0)) (omega (arith, m.1))) m.1))
+    (λ m. subst (Changes f) m.2 (changes-minus f w m.0 (decimal-plain (drop 1 f) (grind (arith, nat_tests, m.0)) (omega (arith, m.1))) m.1))
     q
 
 -- ---- from the number to the bytes

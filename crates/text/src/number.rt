@@ -13,6 +13,7 @@ use crate::token::Token;
 const LIMIT: u32 = 10_000;
 
 /// The number that digits write, or LIMIT if it is above that.
+#[tactic(auto, using(crate::proofs::Numbers::value_step))]
 fn amount(digits: &[u8]) -> u16
     requires { all_ascii_digits digits.now ≡ true }
     ensures { result ≡ min 10000 (digits_value 10 digits.now) }

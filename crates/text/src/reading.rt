@@ -10,6 +10,7 @@ use round::table::Round;
 const LONGEST: usize = 16_384;
 
 /// Writes the round whole once its text is accepted; a refusal leaves the round as it was.
+#[tactic(auto, using(crate::proofs::Forms::accepted_form))]
 pub fn read(round: &mut Round, text: &[u8]) -> Result<(), Refusal>
     ensures value { Reads result round.old round.new text.now }
     ensures form { Accepts result round.new text.now }

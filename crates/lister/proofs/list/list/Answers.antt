@@ -1,13 +1,12 @@
 -- From each order to the next one, and at the last.
-use Rattle.std.proofs.Common.{◌≡◌, ℕ, ◌-◌, ◌^◌, ◌<◌, ◌≤◌, List, ◌++◌, length, take, drop, refl, sym, ap, ◌∙◌, subst, take_all, le_refl, arith}
+use Rattle.std.proofs.Common.{◌≡◌, ℕ, ◌^◌, ◌<◌, List, ◌++◌, length, take, drop, refl, sym, ap, ◌∙◌, subst, take_all, le_refl, arith}
 use Rattle.std.specs.List.{range_with_len}
 use Rattle.std.specs.List.Sorted.{IsPermutation}
 use Rattle.std.proofs.lemmas.List.{take-append-le}
 use Rattle.std.proofs.lemmas.Slice.{drop-append-drop}
 use Rattle.std.proofs.lemmas.List.Elements.{All-nil}
 use Rattle.std.proofs.lemmas.List.Sorted.{IsPermutation-refl, IsPermutation-trans}
-use Rattle.lister.specs.Listed.{IsGood, listed_orders}
-use Rattle.lister.specs.Orders.{IsNext}
+use Rattle.lister.specs.Listed.{IsGood}
 use Rattle.lister.proofs.Rank.{rank, rank-lt, rank-before}
 use Rattle.lister.proofs.Doors.{long, small, by_number}
 use Rattle.lister.proofs.SoFar.{looked, started, stepped, ended}
@@ -16,13 +15,6 @@ use Rattle.lister.proofs.list.list.Goals as goal
 -- the first n places after the step
 taken : (n : ℕ) (w rest : List ℕ) → IsPermutation (range_with_len 1 n) w → take n (w ++ rest) ≡ w
 taken n w rest p = let e : length w ≡ n = long n w p in take-append-le n w rest (omega arith) ∙ take_all n w (omega arith)
-
-smaller : (n : ℕ) (v w rest : List ℕ) → n ≤ 16 → IsPermutation (range_with_len 1 n) v → IsPermutation v w → IsNext v w → 17 ^ n - rank (take n (w ++ rest)) < 17 ^ n - rank v
-smaller n v w rest h p q next =
-    let moved = IsPermutation-trans (range_with_len 1 n) v w p q in
-    let rise : rank v < rank w = rank-before v w (long n v p ∙ sym (long n w moved)) (small n v h p) next.after in
-    let high : rank w < 17 ^ n = subst (λ (m : ℕ). rank w < 17 ^ m) (long n w moved) (rank-lt w (small n w h moved)) in
-    omega (arith, ap rank (taken n w rest moved))
 
 pub loop-allowed-init : goal.loop-allowed-init
 loop-allowed-init g c =
@@ -40,37 +32,33 @@ loop-allowed-init g c =
 pub loop-allowed-preserved : goal.loop-allowed-preserved
 loop-allowed-preserved g c =
     let n = c.args.round.now.n in
-    let K = g.R.Rule.keeps c.args.rule.now in
-    let v = take n c.loop-allowed.doors in
     let w = c.next_order.new.doors in
-    let us = listed_orders n c.look.new.allowed.items in
     let h = c.loop-allowed.invariant in
-    let moved = IsPermutation-trans (range_with_len 1 n) v w h.reordered c.next_order.ensures.same_doors in
+    let moved = IsPermutation-trans (range_with_len 1 n) _ w h.reordered c.next_order.ensures.same_doors in
     let t = taken n w (drop n c.loop-allowed.doors) moved in
     record {
       reordered = rw t moved;
       later = drop-append-drop n c.loop-allowed.doors w n (le_refl n) (long n w moved) ∙ h.later;
       good = λ s. c.look.ensures.good s (h.good s);
-      so_far = λ s. rw t (stepped c.args.round.now K v w us (looked c.args.round.now K v _ us (h.so_far s) (c.in_ok-look.ensures.orders s)) (c.next_order.ensures.next c.if-not-next_order.false) h.reordered);
+      so_far = λ s. rw t (stepped _ _ _ w _ (looked _ _ _ _ _ (h.so_far s) (c.in_ok-look.ensures.orders s)) (c.next_order.ensures.next c.if-not-next_order.false) h.reordered);
     }
 
 pub loop-allowed-smaller : goal.loop-allowed-smaller
 loop-allowed-smaller g c =
-    smaller c.args.round.now.n (take c.args.round.now.n c.loop-allowed.doors) c.next_order.new.doors (drop c.args.round.now.n c.loop-allowed.doors) c.args.round.now.most
-    c.loop-allowed.invariant.reordered c.next_order.ensures.same_doors (c.next_order.ensures.next c.if-not-next_order.false)
+    let n = c.args.round.now.n in
+    let v = take n c.loop-allowed.doors in
+    let w = c.next_order.new.doors in
+    let p = c.loop-allowed.invariant.reordered in
+    let moved = IsPermutation-trans (range_with_len 1 n) v w p c.next_order.ensures.same_doors in
+    let rise = rank-before v w (long n v p ∙ sym (long n w moved)) (small n v c.args.round.now.most p) (c.next_order.ensures.next c.if-not-next_order.false).after in
+    let high : rank w < 17 ^ n = subst (λ (m : ℕ). rank w < 17 ^ m) (long n w moved) (rank-lt w (small n w c.args.round.now.most moved)) in
+    omega (arith, ap rank (taken n w (drop n c.loop-allowed.doors) moved))
 
 pub returns-then-not-next_order-clause-whole : goal.returns-then-not-next_order-clause-whole
 returns-then-not-next_order-clause-whole g c = λ s.
-    let n = c.args.round.now.n in
-    let K = g.R.Rule.keeps c.args.rule.now in
-    let v = take n c.loop-allowed.doors in
-    let us = listed_orders n c.look.new.allowed.items in
-    ended c.args.round.now K v us (looked c.args.round.now K v _ us (c.loop-allowed.invariant.so_far s) (c.in_ok-look.ensures.orders s)) (c.next_order.ensures.last c.if-not-next_order.true) c.loop-allowed.invariant.reordered
+    let upto = looked _ _ _ _ _ (c.loop-allowed.invariant.so_far s) (c.in_ok-look.ensures.orders s) in
+    ended _ _ _ _ upto (c.next_order.ensures.last c.if-not-next_order.true) c.loop-allowed.invariant.reordered
 
 pub returns-then-not-next_order-clause-ascending : goal.returns-then-not-next_order-clause-ascending
 returns-then-not-next_order-clause-ascending g c = λ s.
-    let n = c.args.round.now.n in
-    let K = g.R.Rule.keeps c.args.rule.now in
-    let v = take n c.loop-allowed.doors in
-    let us = listed_orders n c.look.new.allowed.items in
-    (looked c.args.round.now K v _ us (c.loop-allowed.invariant.so_far s) (c.in_ok-look.ensures.orders s)).ascending
+    (looked _ _ _ _ _ (c.loop-allowed.invariant.so_far s) (c.in_ok-look.ensures.orders s)).ascending
