@@ -1,15 +1,19 @@
 -- One more place of a row.
-use Rattle.std.proofs.Common.{◌≡◌, ℕ, ◌+◌, ◌<◌, ◌≤◌, List, [], ◌∷◌, ◌++◌, length, get_or, take, drop, map, set, replicate, sym, ap, ◌∙◌, arith}
+use Rattle.std.proofs.Common.{◌≡◌, ℕ, ◌+◌, ◌<◌, ◌≤◌, List, [], ◌∷◌, ◌++◌, length, get_or, take, drop, map, set, replicate, ap, add-one, arith}
 use Rattle.std.proofs.lemmas.Grind.{common_steps}
 use Rattle.std.proofs.lemmas.List.{drop_more, take_more, map-append, length-map, length-take}
 use Rattle.layers.specs.declared.node.Node.{Node}
 use Rattle.layers.specs.Records.{nodes_in}
 use Rattle.seek.specs.declared.seen.Seen.{Seen}
-use Rattle.seek.specs.Rows.{none, row_of}
+use Rattle.seek.specs.Rows.{none, by_first, either, through}
 
 -- a row says at each target what the list says, and nothing at others
 abbrev pub IsRow : List Seen → List Seen → Type 0
 IsRow row ys = (t : ℕ) → get_or row t none ≡ get_or (none ∷ ys) t none
+
+pub first_more : {S V : Type 0} (i j : ℕ) (below : List Seen) (u : Node S V) (k : ℕ)
+    → by_first i j below u (k + 1) ≡ either (by_first i j below u k) (through i j (k + 1) (get_or below (get_or u.arcs.to k 0) none))
+first_more i j below u k = ap (by_first i j below u) (add-one k)
 
 pub is_none : (m t : ℕ) → get_or (replicate m none) t none ≡ none
 is_none m t = grind (arith, common_steps)
@@ -25,15 +29,8 @@ module _ {S V : Type 0} (us : List (Node S V)) (a : ℕ) (u : Node S V) (lt : a 
   pub standing-some : 1 ≤ u.label.down.lasts → nodes_in us ≡ take a us ++ nodes_in (drop a us) → nodes_in us ≡ take (a + 1) us ++ nodes_in (drop (a + 1) us)
   standing-some on e = grind (arith, common_steps, drop_more us a u lt, take_more us a u lt)
 
-  pub standing-none : u.label.down.lasts ≡ 0 → nodes_in us ≡ take a us ++ nodes_in (drop a us) → nodes_in us ≡ take a us
-  standing-none off e = grind (arith, common_steps, drop_more us a u lt)
-
   -- one more node
   pub node_more : (f : Node S V → Seen) (row : List Seen) (v : Seen) → a + 1 < length row → v ≡ f u → IsRow row (map f (take a us)) → IsRow (set row (a + 1) v) (map f (take (a + 1) us))
   node_more f row v long e h =
       let old = row_more (map f (take a us)) row a v (omega (arith, length-map (take a us) f, length-take a us)) long h in
       rw (take_more us a u lt, map-append f (take a us) (get_or us a u ∷ []), ← is, ← e) old
-
--- no more of them
-pub node_last : {S V : Type 0} (f : Node S V → Seen) (us : List (Node S V)) (a : ℕ) (row : List Seen) → nodes_in us ≡ take a us → IsRow row (map f (take a us)) → (t : ℕ) → get_or row t none ≡ get_or (row_of f us) t none
-node_last f us a row e h t = h t ∙ ap (λ ys. get_or (none ∷ map f ys) t none) (sym e)

@@ -3,7 +3,7 @@ use Rattle.std.proofs.lemmas.List.{length-set}
 use Rattle.layers.specs.declared.node.Node.{Node}
 use Rattle.seek.specs.declared.seen.Seen.{Seen}
 use Rattle.seek.specs.Rows.{by_first}
-use Rattle.seek.proofs.Places.{row-start, node_more, node_last, standing-some, standing-none}
+use Rattle.seek.proofs.Places.{row-start, node_more, standing-some}
 use Rattle.seek.proofs.row.row_of.Goals as goal
 
 pub loop-a-init : goal.loop-a-init
@@ -21,9 +21,3 @@ loop-a-preserved g c =
       stand = standing-some us a u (omega arith) c.index-us-a.is (omega arith) inv.stand;
       seen = node_more us a u (omega arith) c.index-us-a.is f c.loop-a.row c.by_first.result (omega (arith, inv.long)) c.by_first.ensures inv.seen;
     }
-
-pub returns-then-u-eq0 : goal.returns-then-u-eq0
-returns-then-u-eq0 g c =
-    let us = c.args.us.now in
-    let f : Node g.row.S.Denot g.row.V.Denot → Seen = λ u. by_first c.args.i c.args.j c.args.below.now u c.args.n in
-    node_last f us c.loop-a.a c.loop-a.row (standing-none us c.loop-a.a c.index-us-a.result (omega arith) c.index-us-a.is (omega arith) c.loop-a.invariant.stand) c.loop-a.invariant.seen
