@@ -1,19 +1,15 @@
 -- One more place of a row.
-use Rattle.std.proofs.Common.{◌≡◌, ℕ, ◌+◌, ◌<◌, ◌≤◌, List, [], ◌∷◌, ◌++◌, length, get_or, take, drop, map, set, replicate, ap, add-one, arith}
+use Rattle.std.proofs.Common.{◌≡◌, ℕ, ◌+◌, ◌<◌, ◌≤◌, List, [], ◌∷◌, ◌++◌, length, get_or, take, drop, map, set, replicate, arith}
 use Rattle.std.proofs.lemmas.Grind.{common_steps}
 use Rattle.std.proofs.lemmas.List.{drop_more, take_more, map-append, length-map, length-take}
 use Rattle.layers.specs.declared.node.Node.{Node}
 use Rattle.layers.specs.Records.{nodes_in}
 use Rattle.seek.specs.declared.seen.Seen.{Seen}
-use Rattle.seek.specs.Rows.{none, by_first, either, through}
+use Rattle.seek.specs.Rows.{none}
 
 -- a row says at each target what the list says, and nothing at others
 abbrev pub IsRow : List Seen → List Seen → Type 0
 IsRow row ys = (t : ℕ) → get_or row t none ≡ get_or (none ∷ ys) t none
-
-pub first_more : {S V : Type 0} (i j : ℕ) (below : List Seen) (u : Node S V) (k : ℕ)
-    → by_first i j below u (k + 1) ≡ either (by_first i j below u k) (through i j (k + 1) (get_or below (get_or u.arcs.to k 0) none))
-first_more i j below u k = ap (by_first i j below u) (add-one k)
 
 pub is_none : (m t : ℕ) → get_or (replicate m none) t none ≡ none
 is_none m t = grind (arith, common_steps)

@@ -7,7 +7,6 @@ use crate::seen::{NONE, Seen, either, through};
 use layers::node::Node;
 
 /// Over the arcs of u by the first n doors.
-#[tactic(auto, using(crate::proofs::Places::first_more))]
 fn by_first<S: Copy, V: Copy>(
     i: usize,
     j: usize,

@@ -5,18 +5,12 @@ use Rattle.seek.proofs.Places.{is_none}
 use Rattle.seek.proofs.row.first_row.Goals as goal
 
 pub loop-k-init : goal.loop-k-init
-loop-k-init g c = record {
-  in_range = omega arith;
-  reached = reached-end c.args.i c.args.j c.args.n c.args.width c.args.nodes.now at_end (replicate 254 none) refl (is_none 254);
-}
+loop-k-init g c = reached-end c.args.i c.args.j c.args.n c.args.width c.args.nodes.now at_end (replicate 254 none) refl (is_none 254)
 
 pub loop-k-preserved : goal.loop-k-preserved
-loop-k-preserved g c = record {
-  in_range = omega (arith, c.loop-k.invariant.in_range);
-  reached =
-      reached-more c.args.i c.args.j c.args.n c.args.width c.args.nodes.now (c.loop-k.k - 1) c.loop-k.k c.loop-k.row c.row_of-row.result
-      (omega arith) (omega (arith, c.loop-k.invariant.in_range)) c.row_of-row.ensures c.loop-k.invariant.reached;
-}
+loop-k-preserved g c =
+    reached-more c.args.i c.args.j c.args.n c.args.width c.args.nodes.now (c.loop-k.k - 1) c.loop-k.k c.loop-k.row c.row_of-row.result
+    (omega arith) (omega arith) c.row_of-row.ensures c.loop-k.invariant
 
 pub returns : goal.returns
-returns g c = reached-first c.args.i c.args.j c.args.n c.args.width c.args.nodes.now c.loop-k.k c.loop-k.row (omega arith) c.loop-k.invariant.reached
+returns g c = reached-first c.args.i c.args.j c.args.n c.args.width c.args.nodes.now c.loop-k.k c.loop-k.row (omega arith) c.loop-k.invariant

@@ -1,4 +1,5 @@
 use Rattle.std.proofs.Common.{◌+◌, refl, arith, ◌∙◌}
+use Rattle.std.proofs.lemmas.Grind.{common_steps}
 use Rattle.std.proofs.lemmas.List.{length-set}
 use Rattle.layers.specs.declared.node.Node.{Node}
 use Rattle.seek.specs.declared.seen.Seen.{Seen}
@@ -21,3 +22,6 @@ loop-a-preserved g c =
       stand = standing-some us a u (omega arith) c.index-us-a.is (omega arith) inv.stand;
       seen = node_more us a u (omega arith) c.index-us-a.is f c.loop-a.row c.by_first.result (omega (arith, inv.long)) c.by_first.ensures inv.seen;
     }
+
+pub returns-then-u-eq0 : goal.returns-then-u-eq0
+returns-then-u-eq0 g c = grind (arith, common_steps)

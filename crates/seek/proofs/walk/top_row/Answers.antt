@@ -5,16 +5,13 @@ use Rattle.seek.proofs.Views.{views-reached}
 use Rattle.seek.proofs.walk.top_row.Goals as goal
 
 pub loop-k-init : goal.loop-k-init
-loop-k-init g c = record { in_range = omega arith; reached = λ i j. views-reached i j c.args.n c.args.width c.args.nodes.now 127 }
+loop-k-init g c = λ i j. views-reached i j c.args.n c.args.width c.args.nodes.now 127
 
 pub loop-k-preserved : goal.loop-k-preserved
-loop-k-preserved g c = record {
-  in_range = omega (arith, c.loop-k.invariant.in_range);
-  reached = λ i j.
-      reached-more i j c.args.n c.args.width c.args.nodes.now (c.loop-k.k - 1) c.loop-k.k (views i j c.loop-k.row) (views i j c.row_above-row.result)
-      (omega arith) (omega (arith, c.loop-k.invariant.in_range)) (c.row_above-row.ensures i j) (c.loop-k.invariant.reached i j);
-}
+loop-k-preserved g c = λ i j.
+    reached-more i j c.args.n c.args.width c.args.nodes.now (c.loop-k.k - 1) c.loop-k.k (views i j c.loop-k.row) (views i j c.row_above-row.result)
+    (omega arith) (omega arith) (c.row_above-row.ensures i j) (c.loop-k.invariant i j)
 
 pub returns : goal.returns
 returns g c = λ i j.
-    reached-first i j c.args.n c.args.width c.args.nodes.now c.loop-k.k (views i j c.loop-k.row) (omega arith) (c.loop-k.invariant.reached i j)
+    reached-first i j c.args.n c.args.width c.args.nodes.now c.loop-k.k (views i j c.loop-k.row) (omega arith) (c.loop-k.invariant i j)
