@@ -22,14 +22,10 @@ unfolding set_where
 where-same p q zero h = refl
 where-same p q (suc k) h = rw (h (suc k), where-same p q k h) refl
 
-module _ {S V : Type 0} (n W : ℕ) (xs : List (Node S V)) (after : List ℕ) (h : (i j : ℕ) → has (get_or after j 0) i ≡ has_path_with (arcs n W xs) 0 (j ∷ i ∷ [])) where
-  must-behind : (i j : ℕ) → is_behind n after i j ≡ must_of n W xs i j
-  unfolding must
-  must-behind i j = grind (arith, nat_tests, h i j)
-
-  pub where-behind : (i : ℕ) → set_where (is_behind n after i) 16 ≡ behind n W xs i
-  unfolding behind
-  where-behind i = where-same (is_behind n after i) (must_of n W xs i) 16 (must-behind i)
+pub where-behind : {S V : Type 0} (n W : ℕ) (xs : List (Node S V)) (after : List ℕ) → ((i j : ℕ) → has (get_or after j 0) i ≡ has_path_with (arcs n W xs) 0 (j ∷ i ∷ []))
+    → (i : ℕ) → set_where (is_behind n after i) 16 ≡ behind n W xs i
+unfolding behind must
+where-behind n W xs after h i = where-same (is_behind n after i) (must_of n W xs i) 16 (λ j. grind (arith, nat_tests, h i j))
 
 pub musts_are : {S V : Type 0} (n W : ℕ) (xs : List (Node S V)) (sets : List ℕ) (i : ℕ) → i ≡ 17 → length sets ≡ 17 → ((q : ℕ) → q < i → get_or sets q 0 ≡ behind n W xs q) → sets ≡ musts n W xs
 unfolding musts

@@ -33,13 +33,10 @@ any-within f g s [] h e = e
 any-within f g s (zero ∷ ts) h e = any-within f g (suc s) ts h e
 any-within f g s (suc b ∷ ts) h e = grind (arith, h s b, any-within f g (suc s) ts h)
 
-module _ (Ls : Net) (fewer : (b g : ℕ) (gs : List ℕ) → has_path_with Ls b (g ∷ gs) ≡ true → has_path_with Ls b gs ≡ true) where
-  still : (b d : ℕ) (gs : List ℕ) → has_path_with Ls b gs ≡ true → has_path_with Ls b (still_sought gs d) ≡ true
-  still b d [] e = e
-  still b d (g ∷ gs) e = grind (arith, nat_tests, fewer b g gs)
-
-  still-fewer : (b d g : ℕ) (gs : List ℕ) → has_path_with Ls b (still_sought (g ∷ gs) d) ≡ true → has_path_with Ls b (still_sought gs d) ≡ true
-  still-fewer b d g gs e = grind (arith, nat_tests, fewer b g gs, still b d gs)
+still-fewer : (Ls : Net) (fewer : (b g : ℕ) (gs : List ℕ) → has_path_with Ls b (g ∷ gs) ≡ true → has_path_with Ls b gs ≡ true) (b d g : ℕ) (gs : List ℕ)
+    → has_path_with Ls b (still_sought (g ∷ gs) d) ≡ true → has_path_with Ls b (still_sought gs d) ≡ true
+still-fewer Ls fewer b d g [] e = grind (arith, nat_tests, fewer b g [])
+still-fewer Ls fewer b d g (h ∷ gs) e = grind (arith, nat_tests, fewer b g (h ∷ gs), fewer b h gs)
 
 fewer : (Ls : Net) (b g : ℕ) (gs : List ℕ) → has_path_with Ls b (g ∷ gs) ≡ true → has_path_with Ls b gs ≡ true
 unfolding has_path_with

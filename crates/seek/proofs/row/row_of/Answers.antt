@@ -1,9 +1,6 @@
 use Rattle.std.proofs.Common.{◌+◌, refl, arith, ◌∙◌}
 use Rattle.std.proofs.lemmas.Grind.{common_steps}
 use Rattle.std.proofs.lemmas.List.{length-set}
-use Rattle.layers.specs.declared.node.Node.{Node}
-use Rattle.seek.specs.declared.seen.Seen.{Seen}
-use Rattle.seek.specs.Rows.{by_first}
 use Rattle.seek.proofs.Places.{row-start, node_more, standing-some}
 use Rattle.seek.proofs.row.row_of.Goals as goal
 
@@ -14,13 +11,12 @@ pub loop-a-preserved : goal.loop-a-preserved
 loop-a-preserved g c =
     let us = c.args.us.now in
     let a = c.loop-a.a in
-    let f : Node g.row.S.Denot g.row.V.Denot → Seen = λ u. by_first c.args.i c.args.j c.args.below.now u c.args.n in
     let u = c.index-us-a.result in
     let inv = c.loop-a.invariant in
     record {
       long = length-set c.loop-a.row (a + 1) c.by_first.result ∙ inv.long;
       stand = standing-some us a u (omega arith) c.index-us-a.is (omega arith) inv.stand;
-      seen = node_more us a u (omega arith) c.index-us-a.is f c.loop-a.row c.by_first.result (omega (arith, inv.long)) c.by_first.ensures inv.seen;
+      seen = node_more us a u (omega arith) c.index-us-a.is _ c.loop-a.row c.by_first.result (omega (arith, inv.long)) c.by_first.ensures inv.seen;
     }
 
 pub returns-then-u-eq0 : goal.returns-then-u-eq0
