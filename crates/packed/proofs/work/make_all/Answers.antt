@@ -1,8 +1,8 @@
 use Rattle.std.proofs.Common.{◌≡◌, ℕ, ◌+◌, ◌*◌, ◌++◌, List, [], length, unwrap_or, take, drop, refl, ap, ap₂, sym, ◌∙◌, arith}
 use Rattle.std.specs.Int.{to_le_bytes, w32}
 use Rattle.layers.specs.Settings.{setting}
-use Rattle.layers.specs.Calls.{answer_of, after_calls}
-use Rattle.diagram.specs.Words.{records_of}
+use Rattle.layers.specs.Calls.{answer_of, after_call, after_calls}
+use Rattle.diagram.specs.Words.{room_of, records_of}
 use Rattle.packed.specs.Answers.{word_of, answers}
 use Rattle.packed.specs.Requests.{Request, first_requests}
 use Rattle.packed.specs.Senses.{Recs, side_sense, doors_sense, setting_by}
@@ -31,19 +31,21 @@ loop-k-preserved c =
           let call : Request = w.in-Some.call in
           let still = ap (λ m. setting m.round.now (side_sense c.args.rule.now) (doors_sense c.args.tally.now) m.width) inv.room in
           let more = unwrap-more bs k call t.0 (sym c.call_at.ensures ∙ w.in-Some.is) in
-          let run = run-more by cs call xs in
-          let told = answers-more by cs call xs in
           let at : 4 * k ≡ 4 * length (answers by cs xs) = omega (arith, length-answers by cs xs, length-first bs k t.0) in
           record {
-            room = cc;
-            records = cc;
+            room = ap room_of w.diagram-is ∙ w.make.ensures.room ∙ inv.room;
+            records =
+                ap records_of w.diagram-is
+                ∙ w.make.ensures.records
+                ∙ ap₂ (λ by (xs : Recs). after_call by call xs) still inv.records
+                ∙ sym (ap (λ cs. after_calls by cs xs) more ∙ run-more by cs call xs);
             out =
                 w.out-is
                 ∙ w.put_word.ensures
                 ∙ ap₂ (λ (o : List ℕ) (v : ℕ). take (4 * k) o ++ (to_le_bytes w32 v ++ drop (4 * k + 4) o)) inv.out
                 (w.make.ensures.answer ∙ ap₂ (λ by (xs : Recs). word_of (answer_of by call xs)) still inv.records)
                 ∙ begun-more (answers by cs xs) (word_of (answer_of by call (after_calls by cs xs))) out (4 * k) at
-                ∙ ap (λ ws. begun_with ws out) (cc);
+                ∙ ap (λ ws. begun_with ws out) (sym (ap (λ cs. answers by cs xs) more ∙ answers-more by cs call xs));
           }
       | in_default w ↦ absurd (grind (arith, c.call_at.ensures, w.in_default.not-Some))
     ]
