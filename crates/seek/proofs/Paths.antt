@@ -1,14 +1,15 @@
 -- A row worked out from the row below it says what paths there are, one layer further up.
-use Rattle.std.proofs.Common.{◌≡◌, ℕ, zero, suc, ◌+◌, ◌*◌, ◌<◌, Bool, true, false, ◌||◌, List, [], ◌∷◌, get_or, take, drop, map, replicate, refl, ◌∙◌, suc-mul, arith}
-use mathlib.Core.Bool.{or-false, or_assoc}
+use Rattle.std.proofs.Common.{◌≡◌, ℕ, zero, suc, ◌+◌, ◌-◌, ◌*◌, ◌≤◌, Bool, true, false, ◌||◌, List, [], ◌∷◌, get_or, take, drop, map, refl, ap, ◌∙◌, suc-mul, zero-mul, arith}
+use mathlib.Core.Bool.{or-false}
 use Rattle.std.proofs.lemmas.Bool.Decides.{nat_tests}
+use Rattle.std.proofs.lemmas.Grind.{common_steps}
 use Rattle.std.proofs.lemmas.List.{drop-drop}
 use Rattle.layers.specs.declared.node.Node.{Node}
 use Rattle.layers.specs.Net.{Outs, Net, node, still_sought, any_door, has_path_with}
+use Rattle.layers.specs.Calls.{arcs}
 use Rattle.layers.specs.Records.{nodes_in, layers, arcs_in, arcs_of_layers}
 use Rattle.seek.specs.declared.seen.Seen.{Seen}
 use Rattle.seek.specs.Rows.{none, at_end, seen_from, through, either, by_first, row_of}
-use Rattle.seek.proofs.Places.{is_none}
 
 -- ---- one more door
 
@@ -19,12 +20,10 @@ at_target f d (suc b) = f d b
 
 any-more : (f : ℕ → ℕ → Bool) (s : ℕ) (ts : Outs) (k d : ℕ) → s + k ≡ d → any_door f s (take (suc k) ts) ≡ (any_door f s (take k ts) || at_target f d (get_or ts k 0))
 unfolding any_door
-any-more f s [] zero d e = refl
-any-more f s [] (suc k) d e = refl
+any-more f s [] k d e = grind (arith, common_steps)
 any-more f s (zero ∷ ts) zero d e = refl
 any-more f s (suc b ∷ ts) zero d e = grind (arith, or-false (f s b))
-any-more f s (zero ∷ ts) (suc k) d e = any-more f (suc s) ts k d (omega arith)
-any-more f s (suc b ∷ ts) (suc k) d e = rw (any-more f (suc s) ts k d (omega arith), or_assoc) refl
+any-more f s (t ∷ ts) (suc k) d e = grind (arith, nat_tests, any-more f (suc s) ts k d)
 
 -- ---- what is found is found where less is sought
 
@@ -34,13 +33,10 @@ any-within f g s [] h e = e
 any-within f g s (zero ∷ ts) h e = any-within f g (suc s) ts h e
 any-within f g s (suc b ∷ ts) h e = grind (arith, h s b, any-within f g (suc s) ts h)
 
-module _ (Ls : Net) (fewer : (b g : ℕ) (gs : List ℕ) → has_path_with Ls b (g ∷ gs) ≡ true → has_path_with Ls b gs ≡ true) where
-  still : (b d : ℕ) (gs : List ℕ) → has_path_with Ls b gs ≡ true → has_path_with Ls b (still_sought gs d) ≡ true
-  still b d [] e = e
-  still b d (g ∷ gs) e = grind (arith, nat_tests, fewer b g gs)
-
-  still-fewer : (b d g : ℕ) (gs : List ℕ) → has_path_with Ls b (still_sought (g ∷ gs) d) ≡ true → has_path_with Ls b (still_sought gs d) ≡ true
-  still-fewer b d g gs e = grind (arith, nat_tests, fewer b g gs, still b d gs)
+still-fewer : (Ls : Net) (fewer : (b g : ℕ) (gs : List ℕ) → has_path_with Ls b (g ∷ gs) ≡ true → has_path_with Ls b gs ≡ true) (b d g : ℕ) (gs : List ℕ)
+    → has_path_with Ls b (still_sought (g ∷ gs) d) ≡ true → has_path_with Ls b (still_sought gs d) ≡ true
+still-fewer Ls fewer b d g [] e = grind (arith, nat_tests, fewer b g [])
+still-fewer Ls fewer b d g (h ∷ gs) e = grind (arith, nat_tests, fewer b g (h ∷ gs), fewer b h gs)
 
 fewer : (Ls : Net) (b g : ℕ) (gs : List ℕ) → has_path_with Ls b (g ∷ gs) ≡ true → has_path_with Ls b gs ≡ true
 unfolding has_path_with
@@ -53,29 +49,34 @@ module _ (i j : ℕ) where
   IsSeen row Ls = (t : ℕ) → get_or row t none ≡ seen_from i j Ls t
 
   -- ---- at the end
-  pub end_seen : (m : ℕ) → IsSeen (none ∷ at_end ∷ replicate m none) []
+  end_seen : (s : Seen) (rest : List Seen) → s ≡ at_end → ((b : ℕ) → get_or rest b none ≡ none) → IsSeen (none ∷ s ∷ rest) []
   unfolding has_path_with
-  end_seen m zero = refl
-  end_seen m (suc zero) = refl
-  end_seen m (suc (suc b)) = grind (arith, nat_tests, is_none m b)
+  end_seen s rest e h zero = refl
+  end_seen s rest e h (suc zero) = e
+  end_seen s rest e h (suc (suc b)) = grind (arith, nat_tests, h b)
 
   -- ---- over the arcs of one node
   module _ (Ls : Net) where
-    seen_over : Outs → Seen
-    seen_over ts = record { ends = any_door (λ d b. has_path_with Ls b []) 1 ts; one = any_door (λ d b. has_path_with Ls b (still_sought (i ∷ []) d)) 1 ts; both = any_door (λ d b. has_path_with Ls b (still_sought (j ∷ i ∷ []) d)) 1 ts }
+    -- an arc by the door d to the node at place b, from where a path has what is left of gs
+    abbrev leads : List ℕ → ℕ → ℕ → Bool
+    leads gs d b = has_path_with Ls b (still_sought gs d)
 
-    through-is : (d t : ℕ) → through i j d (seen_from i j Ls t) ≡ record { ends = at_target (λ d b. has_path_with Ls b []) d t; one = at_target (λ d b. has_path_with Ls b (still_sought (i ∷ []) d)) d t; both = at_target (λ d b. has_path_with Ls b (still_sought (j ∷ i ∷ []) d)) d t }
+    -- what is seen, if f says what paths there are
+    abbrev seen_by : (List ℕ → Bool) → Seen
+    seen_by f = record { ends = f []; one = f (i ∷ []); both = f (j ∷ i ∷ []) }
+
+    seen_over : Outs → Seen
+    seen_over ts = seen_by (λ gs. any_door (leads gs) 1 ts)
+
+    through-is : (d t : ℕ) → through i j d (seen_from i j Ls t) ≡ seen_by (λ gs. at_target (leads gs) d t)
     through-is d zero = grind (arith, nat_tests)
     through-is d (suc b) = grind (arith, nat_tests, fewer Ls b i [], fewer Ls b j (i ∷ []))
 
     over-more : (ts : Outs) (k : ℕ) → either (seen_over (take k ts)) (through i j (k + 1) (seen_from i j Ls (get_or ts k 0))) ≡ seen_over (take (suc k) ts)
     unfolding seen_over
     over-more ts k =
-        let t = through-is (k + 1) (get_or ts k 0) in
-        let a = any-more (λ d b. has_path_with Ls b []) 1 ts k (k + 1) (omega arith) in
-        let b = any-more (λ d b. has_path_with Ls b (still_sought (i ∷ []) d)) 1 ts k (k + 1) (omega arith) in
-        let c = any-more (λ d b. has_path_with Ls b (still_sought (j ∷ i ∷ []) d)) 1 ts k (k + 1) (omega arith) in
-        cc
+        let more = λ (gs : List ℕ). any-more (leads gs) 1 ts k (k + 1) (omega arith) in
+        ap (either (seen_over (take k ts))) (through-is (k + 1) (get_or ts k 0)) ∙ rw (more [], more (i ∷ []), more (j ∷ i ∷ [])) refl
 
     module _ {S V : Type 0} (below : List Seen) (h : IsSeen below Ls) where
       first-seen : (u : Node S V) (k : ℕ) → by_first i j below u k ≡ seen_over (take k u.arcs.to)
@@ -105,14 +106,21 @@ module _ (i j : ℕ) where
     abbrev pub Reached : List Seen → ℕ → Type 0
     Reached row k = (m : ℕ) → m + k ≡ n → IsSeen row (arcs_of_layers n (layers w m (drop (k * w) xs)))
 
-    pub reached-end : (q : ℕ) → Reached (none ∷ at_end ∷ replicate q none) n
-    reached-end q zero e t = end_seen q t
-    reached-end q (suc m) e t = absurd (omega arith)
+    pub reached-end : (s : Seen) (rest : List Seen) → s ≡ at_end → ((b : ℕ) → get_or rest b none ≡ none) → Reached (none ∷ s ∷ rest) n
+    reached-end s rest e h zero q t = end_seen s rest e h t
+    reached-end s rest e h (suc m) q t = absurd (omega arith)
 
-    pub reached-more : (k : ℕ) (row up : List Seen) → k < n → ((t : ℕ) → get_or up t none ≡ get_or (row_of (λ u. by_first i j row u n) (take w (drop (k * w) xs))) t none) → Reached row (suc k) → Reached up k
-    reached-more k row up lt new h zero e t = absurd (omega arith)
-    reached-more k row up lt new h (suc m) e t =
-        let N = nodes_in (take w (drop (k * w) xs)) in
-        let place : suc k * w ≡ k * w + w = omega (arith, suc-mul k w) in
-        let rest : drop (suc k * w) xs ≡ drop w (drop (k * w) xs) = rw (place, drop-drop w (k * w) xs) refl in
-        rw (drawn-more N m (drop w (drop (k * w) xs)), ← rest) (new t ∙ layer-seen _ row (h m (omega arith)) n (take w (drop (k * w) xs)) t)
+    -- from layer l to layer k, the one ahead of it
+    pub reached-more : (k l : ℕ) (row up : List Seen) → l ≡ suc k → l ≤ n
+        → ((t : ℕ) → get_or up t none ≡ get_or (row_of (λ u. by_first i j row u n) (take (k * w + w - k * w) (drop (k * w) xs))) t none) → Reached row l → Reached up k
+    reached-more k l row up is le new h zero e t = absurd (omega arith)
+    reached-more k l row up is le new h (suc m) e t =
+        let long : k * w + w - k * w ≡ w = omega arith in
+        let place : l * w ≡ k * w + w = rw is (omega (arith, suc-mul k w)) in
+        let rest : drop (l * w) xs ≡ drop w (drop (k * w) xs) = rw (place, drop-drop w (k * w) xs) refl in
+        let N : List (Node S V) = take w (drop (k * w) xs) in
+        rw (drawn-more (nodes_in N) m (drop w (drop (k * w) xs)), ← rest) (new t ∙ ap (λ (l : ℕ). get_or (row_of (λ u. by_first i j row u n) (take l (drop (k * w) xs))) t none) long ∙ layer-seen _ row (h m (omega arith)) n N t)
+
+    -- at the first layer
+    pub reached-first : (k : ℕ) (row : List Seen) → k ≡ 0 → Reached row k → IsSeen row (arcs n w xs)
+    reached-first k row is h t = let all = rw (is, zero-mul w) at h in all n (omega arith) t

@@ -18,6 +18,7 @@ fn fits(n: usize, width: usize, len: usize) -> bool
 
 /// Yes if no path of the diagram of n doors has the door j at an earlier place than the door i. No for a list too short for the
 /// diagram, a width out of 1 to 128, and more than 16 doors.
+#[tactic(auto, unfolding(layers::specs::Calls::must))]
 pub fn must<S: Copy, V: Copy>(
     nodes: &[Node<S, V>],
     n: usize,
@@ -60,6 +61,7 @@ fn behind(after: &[DoorSet; 17], n: usize, i: usize) -> DoorSet
 
 /// For each door of the diagram of n doors, the doors that it comes before on every path, as a set. None for a list too short
 /// for the diagram, a width out of 1 to 128, and more than 16 doors.
+#[tactic(auto, using(crate::proofs::DoorsBehind::musts_are))]
 pub fn musts<S: Copy, V: Copy>(nodes: &[Node<S, V>], n: usize, width: usize) -> [DoorSet; 17]
     ensures { result ≡
         (if fits n width (length nodes.now) then musts n width nodes.now else replicate 17 0) }

@@ -1,10 +1,5 @@
-use Rattle.std.proofs.Common.{ℕ, List, map, arith, sym, ap, ◌∙◌}
-use Rattle.std.proofs.lemmas.Bool.{cond-true}
-use Rattle.std.proofs.lemmas.Grind.{same_number_lists}
+use Rattle.std.proofs.Common.{ℕ, arith, sym, ap, ◌∙◌}
 use Rattle.std.proofs.lemmas.List.{length-set, get_or-set_same, get_or-set_other}
-use Rattle.std.proofs.lemmas.List.FromFn.{get_or-map-range_with_len, length-map-range_with_len}
-use Rattle.std.specs.List.{range_with_len}
-use Rattle.seek.specs.Musts.{behind, musts}
 use Rattle.seek.proofs.DoorsBehind.{where-behind}
 use Rattle.seek.proofs.Views.{view-target}
 use Rattle.seek.proofs.must.musts.Goals as goal
@@ -15,12 +10,3 @@ loop-i-preserved g c =
     let h = λ (i j : ℕ). ap (λ s. s.both) (sym (view-target i j row 1 (omega arith)) ∙ c.top_row-row.ensures i j 1) in
     let e = c.behind.ensures ∙ where-behind c.args.n c.args.width c.args.nodes.now _ h c.loop-i.i in
     (length-set c.loop-i.sets c.loop-i.i c.behind.result ∙ c.loop-i.invariant.0, λ q l. grind (arith, e, c.loop-i.invariant.1 q, get_or-set_same c.loop-i.sets c.loop-i.i c.behind.result 0, get_or-set_other c.loop-i.sets c.loop-i.i q c.behind.result 0))
-
-pub returns : goal.returns
-unfolding musts
-returns g c =
-    let f : ℕ → ℕ = behind c.args.n c.args.width c.args.nodes.now in
-    let sets : List ℕ = c.loop-i.sets in
-    same_number_lists sets (map f (range_with_len 0 17)) (c.loop-i.invariant.0 ∙ sym (length-map-range_with_len f 0 17))
-    (λ k l. c.loop-i.invariant.1 k (omega arith) ∙ sym (get_or-map-range_with_len f 0 17 k k 0 (omega arith) (omega arith)))
-    ∙ sym (cond-true _ _ _ (sym c.if-not-fits.ensures))

@@ -1,11 +1,7 @@
-use Rattle.std.proofs.Common.{◌≡◌, ◌+◌, true, false, refl, sym, arith, ◌∙◌, ap}
-use Rattle.std.proofs.lemmas.Bool.Decides.{nat_tests}
+use Rattle.std.proofs.Common.{◌+◌, refl, arith, ◌∙◌}
+use Rattle.std.proofs.lemmas.Grind.{common_steps}
 use Rattle.std.proofs.lemmas.List.{length-set}
-use Rattle.layers.specs.declared.node.Node.{Node}
-use Rattle.layers.specs.Records.{is_used}
-use Rattle.seek.specs.declared.seen.Seen.{Seen}
-use Rattle.seek.specs.Rows.{by_first}
-use Rattle.seek.proofs.Places.{row-start, node_more, node_last, standing-some, standing-none}
+use Rattle.seek.proofs.Places.{row-start, node_more, standing-some}
 use Rattle.seek.proofs.row.row_of.Goals as goal
 
 pub loop-a-init : goal.loop-a-init
@@ -15,19 +11,13 @@ pub loop-a-preserved : goal.loop-a-preserved
 loop-a-preserved g c =
     let us = c.args.us.now in
     let a = c.loop-a.a in
-    let f : Node g.row.S.Denot g.row.V.Denot → Seen = λ u. by_first c.args.i c.args.j c.args.below.now u c.args.n in
     let u = c.index-us-a.result in
-    let on : is_used u ≡ true = grind (arith, nat_tests) in
+    let inv = c.loop-a.invariant in
     record {
-      long = length-set c.loop-a.row (a + 1) c.by_first.result ∙ c.loop-a.invariant.long;
-      stand = standing-some us a u (omega arith) c.loop-a.invariant.stand (rw (sym c.index-us-a.is) on);
-      seen = node_more f us a u c.loop-a.row c.by_first.result (omega arith) (omega (arith, c.loop-a.invariant.long)) (c.by_first.ensures ∙ ap f c.index-us-a.is) c.loop-a.invariant.seen;
+      long = length-set c.loop-a.row (a + 1) c.by_first.result ∙ inv.long;
+      stand = standing-some us a u (omega arith) c.index-us-a.is (omega arith) inv.stand;
+      seen = node_more us a u (omega arith) c.index-us-a.is _ c.loop-a.row c.by_first.result (omega (arith, inv.long)) c.by_first.ensures inv.seen;
     }
 
 pub returns-then-u-eq0 : goal.returns-then-u-eq0
-returns-then-u-eq0 g c =
-    let us = c.args.us.now in
-    let u = c.index-us-a.result in
-    let off : is_used u ≡ false = grind (arith, nat_tests) in
-    let f : Node g.row.S.Denot g.row.V.Denot → Seen = λ u. by_first c.args.i c.args.j c.args.below.now u c.args.n in
-    node_last f us c.loop-a.a c.loop-a.row (standing-none us c.loop-a.a u (omega arith) c.loop-a.invariant.stand (rw (sym c.index-us-a.is) off)) c.loop-a.invariant.seen
+returns-then-u-eq0 g c = grind (arith, common_steps)
