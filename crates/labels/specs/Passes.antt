@@ -1,7 +1,8 @@
 -- Relabelling as the code does it, in two passes over the records of any list: so many records to a layer, 16 doors to a record.
 -- Nobody has to believe these steps: on the arcs of a diagram `labelled` of `relabel` says what they come to.
-use Rattle.std.specs.Prelude.{◌≡◌, ℕ, zero, suc, ◌+◌, ◌-◌, ◌*◌, ◌≤◌, Bool, not, if◌then◌else◌, ◌&&◌, List, [], ◌∷◌, ◌++◌, map, length, take, drop, replicate, Some, None, fold, Option, ◌==◌, nat_le, slice_index, slice_index_or, slice_set}
+use Rattle.std.specs.Prelude.{◌≡◌, ℕ, zero, suc, ◌+◌, ◌-◌, ◌*◌, ◌<◌, ◌≤◌, Bool, true, false, not, if◌then◌else◌, ◌&&◌, List, [], ◌∷◌, ◌++◌, map, length, take, drop, replicate, Some, None, fold, Option, ◌==◌, nat_le, slice_index, slice_index_or, slice_set}
 use Rattle.std.specs.List.{range_with_len, flat_map, filter}
+use Rattle.doors.specs.Sets.{has}
 use Rattle.round.specs.Clock.{latest_finish}
 use Rattle.round.specs.declared.table.Round.{Round}
 use Rattle.rules.specs.Rules.{RuleSense}
@@ -54,6 +55,17 @@ Early m u = u.label.down.finish ≤ m
 -- the least drive to j from a member of the set m other than j, of the places below i
 abbrev pub nearest_of : Round → ℕ → ℕ → ℕ → Option ℕ
 nearest_of r m j i = fold (leg_step r m j) None (range_with_len 0 i)
+
+-- none of the places from a on below b is in the set m
+abbrev pub NoneBetween : ℕ → ℕ → ℕ → Type 0
+NoneBetween m a b = (i : ℕ) → a ≤ i → i < b → has m i ≡ false
+
+-- i is the first of the places from a to n that is in the set m
+pub record IsFirstOf (m a n i : ℕ) : Type 0 where
+  pub from : a ≤ i
+  pub to : i ≤ n
+  pub member : has m i ≡ true
+  pub none : NoneBetween m a i
 
 module _ {S V : Type 0} (rule : RuleSense S) (tally : TallySense V) where
   -- a record of which nothing is known

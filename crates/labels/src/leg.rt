@@ -1,10 +1,22 @@
 //! The leg of an arc.
-ghost use Rattle.std.specs.Prelude.{◌≡◌, ℕ, ◌+◌, ◌<◌, ◌≤◌, ◌==◌, if◌then◌else◌, min, max, unwrap_or, slice_index};
+ghost use Rattle.std.specs.Prelude.{◌≡◌, ℕ, ◌+◌, ◌<◌, ◌≤◌, ◌==◌, if◌then◌else◌, min, max, unwrap_or, slice_index, MatchOption};
 ghost use Rattle.layers.specs.Labels.{nearest, leg};
-ghost use Rattle.labels.specs.Passes.{nearest_of};
+ghost use Rattle.labels.specs.Passes.{nearest_of, NoneBetween, IsFirstOf};
 
-use doors::{DoorSet, contains};
+use doors::DoorSet;
 use round::table::Round;
+
+/// The first of the places from `from` to n that is in the set, if there is one.
+#[inline]
+#[tactic(auto, using(crate::proofs::Legs::none_before, crate::proofs::Legs::member_there))]
+fn next_member(set: DoorSet, from: usize, n: usize) -> Option<usize>
+    requires start { from < 32 }
+    requires end { n < 32 }
+    ensures { MatchOption result (NoneBetween set from (n + 1)) (IsFirstOf set from n) }
+{
+    let i = from + (set >> from).trailing_zeros() as usize;
+    if i <= n { Some(i) } else { None }
+}
 
 /// The lesser of a drive and the best so far.
 fn nearer(best: Option<u32>, d: u32) -> Option<u32>
@@ -17,15 +29,17 @@ fn nearer(best: Option<u32>, d: u32) -> Option<u32>
 }
 
 /// The least drive to j from a member of `lasts` other than j, or 0.
-#[tactic(auto, using(crate::proofs::Folds::folded_counting), unfolding(layers::specs::Labels::leg, layers::specs::Labels::leg_step))]
+#[tactic(auto, using(crate::proofs::Legs::nearest_over), unfolding(layers::specs::Labels::leg))]
 pub fn leg_from(round: &Round, lasts: DoorSet, j: usize) -> u32
     ensures { result ≡ leg round.now lasts j }
 {
     let mut best: Option<u32> = None;
-    for i in 0..round.n + 1 {
-        if contains(lasts, i) && i != j {
+    let mut from = 0;
+    while let Some(i) = next_member(lasts, from, round.n) {
+        if i != j {
             best = nearer(best, round.drive(i, j));
         }
+        from = i + 1;
     }
     best.unwrap_or(0)
 }
@@ -51,16 +65,16 @@ fn nearer_from(row: &[u16; 17], i: usize, best: &mut [u16; 16])
 }
 
 /// The least drive to each door, `FAR` where there is none.
-#[tactic(auto, using(crate::proofs::Legs::nearest_with, crate::proofs::Legs::nearest_without))]
+#[tactic(auto, using(crate::proofs::Legs::far_next, crate::proofs::Legs::nearest_over))]
 fn least_drives(round: &Round, lasts: DoorSet) -> [u16; 16]
     ensures { (k : ℕ) → k < 16 → slice_index result k
         ≡ unwrap_or (nearest_of round.now lasts (k + 1) (round.now.n + 1)) 1000 }
 {
     let mut best = [FAR; 16];
-    for i in 0..round.n + 1 {
-        if contains(lasts, i) {
-            nearer_from(&round.drives[i], i, &mut best);
-        }
+    let mut from = 0;
+    while let Some(i) = next_member(lasts, from, round.n) {
+        nearer_from(&round.drives[i], i, &mut best);
+        from = i + 1;
     }
     best
 }

@@ -1,7 +1,12 @@
-use Rattle.std.proofs.Common.{◌≡◌, None, fold}
-use Rattle.std.specs.List.{range_with_len}
-use Rattle.layers.specs.Labels.{leg_step}
+use Rattle.std.proofs.Common.{◌≡◌, ◌+◌, ◌-◌, ◌≤◌}
+use Rattle.labels.specs.Passes.{nearest_of}
 use Rattle.labels.proofs.leg.leg_from.Given as goal
 
 abbrev pub invariant-loop-i : goal.invariant-loop-i
-invariant-loop-i l = l.best ≡ fold (leg_step l.round l.lasts l.j) None (range_with_len 0 l.i)
+invariant-loop-i l = record {
+  within : l.from ≤ l.round.n + 1;
+  so_far : l.best ≡ nearest_of l.round l.lasts l.j l.from;
+}
+
+abbrev pub decreases-loop-i : goal.decreases-loop-i
+decreases-loop-i l = l.round.n + 1 - l.from
