@@ -1,5 +1,5 @@
 -- The least drives so far, and what is no leg
-use Rattle.std.proofs.Common.{◌≡◌, ℕ, zero, suc, ◌+◌, ◌-◌, ◌/◌, ◌%◌, ◌^◌, ◌<◌, ◌≤◌, ◌≢◌, min, max, List, map, get_or, Bool, true, cond, not, ◌&&◌, eqb, None, Option, unwrap_or, w32, sym, ap, ◌∙◌, arith}
+use Rattle.std.proofs.Common.{◌≡◌, ℕ, zero, suc, ◌+◌, ◌-◌, ◌/◌, ◌^◌, ◌<◌, ◌≤◌, ◌≢◌, min, max, List, map, get_or, Bool, true, cond, not, ◌&&◌, eqb, None, Option, unwrap_or, w32, ap, ◌∙◌, add-one, arith}
 use Rattle.std.specs.List.{range_with_len}
 use Rattle.std.proofs.lemmas.Bool.Decides.{nat_tests}
 use Rattle.std.proofs.lemmas.Grind.{common_steps}
@@ -20,19 +20,13 @@ abbrev zeros : ℕ → ℕ
 zeros m = trailing_zeros w32 m
 
 lowest : (m : ℕ) → m < 2 ^ 32 → (zeros m < 32 → bit_at m (zeros m) ≡ 1) × ((i : ℕ) → i < zeros m → bit_at m i ≡ 0)
-lowest zero fits = (λ lt. absurd (omega (arith, trailing_of_zero 32)), λ i lt. bit_at-zero i)
-lowest (suc m) fits = let h = bit_at-trailing_zeros w32 (suc m) (omega arith) fits in (λ lt. h.1, h.2)
-
-shifted : (m a k : ℕ) → bit_at (m / 2 ^ a) k ≡ bit_at m (a + k)
-shifted m a k = ap (λ x. x % 2) (shr-shr m a k)
+lowest m fits = grind (arith, trailing_of_zero 32, bit_at-zero, bit_at-trailing_zeros w32 m)
 
 pub none_before : (m a : ℕ) → m < 2 ^ 32 → NoneBetween m a (a + zeros (m / 2 ^ a))
-none_before m a fits i ge lt =
-    let e : a + (i - a) ≡ i = omega arith in
-    grind (arith, nat_tests, shifted m a (i - a), ap (bit_at m) e, (lowest (m / 2 ^ a) (omega (arith, shr_le m a))).1 (i - a) (omega arith))
+none_before m a fits i ge lt = grind (arith, nat_tests, shr-shr m a (i - a), lowest (m / 2 ^ a) (omega (arith, shr_le m a)))
 
 pub member_there : (m a : ℕ) → m < 2 ^ 32 → zeros (m / 2 ^ a) < 32 → has m (a + zeros (m / 2 ^ a)) ≡ true
-member_there m a fits lt = grind (arith, nat_tests, shifted m a (zeros (m / 2 ^ a)), (lowest (m / 2 ^ a) (omega (arith, shr_le m a))).0 lt)
+member_there m a fits lt = grind (arith, nat_tests, shr-shr m a, lowest (m / 2 ^ a) (omega (arith, shr_le m a)))
 
 -- ---- the drives
 picked-most : (t : Bool) (o : Option ℕ) (d : ℕ) → d ≤ 999 → unwrap_or o 0 ≤ 999 → unwrap_or (cond t (nearest o d) o) 0 ≤ 999
@@ -54,32 +48,21 @@ far-step o e d h p = grind (arith, common_steps)
 
 -- ---- from one member to the next
 -- places that are not in the set change nothing
-over : (r : Round) (m j a d : ℕ) → NoneBetween m a (a + d) → nearest_of r m j (a + d) ≡ nearest_of r m j a
-unfolding leg_step
-over r m j a zero none = let e : a + 0 ≡ a = omega arith in ap (nearest_of r m j) e
-over r m j a (suc d) none =
-    let e : a + suc d ≡ (a + d) + 1 = omega arith in
-    ap (nearest_of r m j) e
-    ∙ folded_counting (leg_step r m j) None (a + d)
-    ∙ rw (none (a + d) (omega arith) (omega arith)) (over r m j a d (λ i ge lt. none i ge (omega arith)))
-
 pub nearest_over : (r : Round) (m j a b : ℕ) → a ≤ b → NoneBetween m a b → nearest_of r m j b ≡ nearest_of r m j a
-nearest_over r m j a b le none =
-    let e : a + (b - a) ≡ b = omega arith in
-    ap (nearest_of r m j) (sym e) ∙ over r m j a (b - a) (λ i ge lt. none i ge (omega arith))
+unfolding leg_step
+nearest_over r m j a zero le none = grind arith
+nearest_over r m j a (suc b) le none =
+    grind (arith, add-one, folded_counting (leg_step r m j) None b, none b, nearest_over r m j a b)
 
 pub nearest_next : (r : Round) (m j a i : ℕ) → IsFirstOf m a r.n i
     → nearest_of r m j (i + 1) ≡ cond (not (eqb i j)) (nearest (nearest_of r m j a) (drive r i j)) (nearest_of r m j a)
 unfolding leg_step
-nearest_next r m j a i first =
-    folded_counting (leg_step r m j) None i
-    ∙ rw (first.member, nearest_over r m j a i first.from first.none)
+nearest_next r m j a i first = grind (arith, folded_counting (leg_step r m j) None i, nearest_over r m j a i)
 
 pub far_next : (r : Round) (m j a i : ℕ) → IsFirstOf m a r.n i
     → unwrap_or (nearest_of r m j (i + 1)) 1000 ≡ min (unwrap_or (nearest_of r m j a) 1000) (max (drive r i j) (cond (eqb i j) 1000 0))
 far_next r m j a i first =
-    ap (λ o. unwrap_or o 1000) (nearest_next r m j a i first)
-    ∙ far-step (nearest_of r m j a) (eqb i j) (drive r i j) (r.legs i j) (nearest-most r m j a)
+    ap (λ o. unwrap_or o 1000) (nearest_next r m j a i first) ∙ far-step (nearest_of r m j a) (eqb i j) (drive r i j) (r.legs i j) (nearest-most r m j a)
 
 pub leg_none : (r : Round) (m j : ℕ) → unwrap_or (nearest_of r m j (r.n + 1)) 1000 ≡ 1000 → leg r m j ≡ 0
 unfolding leg
