@@ -192,7 +192,7 @@ fn relabel_layer<R: Rule, T: Tally>(
 }
 
 /// Works out anew the label of the end, which stands first in vs, from the nodes of the layer us before it.
-#[tactic(auto, using(crate::proofs::Steps::first_set), unfolding(crate::specs::Passes::end_renewed))]
+#[tactic(auto, unfolding(crate::specs::Passes::end_renewed))]
 fn relabel_end<R: Rule, T: Tally>(
     by: &Setting<'_, R, T>,
     us: &[Node<R::State, T::Value>],
@@ -221,7 +221,7 @@ fn at_first<R: Rule, T: Tally>(rule: &R, tally: &T) -> Down<R::State, T::Value>
 }
 
 /// Works out anew the labels after a layer, which has its own, with `later` layers between it and the end.
-#[tactic(auto, using(crate::proofs::Rests::one_more, crate::proofs::Rests::front_long, crate::proofs::Steps::after_more), unfolding(crate::specs::Passes::renewed_after))]
+#[tactic(auto, unfolding(crate::specs::Passes::renewed_after))]
 pub(crate) fn label_after<R: Rule, T: Tally>(
     by: &Setting<'_, R, T>,
     nodes: &mut [Node<R::State, T::Value>],
@@ -241,7 +241,6 @@ pub(crate) fn label_after<R: Rule, T: Tally>(
 }
 
 /// Works out anew all that is worked out from the first node.
-#[tactic(auto, using(crate::proofs::Rests::one_more, crate::proofs::Steps::begun_set))]
 pub(crate) fn label_down<R: Rule, T: Tally>(
     by: &Setting<'_, R, T>,
     nodes: &mut [Node<R::State, T::Value>],

@@ -38,7 +38,7 @@ fn take_up(got: Option<Up>, x: Up) -> Option<Up>
 }
 
 /// Over the arc of u by the door k + 1, if there is one.
-#[tactic(auto, using(crate::proofs::Steps::climb_one), unfolding(crate::specs::Passes::up_by))]
+#[tactic(auto, unfolding(crate::specs::Passes::up_by))]
 fn climb_by<S: Copy, V: Copy>(
     vs: &[Node<S, V>],
     u: &Node<S, V>,
@@ -87,7 +87,6 @@ fn rise_layer<S: Copy, V: Copy>(us: &mut [Node<S, V>], vs: &[Node<S, V>])
 }
 
 /// A layer and all after it, with `later` layers between it and the end, which has no door after it.
-#[tactic(auto, using(crate::proofs::Rests::one_more, crate::proofs::Rests::front_long, crate::proofs::Steps::risen_last, crate::proofs::Steps::risen_more))]
 fn rise_from<S: Copy, V: Copy>(nodes: &mut [Node<S, V>], width: usize, later: usize)
     requires { later * width + width < length nodes.old }
     ensures { nodes.new ≡ risen_from width later nodes.old }
@@ -103,7 +102,7 @@ fn rise_from<S: Copy, V: Copy>(nodes: &mut [Node<S, V>], width: usize, later: us
 }
 
 /// Works out anew all that is worked out from the end.
-#[tactic(auto, using(crate::proofs::Rests::one_more, crate::proofs::Rests::front_long), unfolding(crate::specs::Passes::pass_up))]
+#[tactic(auto, unfolding(crate::specs::Passes::pass_up))]
 pub(crate) fn label_up<S: Copy, V: Copy>(nodes: &mut [Node<S, V>], n: usize, width: usize)
     requires one_le_n { 1 ≤ n }
     requires width_in_bounds { n * width < length nodes.old }
