@@ -44,6 +44,12 @@ climb_one (v ∷ vs) (suc b) j x lt h = climb_one vs b j x (omega arith) h
 pub first_set : {X : Type 0} (f : X → X) (ys : List X) (d : X) → 0 < length ys → set ys 0 (f (get_or ys 0 d)) ≡ map f (take 1 ys) ++ drop 1 ys
 first_set f ys d h = grind (arith, common_steps)
 
+-- the first anew, then what is done to it
+pub end_set : {X : Type 0} (g : List X → List X) (f : X → X) (ys : List X) (d : X) → 0 < length ys
+    → g (take 1 (set ys 0 (f (get_or ys 0 d)))) ++ drop 1 (set ys 0 (f (get_or ys 0 d))) ≡ g (map f (take 1 ys)) ++ drop 1 ys
+end_set g f [] d h = absurd (omega arith)
+end_set g f (y ∷ ys) d h = refl
+
 pub begun_set : {S V : Type 0} (R : RuleSense S) (T : TallySense V) (ys : List (Node S V)) (d : Node S V) → 0 < length ys → set ys 0 (with_down (get_or ys 0 d) (first_label R T)) ≡ begun R T ys
 begun_set R T ys d h = grind (arith, common_steps)
 

@@ -192,7 +192,6 @@ fn relabel_layer<R: Rule, T: Tally>(
 }
 
 /// Works out anew the label of the end, which stands first in vs, from the nodes of the layer us before it.
-#[tactic(auto, unfolding(crate::specs::Passes::end_renewed))]
 fn relabel_end<R: Rule, T: Tally>(
     by: &Setting<'_, R, T>,
     us: &[Node<R::State, T::Value>],
