@@ -1,5 +1,5 @@
 -- A row worked out from the row below it says what paths there are, one layer further up.
-use Rattle.std.proofs.Common.{◌≡◌, ℕ, zero, suc, ◌+◌, ◌-◌, ◌*◌, ◌≤◌, Bool, true, false, ◌||◌, List, [], ◌∷◌, get_or, take, drop, map, refl, ap, ◌∙◌, suc-mul, zero-mul, mul-le-mul_right, arith}
+use Rattle.std.proofs.Common.{◌≡◌, ℕ, zero, suc, ◌+◌, ◌*◌, ◌≤◌, Bool, true, false, ◌||◌, List, [], ◌∷◌, get_or, take, drop, map, refl, ap, ◌∙◌, suc-mul, zero-mul, mul-le-mul_right, arith}
 use mathlib.Core.Bool.{or-false}
 use Rattle.std.proofs.lemmas.Bool.Decides.{nat_tests}
 use Rattle.std.proofs.lemmas.Grind.{common_steps}
