@@ -1,9 +1,7 @@
 -- Finishes on the way of a list of doors.
-use Rattle.std.proofs.Common.{◌≡◌, ℕ, suc, ◌+◌, ◌<◌, ◌≤◌, true, List, [], ◌∷◌, ◌++◌, length, get_or, take, map, fold, refl, sym, ap, ◌∙◌, arith, length-take}
-use Rattle.std.proofs.lemmas.List.FromFn.{get_or-map-range_with_len, length-map-range_with_len, map-range_with_len_more}
-use Rattle.std.proofs.lemmas.List.{get_or_past, take_more}
-use Rattle.std.specs.List.{range_with_len}
-use Rattle.std.proofs.lemmas.List.Sums.{fold_push}
+use Rattle.std.proofs.Common.{◌≡◌, ℕ, suc, ◌+◌, ◌<◌, ◌≤◌, true, List, [], ◌∷◌, length, get_or, take, fold, refl, ap, arith, length-take}
+use Rattle.std.proofs.lemmas.List.FromFn.{get_or-map-range_with_len, length-map-range_with_len}
+use Rattle.std.proofs.lemmas.List.{get_or_past}
 use Rattle.std.proofs.lemmas.Bool.{cases_lt}
 use Rattle.doors.specs.Orders.{is_part_order}
 use Rattle.doors.proofs.Orders.{is-part}
@@ -37,16 +35,6 @@ soon r w i p h = omega (arith, few r w p, late r (take i w), length-take i w)
 pub late_each : (r : Round) (w : List ℕ) (k : ℕ) → is_part_order r.n w ≡ true → get_or (finish_minutes r w) k 0 ≤ latest_finish 16
 late_each r w k p =
     grind (arith, few r w p, late r (take (k + 1) w), length-take (k + 1) w, cases_lt k (length w), get_or-map-range_with_len (λ i. finish_of r (take (i + 1) w)) 0 (length w) k k 0, get_or_past (finish_minutes r w) k 0, length-map-range_with_len (λ i. finish_of r (take (i + 1) w)) 0 (length w))
-
--- one door more, and its finish
-pub minutes-more : (r : Round) (w : List ℕ) (i : ℕ) (a b : Van) (ms ns : List ℕ) → i < length w → a ≡ van_after r (take i w) → b ≡ next_van r a (get_or w i 0)
-    → ms ≡ map (λ k. finish_of r (take (k + 1) w)) (range_with_len 0 i) → ns ≡ ms ++ b.finish ∷ []
-    → (b ≡ van_after r (take (i + 1) w)) × (ns ≡ map (λ k. finish_of r (take (k + 1) w)) (range_with_len 0 (i + 1)))
-minutes-more r w i a b ms ns l e f g h =
-    let more : van_after r (take (i + 1) w) ≡ next_van r (van_after r (take i w)) (get_or w i 0) = rw (take_more w i 0 l) (fold_push (next_van r) yard (take i w) (get_or w i 0)) in
-    let van : b ≡ van_after r (take (i + 1) w) = f ∙ ap (λ (c : Van). next_van r c (get_or w i 0)) e ∙ sym more in
-    let finish : b.finish ≡ finish_of r (take (i + 1) w) = ap (λ (c : Van). c.finish) van in
-    (van, rw (map-range_with_len_more (λ k. finish_of r (take (k + 1) w)) 0 i i (omega arith), ← g, ← finish) h)
 
 -- the van of a trip is the van
 trip-van-from : {V : Type 0} (r : Round) (T : TallySense V) (t : Trip V) (w : List ℕ) → (fold (next_trip r T) t w).van ≡ fold (next_van r) t.van w

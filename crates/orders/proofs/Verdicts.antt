@@ -1,18 +1,15 @@
 -- A verdict, door by door, and what it means.
-use Rattle.std.proofs.Common.{◌≡◌, ℕ, ◌<◌, ◌≤◌, false, List, [], ◌∷◌, ◌++◌, length, get_or, drop, lt-ltb, refl, ap, ◌∙◌, append_assoc, append-nil, arith}
+use Rattle.std.proofs.Common.{◌≡◌, ℕ, ◌≤◌, false, List, [], ◌∷◌, ◌++◌, length, refl, ap, ◌∙◌, append_assoc, append-nil, arith}
 use Rattle.std.specs.Prelude.{nat_lt}
-use Rattle.std.proofs.lemmas.List.{drop_more}
 use Rattle.std.proofs.lemmas.List.Sums.{fold_push}
 use Rattle.std.proofs.lemmas.Bool.{cond_both, ltb-true, ltb-false}
 use Rattle.doors.specs.Orders.{IsPartOrder}
 use Rattle.doors.proofs.Orders.{part-next, each_none, each_more}
-use Rattle.round.specs.declared.door.Door.{Door}
 use Rattle.round.specs.declared.table.Round.{Round}
 use Rattle.round.specs.Clock.{door}
 use Rattle.rules.specs.Rules.{RuleSense, RuleLaws, state_of}
 use Rattle.rules.proofs.States.{state-stands}
 use Rattle.orders.specs.declared.van.Van.{Van}
-use Rattle.orders.specs.declared.verdict.Verdict.TheVariants as is
 use Rattle.orders.specs.Times.{yard, next_van, van_after, finish_of, KeepsHours}
 use Rattle.orders.specs.Verdicts.{verdict_from, VerdictMeans}
 
@@ -38,10 +35,3 @@ module _ {S : Type 0} (r : Round) (R : RuleSense S) (Keeps : List ℕ → Type 0
 
 pub judged : (r : Round) {S : Type 0} (R : RuleSense S) (Keeps : List ℕ → Type 0) (Stands : S → List ℕ → Type 0) → RuleLaws r.n R Keeps Stands → (w : List ℕ) → IsPartOrder r.n w → length w ≡ r.n → VerdictMeans r Keeps w (verdict_from r R yard R.start w)
 judged r R Keeps Stands rule w p l = from r R Keeps Stands rule [] w p l (each_none _) rule.keeps_none
-
--- the door at place i is the first that closes too early
-pub closes-first : {S : Type 0} (r : Round) (R : RuleSense S) (w : List ℕ) (i : ℕ) (a b : Van) (s : S) (d : Door) (m : ℕ) → i < length w → b ≡ next_van r a (get_or w i 0) → d ≡ door r (get_or w i 0) → m ≡ d.closes
-    → m < b.finish → is.Closes (get_or w i 0) ≡ verdict_from r R a s (drop i w)
-closes-first r R w i a b s d m l next at same late =
-    let passed : (door r (get_or w i 0)).closes < (next_van r a (get_or w i 0)).finish = omega (arith, same, ap (λ (e : Door). e.closes) at, ap (λ (c : Van). c.finish) next) in
-    rw (drop_more w i 0 l, lt-ltb _ _ passed)

@@ -13,9 +13,7 @@ use Rattle.seek.specs.Rows.{none, at_end, seen_from, through, either, by_first, 
 
 -- the layer ahead of layer l is within the records
 pub layer-within : (k l n w m : ℕ) → l ≡ suc k → l ≤ n → n * w + 1 ≤ m → k * w + w ≤ m
-layer-within k l n w m is le h =
-    let ends : l * w ≤ n * w = mul-le-mul_right w le in
-    omega (arith, rw is at ends, suc-mul k w)
+layer-within k l n w m is le h = let ends : l * w ≤ n * w = mul-le-mul_right w le in omega (arith, rw is at ends, suc-mul k w)
 
 -- ---- one more door
 

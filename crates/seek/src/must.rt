@@ -12,7 +12,9 @@ use layers::node::Node;
 /// Whether a list of that length has room for a diagram of n doors and that width.
 fn fits(n: usize, width: usize, len: usize) -> bool
     ensures value { result ≡ fits n width len }
-    ensures bounds { result ≡ true → (n ≤ 16) × (width ≤ 128) × (n * width + 1 ≤ len) }
+    ensures few { result ≡ true → n ≤ 16 }
+    ensures narrow { result ≡ true → width ≤ 128 }
+    ensures room { result ≡ true → n * width + 1 ≤ len }
 {
     (1..=128).contains(&width) && n <= 16 && len >= n * width + 1
 }

@@ -157,6 +157,7 @@ fn leg_at(line: &Line<'_>, from: u16, to: u16) -> Result<u16, Refusal>
 }
 
 /// The drives from a place to each of n doors.
+#[tactic(auto, using(crate::proofs::Texts::row_step))]
 fn row_of(line: &Line<'_>, n: u16, from: u16) -> Result<[u16; 17], Refusal>
     requires { n ≤ 16 }
     ensures { result ≡ row_from n from 1 line.now.number (fields_of line.now) (replicate 17 0) }

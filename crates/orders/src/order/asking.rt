@@ -30,6 +30,7 @@ impl<'a> Order<'a> {
     }
 
     /// What the order costs by this tally.
+    #[tactic(auto, using(crate::proofs::Times::soon_on_trip))]
     pub fn cost<T: Tally>(&self, tally: &T) -> T::Value
         ensures { result ≡ cost self.now.round.now (T.Tally.sense tally.now) self.now.doors.now }
     {

@@ -6,7 +6,7 @@ use Rattle.std.proofs.lemmas.List.{take-append-le}
 use Rattle.std.proofs.lemmas.Slice.{drop-append-drop}
 use Rattle.std.proofs.lemmas.List.Elements.{All-nil}
 use Rattle.std.proofs.lemmas.List.Sorted.{IsPermutation-refl, IsPermutation-trans}
-use Rattle.lister.specs.Listed.{IsGood, listed_orders}
+use Rattle.lister.specs.Listed.{IsGood}
 use Rattle.lister.proofs.Rank.{rank, rank-lt, rank-before}
 use Rattle.lister.proofs.Doors.{long, small, by_number}
 use Rattle.lister.proofs.SoFar.{looked, started, stepped, ended}
@@ -29,9 +29,6 @@ loop-allowed-init g c =
       so_far = λ s. rw (first, none) (started c.args.round.now K);
     }
 
-pub look-requires : goal.look-requires
-look-requires g c = c.loop-allowed.invariant.later
-
 pub loop-allowed-preserved : goal.loop-allowed-preserved
 loop-allowed-preserved g c =
     let r = c.args.round.now in
@@ -39,8 +36,6 @@ loop-allowed-preserved g c =
     let K = g.R.Rule.keeps c.args.rule.now in
     let v = take n c.loop-allowed.doors in
     let w = c.next_order.new.doors in
-    let os = listed_orders n c.loop-allowed.allowed.items in
-    let us = listed_orders n c.look.new.allowed.items in
     let h = c.loop-allowed.invariant in
     let moved = IsPermutation-trans (range_with_len 1 n) _ w h.reordered c.next_order.ensures.same_doors in
     let t = taken n w (drop n c.loop-allowed.doors) moved in
@@ -48,7 +43,7 @@ loop-allowed-preserved g c =
       reordered = rw t moved;
       later = drop-append-drop n c.loop-allowed.doors w n (le_refl n) (long n w moved) ∙ h.later;
       good = λ s. c.look.ensures.good s (h.good s);
-      so_far = λ s. rw t (stepped r K v w us (looked r K v os us (h.so_far s) (c.in_ok-look.ensures.orders s)) (c.next_order.ensures.next c.if-not-next_order.false) h.reordered);
+      so_far = λ s. rw t (stepped r K v w _ (looked r K v _ _ (h.so_far s) (c.in_ok-look.ensures.orders s)) (c.next_order.ensures.next c.if-not-next_order.false) h.reordered);
     }
 
 pub loop-allowed-smaller : goal.loop-allowed-smaller
@@ -67,12 +62,8 @@ returns-then-not-next_order-clause-sound g c = λ s. c.look.ensures.good s (c.lo
 
 pub returns-then-not-next_order-clause-whole : goal.returns-then-not-next_order-clause-whole
 returns-then-not-next_order-clause-whole g c = λ s.
-    let r = c.args.round.now in
-    let K = g.R.Rule.keeps c.args.rule.now in
-    let v = take r.n c.loop-allowed.doors in
-    let us = listed_orders r.n c.look.new.allowed.items in
-    let upto = looked r K v (listed_orders r.n c.loop-allowed.allowed.items) us (c.loop-allowed.invariant.so_far s) (c.in_ok-look.ensures.orders s) in
-    ended r K v us upto (c.next_order.ensures.last c.if-not-next_order.true) c.loop-allowed.invariant.reordered
+    let upto = looked _ _ _ _ _ (c.loop-allowed.invariant.so_far s) (c.in_ok-look.ensures.orders s) in
+    ended _ _ _ _ upto (c.next_order.ensures.last c.if-not-next_order.true) c.loop-allowed.invariant.reordered
 
 pub returns-then-not-next_order-clause-ascending : goal.returns-then-not-next_order-clause-ascending
 returns-then-not-next_order-clause-ascending g c = λ s.

@@ -1,12 +1,12 @@
-use Rattle.std.proofs.Common.{sym, ◌∙◌}
-use Rattle.seek.proofs.DoorsBehind.{first-must}
+use Rattle.std.proofs.Common.{not, ap, sym, ◌∙◌}
+use Rattle.layers.specs.Calls.{must}
+use Rattle.seek.specs.declared.seen.Seen.{Seen}
 use Rattle.seek.proofs.must.must.Goals as goal
 
 pub first_row-row-requires : goal.first_row-row-requires
 first_row-row-requires g c =
-    let b = c.fits.ensures.bounds c.if-not-fits.false in
-    record { n_bound = b.0; width_bound = b.1; width_in_bounds = b.2 }
+    let fit = c.if-not-fits.false in record { n_bound = c.fits.ensures.few fit; width_bound = c.fits.ensures.narrow fit; width_in_bounds = c.fits.ensures.room fit }
 
 pub returns : goal.returns
-returns g c =
-    rw (sym c.fits.ensures.value ∙ c.if-not-fits.false) (first-must c.args.i c.args.j c.args.n c.args.width c.args.nodes.now c.first_row-row.result c.first_row-row.ensures)
+unfolding must
+returns g c = rw (sym c.fits.ensures.value ∙ c.if-not-fits.false) (ap (λ (s : Seen). not s.both) (c.first_row-row.ensures 1))

@@ -6,20 +6,17 @@ use Rattle.seek.proofs.must.musts.Goals as goal
 
 pub top_row-row-requires : goal.top_row-row-requires
 top_row-row-requires g c =
-    let b = c.fits.ensures.bounds c.if-not-fits.false in
-    record { n_bound = b.0; width_bound = b.1; width_in_bounds = b.2 }
+    let fit = c.if-not-fits.false in record { n_bound = c.fits.ensures.few fit; width_bound = c.fits.ensures.narrow fit; width_in_bounds = c.fits.ensures.room fit }
 
 pub behind-requires : goal.behind-requires
-behind-requires g c = let b = c.fits.ensures.bounds c.if-not-fits.false in b.0
+behind-requires g c = c.fits.ensures.few c.if-not-fits.false
 
 pub loop-i-preserved : goal.loop-i-preserved
 loop-i-preserved g c =
-    let n = c.args.n in
-    let w = c.args.width in
-    let xs = c.args.nodes.now in
+    let f = behind c.args.n c.args.width c.args.nodes.now in
     let i = c.loop-i.i in
-    let now : c.behind.result ≡ behind n w xs i = c.behind.ensures ∙ first-behind n w xs c.top_row-row.result c.top_row-row.ensures i in
-    (length-set c.loop-i.sets i c.behind.result ∙ c.loop-i.invariant.0, one_more_set (behind n w xs) c.loop-i.sets i c.behind.result (omega arith) now c.loop-i.invariant.1)
+    let now : c.behind.result ≡ f i = c.behind.ensures ∙ first-behind c.args.n c.args.width c.args.nodes.now c.top_row-row.result c.top_row-row.ensures i in
+    (length-set c.loop-i.sets i c.behind.result ∙ c.loop-i.invariant.0, one_more_set f c.loop-i.sets i c.behind.result (omega arith) now c.loop-i.invariant.1)
 
 pub returns : goal.returns
 returns g c =

@@ -1,6 +1,6 @@
 use Rattle.std.proofs.Common.{◌+◌, refl, arith, ◌∙◌}
 use Rattle.std.proofs.lemmas.List.{length-set}
-use Rattle.seek.proofs.Places.{row-start, row-whole, node_more, standing-all, standing-none, standing-some}
+use Rattle.seek.proofs.Places.{row-start, row-ends, row-full, node_more, standing-some}
 use Rattle.seek.proofs.row.row_of.Goals as goal
 
 pub loop-a-init : goal.loop-a-init
@@ -20,9 +20,7 @@ loop-a-preserved g c =
 
 pub returns-then-u-eq0 : goal.returns-then-u-eq0
 returns-then-u-eq0 g c =
-    let inv = c.loop-a.invariant in
-    let us = c.args.us.now in
-    row-whole _ us _ c.loop-a.row (standing-none us c.loop-a.a c.index-us-a.result (omega arith) c.index-us-a.is (omega arith) inv.stand) inv.seen
+    row-ends c.args.us.now c.loop-a.a c.index-us-a.result (omega arith) c.index-us-a.is _ c.loop-a.row (omega arith) c.loop-a.invariant.stand c.loop-a.invariant.seen
 
 pub returns-after-loop-a : goal.returns-after-loop-a
-returns-after-loop-a g c = let inv = c.loop-a.invariant in row-whole _ c.args.us.now _ c.loop-a.row (standing-all _ c.loop-a.a (omega arith) inv.stand) inv.seen
+returns-after-loop-a g c = row-full c.args.us.now c.loop-a.a _ c.loop-a.row (omega arith) c.loop-a.invariant.stand c.loop-a.invariant.seen

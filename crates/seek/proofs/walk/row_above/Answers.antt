@@ -1,7 +1,7 @@
 use Rattle.std.proofs.Common.{get_or, ap, refl, arith, ◌∙◌}
 use Rattle.std.proofs.lemmas.List.{length-set, length-map}
 use Rattle.seek.specs.Rows.{none, view, views}
-use Rattle.seek.proofs.Places.{row-whole, node_more, standing-all, standing-none, standing-some}
+use Rattle.seek.proofs.Places.{row-ends, row-full, node_more, standing-some}
 use Rattle.seek.proofs.Views.{views-start, views-set}
 use Rattle.seek.proofs.walk.row_above.Goals as goal
 
@@ -25,11 +25,7 @@ loop-a-preserved g c =
 
 pub returns-then-u-eq0 : goal.returns-then-u-eq0
 returns-then-u-eq0 g c = λ i j.
-    let inv = c.loop-a.invariant in
-    let us = c.args.us.now in
-    row-whole _ us _ (views i j c.loop-a.row) (standing-none us c.loop-a.a c.index-us-a.result (omega arith) c.index-us-a.is (omega arith) inv.stand) (inv.seen i j)
+    row-ends c.args.us.now c.loop-a.a c.index-us-a.result (omega arith) c.index-us-a.is _ (views i j c.loop-a.row) (omega arith) c.loop-a.invariant.stand (c.loop-a.invariant.seen i j)
 
 pub returns-after-loop-a : goal.returns-after-loop-a
-returns-after-loop-a g c = λ i j.
-    let inv = c.loop-a.invariant in
-    row-whole _ c.args.us.now _ (views i j c.loop-a.row) (standing-all _ c.loop-a.a (omega arith) inv.stand) (inv.seen i j)
+returns-after-loop-a g c = λ i j. row-full c.args.us.now c.loop-a.a _ (views i j c.loop-a.row) (omega arith) c.loop-a.invariant.stand (c.loop-a.invariant.seen i j)

@@ -7,6 +7,3 @@ loop-to-preserved c = record {
   room = length-set _ _ _ ∙ c.loop-to.invariant.room;
   same = grind (arith, row_step c.args.n c.args.from c.loop-to.to);
 }
-
-pub returns-in_err-row : goal.returns-in_err-row
-returns-in_err-row c = grind (arith, row_step c.args.n c.args.from c.loop-to.to)

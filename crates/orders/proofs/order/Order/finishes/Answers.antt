@@ -1,6 +1,8 @@
-use Rattle.std.proofs.Common.{arith}
+use Rattle.std.proofs.Common.{◌+◌, take, arith}
 use Rattle.std.proofs.lemmas.Grind.{common_steps}
-use Rattle.orders.proofs.Times.{soon, late_each, minutes-more}
+use Rattle.std.proofs.lemmas.List.FromFn.{map-range_with_len_more}
+use Rattle.orders.specs.Times.{finish_of}
+use Rattle.orders.proofs.Times.{soon, late_each}
 use Rattle.orders.proofs.order.Order.finishes.Goals as goal
 
 pub goes-van-requires : goal.goes-van-requires
@@ -8,8 +10,9 @@ goes-van-requires c = rw c.loop-j.invariant.0 (soon c.args.self.now.round.now c.
 
 pub loop-j-preserved : goal.loop-j-preserved
 loop-j-preserved c =
-    minutes-more c.args.self.now.round.now c.args.self.now.doors.now c.loop-j.j-index c.loop-j.van c.goes-van.result c.loop-j.minutes.items c.push.new.self.items
-    c.loop-j-test.true c.loop-j.invariant.0 c.goes-van.ensures c.loop-j.invariant.1 c.in_ok-push.ensures.items
+    let r = c.args.self.now.round.now in
+    let w = c.args.self.now.doors.now in
+    grind (arith, common_steps, map-range_with_len_more (λ k. finish_of r (take (k + 1) w)) 0 c.loop-j.j-index c.loop-j.j-index)
 
 pub returns-clause-bound : goal.returns-clause-bound
 returns-clause-bound c =
