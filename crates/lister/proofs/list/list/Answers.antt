@@ -31,10 +31,8 @@ loop-allowed-init g c =
 
 pub loop-allowed-preserved : goal.loop-allowed-preserved
 loop-allowed-preserved g c =
-    let r = c.args.round.now in
-    let n = r.n in
+    let n = c.args.round.now.n in
     let K = g.R.Rule.keeps c.args.rule.now in
-    let v = take n c.loop-allowed.doors in
     let w = c.next_order.new.doors in
     let h = c.loop-allowed.invariant in
     let moved = IsPermutation-trans (range_with_len 1 n) _ w h.reordered c.next_order.ensures.same_doors in
@@ -43,7 +41,7 @@ loop-allowed-preserved g c =
       reordered = rw t moved;
       later = drop-append-drop n c.loop-allowed.doors w n (le_refl n) (long n w moved) ∙ h.later;
       good = λ s. c.look.ensures.good s (h.good s);
-      so_far = λ s. rw t (stepped r K v w _ (looked r K v _ _ (h.so_far s) (c.in_ok-look.ensures.orders s)) (c.next_order.ensures.next c.if-not-next_order.false) h.reordered);
+      so_far = λ s. rw t (stepped c.args.round.now K _ w _ (looked c.args.round.now K _ _ _ (h.so_far s) (c.in_ok-look.ensures.orders s)) (c.next_order.ensures.next c.if-not-next_order.false) h.reordered);
     }
 
 pub loop-allowed-smaller : goal.loop-allowed-smaller
