@@ -1,14 +1,15 @@
 -- The doors that come behind a door, door by door.
-use Rattle.std.proofs.Common.{◌≡◌, ℕ, zero, suc, ◌-◌, ◌<◌, ◌≤◌, ◌^◌, Bool, if◌then◌else◌, List, [], ◌∷◌, length, get_or, bit_or, sym, ◌∙◌, refl, arith}
-use Rattle.std.proofs.lemmas.Grind.{same_number_lists}
+use Rattle.std.proofs.Common.{◌≡◌, ℕ, zero, suc, ◌+◌, ◌-◌, ◌<◌, ◌≤◌, ◌^◌, Bool, false, if◌then◌else◌, List, [], length, get_or, set, bit_or, sym, ap, ◌∙◌, refl, arith}
+use Rattle.std.proofs.lemmas.Grind.{same_number_lists, elements}
 use Rattle.std.proofs.lemmas.List.FromFn.{get_or-map-range_with_len, length-map-range_with_len}
 use Rattle.std.proofs.lemmas.Bool.Decides.{nat_tests}
 use Rattle.layers.specs.declared.node.Node.{Node}
-use Rattle.layers.specs.Net.{has_path_with}
 use Rattle.layers.specs.Calls.{arcs, must}
-use Rattle.doors.specs.Sets.{has}
 use Rattle.seek.specs.Musts.{set_where, must_of, behind, musts}
-use Rattle.seek.specs.Rows.{is_behind}
+use Rattle.seek.specs.declared.onward.Onward.{Onward}
+use Rattle.seek.specs.declared.seen.Seen.{Seen}
+use Rattle.seek.specs.Rows.{is_behind, none, views, seen_from}
+use Rattle.seek.proofs.Views.{view-target}
 
 -- one turn more of the loop over the doors
 pub one_more : (p : ℕ → Bool) (j : ℕ) → 1 ≤ j → set_where p j ≡ (if p j then bit_or (set_where p (j - 1)) (2 ^ j) else set_where p (j - 1))
@@ -22,10 +23,17 @@ unfolding set_where
 where-same p q zero h = refl
 where-same p q (suc k) h = rw (h (suc k), where-same p q k h) refl
 
-pub where-behind : {S V : Type 0} (n W : ℕ) (xs : List (Node S V)) (after : List ℕ) → ((i j : ℕ) → has (get_or after j 0) i ≡ has_path_with (arcs n W xs) 0 (j ∷ i ∷ []))
-    → (i : ℕ) → set_where (is_behind n after i) 16 ≡ behind n W xs i
+-- the first node's row says which doors come behind door i
+pub first-behind : {S V : Type 0} (n W : ℕ) (xs : List (Node S V)) (row : List Onward) → ((i j t : ℕ) → get_or (views i j row) t none ≡ seen_from i j (arcs n W xs) t)
+    → (i : ℕ) → set_where (is_behind n (get_or row 0 (record { ends = false; some = 0; after = [] })).after i) 16 ≡ behind n W xs i
 unfolding behind must
-where-behind n W xs after h i = where-same (is_behind n after i) (must_of n W xs i) 16 (λ j. grind (arith, nat_tests, h i j))
+first-behind n W xs row seen i =
+    where-same (is_behind n (get_or row 0 (record { ends = false; some = 0; after = [] })).after i) (must_of n W xs i) 16
+    (λ j. let both = ap (λ (s : Seen). s.both) (sym (view-target i j row 1 (omega arith)) ∙ seen i j 1) in grind (arith, nat_tests, both))
+
+-- one set more
+pub one_more_set : (f : ℕ → ℕ) (sets : List ℕ) (i v : ℕ) → i < length sets → v ≡ f i → ((q : ℕ) → q < i → get_or sets q 0 ≡ f q) → (q : ℕ) → q < i + 1 → get_or (set sets i v) q 0 ≡ f q
+one_more_set f sets i v l e h q m = grind (arith, elements, h q)
 
 pub musts_are : {S V : Type 0} (n W : ℕ) (xs : List (Node S V)) (sets : List ℕ) (i : ℕ) → i ≡ 17 → length sets ≡ 17 → ((q : ℕ) → q < i → get_or sets q 0 ≡ behind n W xs q) → sets ≡ musts n W xs
 unfolding musts

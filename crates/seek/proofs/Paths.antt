@@ -1,5 +1,5 @@
 -- A row worked out from the row below it says what paths there are, one layer further up.
-use Rattle.std.proofs.Common.{◌≡◌, ℕ, zero, suc, ◌+◌, ◌-◌, ◌*◌, ◌≤◌, Bool, true, false, ◌||◌, List, [], ◌∷◌, get_or, take, drop, map, refl, ap, ◌∙◌, suc-mul, zero-mul, arith}
+use Rattle.std.proofs.Common.{◌≡◌, ℕ, zero, suc, ◌+◌, ◌*◌, ◌≤◌, Bool, true, false, ◌||◌, List, [], ◌∷◌, get_or, take, drop, map, refl, ap, ◌∙◌, suc-mul, zero-mul, mul-le-mul_right, arith}
 use mathlib.Core.Bool.{or-false}
 use Rattle.std.proofs.lemmas.Bool.Decides.{nat_tests}
 use Rattle.std.proofs.lemmas.Grind.{common_steps}
@@ -10,6 +10,10 @@ use Rattle.layers.specs.Calls.{arcs}
 use Rattle.layers.specs.Records.{nodes_in, layers, arcs_in, arcs_of_layers}
 use Rattle.seek.specs.declared.seen.Seen.{Seen}
 use Rattle.seek.specs.Rows.{none, at_end, seen_from, through, either, by_first, row_of}
+
+-- the layer ahead of layer l is within the records
+pub layer-within : (k l n w m : ℕ) → l ≡ suc k → l ≤ n → n * w + 1 ≤ m → k * w + w ≤ m
+layer-within k l n w m is le h = let ends : l * w ≤ n * w = mul-le-mul_right w le in omega (arith, rw is at ends, suc-mul k w)
 
 -- ---- one more door
 
@@ -111,15 +115,14 @@ module _ (i j : ℕ) where
     reached-end s rest e h (suc m) q t = absurd (omega arith)
 
     -- from layer l to layer k, the one ahead of it
-    pub reached-more : (k l : ℕ) (row up : List Seen) → l ≡ suc k → l ≤ n
-        → ((t : ℕ) → get_or up t none ≡ get_or (row_of (λ u. by_first i j row u n) (take (k * w + w - k * w) (drop (k * w) xs))) t none) → Reached row l → Reached up k
-    reached-more k l row up is le new h zero e t = absurd (omega arith)
-    reached-more k l row up is le new h (suc m) e t =
-        let long : k * w + w - k * w ≡ w = omega arith in
+    pub reached-more : (k l : ℕ) (row up : List Seen) (us : List (Node S V)) → l ≡ suc k → l ≤ n → us ≡ take w (drop (k * w) xs)
+        → ((t : ℕ) → get_or up t none ≡ get_or (row_of (λ u. by_first i j row u n) us) t none) → Reached row l → Reached up k
+    reached-more k l row up us is le here new h zero e t = absurd (omega arith)
+    reached-more k l row up us is le here new h (suc m) e t =
         let place : l * w ≡ k * w + w = rw is (omega (arith, suc-mul k w)) in
         let rest : drop (l * w) xs ≡ drop w (drop (k * w) xs) = rw (place, drop-drop w (k * w) xs) refl in
         let N : List (Node S V) = take w (drop (k * w) xs) in
-        rw (drawn-more (nodes_in N) m (drop w (drop (k * w) xs)), ← rest) (new t ∙ ap (λ (l : ℕ). get_or (row_of (λ u. by_first i j row u n) (take l (drop (k * w) xs))) t none) long ∙ layer-seen _ row (h m (omega arith)) n N t)
+        rw (drawn-more (nodes_in N) m (drop w (drop (k * w) xs)), ← rest) (new t ∙ ap (λ vs. get_or (row_of (λ u. by_first i j row u n) vs) t none) here ∙ layer-seen _ row (h m (omega arith)) n N t)
 
     -- at the first layer
     pub reached-first : (k : ℕ) (row : List Seen) → k ≡ 0 → Reached row k → IsSeen row (arcs n w xs)

@@ -1,5 +1,5 @@
 //! Whether one door comes before another on every path.
-ghost use Rattle.std.specs.Prelude.{◌≡◌, ◌≤◌, false, length, replicate, if◌then◌else◌};
+ghost use Rattle.std.specs.Prelude.{◌≡◌, ◌+◌, ◌*◌, ◌≤◌, false, true, length, replicate, if◌then◌else◌};
 ghost use Rattle.layers.specs.Calls.{must};
 ghost use Rattle.seek.specs.Musts.{musts, set_where};
 ghost use Rattle.seek.specs.Rows.{fits, is_behind};
@@ -11,14 +11,16 @@ use layers::node::Node;
 
 /// Whether a list of that length has room for a diagram of n doors and that width.
 fn fits(n: usize, width: usize, len: usize) -> bool
-    ensures { result ≡ fits n width len }
+    ensures value { result ≡ fits n width len }
+    ensures few { result ≡ true → n ≤ 16 }
+    ensures narrow { result ≡ true → width ≤ 128 }
+    ensures room { result ≡ true → n * width + 1 ≤ len }
 {
     (1..=128).contains(&width) && n <= 16 && len >= n * width + 1
 }
 
 /// Yes if no path of the diagram of n doors has the door j at an earlier place than the door i. No for a list too short for the
 /// diagram, a width out of 1 to 128, and more than 16 doors.
-#[tactic(auto, unfolding(layers::specs::Calls::must))]
 pub fn must<S: Copy, V: Copy>(
     nodes: &[Node<S, V>],
     n: usize,
@@ -45,7 +47,7 @@ fn is_behind(after: &[DoorSet; 17], n: usize, i: usize, j: usize) -> bool
 }
 
 /// The doors that come behind door i.
-#[tactic(auto, using(crate::proofs::DoorsBehind::one_more), unfolding(crate::specs::Musts::set_where))]
+#[tactic(auto, unfolding(crate::specs::Musts::set_where))]
 fn behind(after: &[DoorSet; 17], n: usize, i: usize) -> DoorSet
     requires { n ≤ 16 }
     ensures { result ≡ set_where (is_behind n after.now i) 16 }
@@ -61,7 +63,6 @@ fn behind(after: &[DoorSet; 17], n: usize, i: usize) -> DoorSet
 
 /// For each door of the diagram of n doors, the doors that it comes before on every path, as a set. None for a list too short
 /// for the diagram, a width out of 1 to 128, and more than 16 doors.
-#[tactic(auto, using(crate::proofs::DoorsBehind::musts_are))]
 pub fn musts<S: Copy, V: Copy>(nodes: &[Node<S, V>], n: usize, width: usize) -> [DoorSet; 17]
     ensures { result ≡
         (if fits n width (length nodes.now) then musts n width nodes.now else replicate 17 0) }

@@ -1,5 +1,5 @@
 //! A row: what is seen from each node of a layer, by target number.
-ghost use Rattle.std.specs.Prelude.{◌≡◌, ℕ, ◌+◌, ◌*◌, ◌≤◌, length, slice_index_or};
+ghost use Rattle.std.specs.Prelude.{◌≡◌, ℕ, ◌+◌, ◌*◌, ◌≤◌, length, take, drop, slice_index_or};
 ghost use Rattle.layers.specs.Calls.{arcs};
 ghost use Rattle.seek.specs.Rows.{by_first, none, row_of, seen_from};
 
@@ -48,6 +48,20 @@ fn row_of<S: Copy, V: Copy>(
     row
 }
 
+/// The places of layer k.
+pub(crate) fn layer<'a, S: Copy, V: Copy>(
+    nodes: &'a [Node<S, V>],
+    width: usize,
+    k: usize,
+) -> &'a [Node<S, V>]
+    requires { k * width + width ≤ length nodes.now }
+    ensures places { result.now ≡ take width (drop (k * width) nodes.now) }
+    ensures len { length result.now ≡ width }
+{
+    let at = k * width;
+    &nodes[at..at + width]
+}
+
 /// The row of the first layer.
 pub(crate) fn first_row<S: Copy, V: Copy>(
     i: usize,
@@ -64,8 +78,7 @@ pub(crate) fn first_row<S: Copy, V: Copy>(
     let mut row = [NONE; 256];
     row[1].ends = true;
     for k in (0..n).rev() {
-        let at = k * width;
-        row = row_of(i, j, &row, &nodes[at..at + width], n);
+        row = row_of(i, j, &row, layer(nodes, width, k), n);
     }
     row
 }

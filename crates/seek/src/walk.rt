@@ -4,6 +4,7 @@ ghost use Rattle.layers.specs.Calls.{arcs};
 ghost use Rattle.seek.specs.Rows.{by_first, none, row_of, seen_from, view, views};
 
 use crate::onward::{NOTHING, Onward};
+use crate::row::layer;
 use layers::node::Node;
 
 /// Over the arcs of u by the first n doors.
@@ -53,8 +54,7 @@ pub(crate) fn top_row<S: Copy, V: Copy>(
     let mut row = [NOTHING; 128];
     row[0].ends = true;
     for k in (0..n).rev() {
-        let at = k * width;
-        row = row_above(&row, &nodes[at..at + width], n);
+        row = row_above(&row, layer(nodes, width, k), n);
     }
     row
 }

@@ -15,7 +15,6 @@ use tallies::tally::Tally;
 
 impl<'a> Order<'a> {
     /// The minutes at which the doors finish, in their order.
-    #[tactic(auto, using(crate::proofs::Times::soon))]
     pub fn finishes(&self, alloc: Global) -> Result<Vec<u32>, AllocError>
         ensures value { IfOk result
             (λ v. v.items ≡ finish_minutes self.now.round.now self.now.doors.now) }
@@ -60,7 +59,6 @@ impl<'a> Order<'a> {
     }
 
     /// The first door that closes too early or breaks the rule, if there is one.
-    #[tactic(auto, using(crate::proofs::Times::soon))]
     fn first_fault<R: Rule>(&self, rule: &R) -> Verdict
         ensures { result ≡ verdict_from self.now.round.now (R.Rule.sense rule.now) yard
             (R.Rule.sense rule.now).start self.now.doors.now }

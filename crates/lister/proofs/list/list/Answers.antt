@@ -32,6 +32,7 @@ loop-allowed-init g c =
 pub loop-allowed-preserved : goal.loop-allowed-preserved
 loop-allowed-preserved g c =
     let n = c.args.round.now.n in
+    let K = g.R.Rule.keeps c.args.rule.now in
     let w = c.next_order.new.doors in
     let h = c.loop-allowed.invariant in
     let moved = IsPermutation-trans (range_with_len 1 n) _ w h.reordered c.next_order.ensures.same_doors in
@@ -40,7 +41,7 @@ loop-allowed-preserved g c =
       reordered = rw t moved;
       later = drop-append-drop n c.loop-allowed.doors w n (le_refl n) (long n w moved) ∙ h.later;
       good = λ s. c.look.ensures.good s (h.good s);
-      so_far = λ s. rw t (stepped _ _ _ w _ (looked _ _ _ _ _ (h.so_far s) (c.in_ok-look.ensures.orders s)) (c.next_order.ensures.next c.if-not-next_order.false) h.reordered);
+      so_far = λ s. rw t (stepped c.args.round.now K _ w _ (looked c.args.round.now K _ _ _ (h.so_far s) (c.in_ok-look.ensures.orders s)) (c.next_order.ensures.next c.if-not-next_order.false) h.reordered);
     }
 
 pub loop-allowed-smaller : goal.loop-allowed-smaller
@@ -53,6 +54,9 @@ loop-allowed-smaller g c =
     let rise = rank-before v w (long n v p ∙ sym (long n w moved)) (small n v c.args.round.now.most p) (c.next_order.ensures.next c.if-not-next_order.false).after in
     let high : rank w < 17 ^ n = subst (λ (m : ℕ). rank w < 17 ^ m) (long n w moved) (rank-lt w (small n w c.args.round.now.most moved)) in
     omega (arith, ap rank (taken n w (drop n c.loop-allowed.doors) moved))
+
+pub returns-then-not-next_order-clause-sound : goal.returns-then-not-next_order-clause-sound
+returns-then-not-next_order-clause-sound g c = λ s. c.look.ensures.good s (c.loop-allowed.invariant.good s)
 
 pub returns-then-not-next_order-clause-whole : goal.returns-then-not-next_order-clause-whole
 returns-then-not-next_order-clause-whole g c = λ s.

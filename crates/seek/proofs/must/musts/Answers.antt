@@ -1,12 +1,24 @@
-use Rattle.std.proofs.Common.{ℕ, arith, sym, ap, ◌∙◌}
-use Rattle.std.proofs.lemmas.List.{length-set, get_or-set_same, get_or-set_other}
-use Rattle.seek.proofs.DoorsBehind.{where-behind}
-use Rattle.seek.proofs.Views.{view-target}
+use Rattle.std.proofs.Common.{◌≡◌, sym, arith, ◌∙◌}
+use Rattle.std.proofs.lemmas.List.{length-set}
+use Rattle.seek.specs.Musts.{behind}
+use Rattle.seek.proofs.DoorsBehind.{first-behind, one_more_set, musts_are}
 use Rattle.seek.proofs.must.musts.Goals as goal
+
+pub top_row-row-requires : goal.top_row-row-requires
+top_row-row-requires g c =
+    let fit = c.if-not-fits.false in record { n_bound = c.fits.ensures.few fit; width_bound = c.fits.ensures.narrow fit; width_in_bounds = c.fits.ensures.room fit }
+
+pub behind-requires : goal.behind-requires
+behind-requires g c = c.fits.ensures.few c.if-not-fits.false
 
 pub loop-i-preserved : goal.loop-i-preserved
 loop-i-preserved g c =
-    let row = c.top_row-row.result in
-    let h = λ (i j : ℕ). ap (λ s. s.both) (sym (view-target i j row 1 (omega arith)) ∙ c.top_row-row.ensures i j 1) in
-    let e = c.behind.ensures ∙ where-behind c.args.n c.args.width c.args.nodes.now _ h c.loop-i.i in
-    (length-set c.loop-i.sets c.loop-i.i c.behind.result ∙ c.loop-i.invariant.0, λ q l. grind (arith, e, c.loop-i.invariant.1 q, get_or-set_same c.loop-i.sets c.loop-i.i c.behind.result 0, get_or-set_other c.loop-i.sets c.loop-i.i q c.behind.result 0))
+    let f = behind c.args.n c.args.width c.args.nodes.now in
+    let i = c.loop-i.i in
+    let now : c.behind.result ≡ f i = c.behind.ensures ∙ first-behind c.args.n c.args.width c.args.nodes.now c.top_row-row.result c.top_row-row.ensures i in
+    (length-set c.loop-i.sets i c.behind.result ∙ c.loop-i.invariant.0, one_more_set f c.loop-i.sets i c.behind.result (omega arith) now c.loop-i.invariant.1)
+
+pub returns : goal.returns
+returns g c =
+    rw (sym c.fits.ensures.value ∙ c.if-not-fits.false)
+    (musts_are c.args.n c.args.width c.args.nodes.now c.loop-i.sets c.loop-i.i (omega arith) c.loop-i.invariant.0 c.loop-i.invariant.1)

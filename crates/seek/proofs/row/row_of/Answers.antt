@@ -1,7 +1,6 @@
 use Rattle.std.proofs.Common.{◌+◌, refl, arith, ◌∙◌}
-use Rattle.std.proofs.lemmas.Grind.{common_steps}
 use Rattle.std.proofs.lemmas.List.{length-set}
-use Rattle.seek.proofs.Places.{row-start, node_more, standing-some}
+use Rattle.seek.proofs.Places.{row-start, row-ends, row-full, node_more, standing-some}
 use Rattle.seek.proofs.row.row_of.Goals as goal
 
 pub loop-a-init : goal.loop-a-init
@@ -20,4 +19,8 @@ loop-a-preserved g c =
     }
 
 pub returns-then-u-eq0 : goal.returns-then-u-eq0
-returns-then-u-eq0 g c = grind (arith, common_steps)
+returns-then-u-eq0 g c =
+    row-ends c.args.us.now c.loop-a.a c.index-us-a.result (omega arith) c.index-us-a.is _ c.loop-a.row (omega arith) c.loop-a.invariant.stand c.loop-a.invariant.seen
+
+pub returns-after-loop-a : goal.returns-after-loop-a
+returns-after-loop-a g c = row-full c.args.us.now c.loop-a.a _ c.loop-a.row (omega arith) c.loop-a.invariant.stand c.loop-a.invariant.seen

@@ -1,7 +1,7 @@
 use Rattle.std.proofs.Common.{get_or, ap, refl, arith, ◌∙◌}
 use Rattle.std.proofs.lemmas.List.{length-set, length-map}
 use Rattle.seek.specs.Rows.{none, view, views}
-use Rattle.seek.proofs.Places.{node_more, standing-some}
+use Rattle.seek.proofs.Places.{row-ends, row-full, node_more, standing-some}
 use Rattle.seek.proofs.Views.{views-start, views-set}
 use Rattle.seek.proofs.walk.row_above.Goals as goal
 
@@ -22,3 +22,10 @@ loop-a-preserved g c =
           ap (λ xs. get_or xs t none) (views-set i j a row c.onward_from.result)
           ∙ node_more us a u (omega arith) c.index-us-a.is _ (views i j row) (view i j c.onward_from.result) (omega (arith, length-map row (view i j), inv.long)) (c.onward_from.ensures i j) (inv.seen i j) t;
     }
+
+pub returns-then-u-eq0 : goal.returns-then-u-eq0
+returns-then-u-eq0 g c = λ i j.
+    row-ends c.args.us.now c.loop-a.a c.index-us-a.result (omega arith) c.index-us-a.is _ (views i j c.loop-a.row) (omega arith) c.loop-a.invariant.stand (c.loop-a.invariant.seen i j)
+
+pub returns-after-loop-a : goal.returns-after-loop-a
+returns-after-loop-a g c = λ i j. row-full c.args.us.now c.loop-a.a _ (views i j c.loop-a.row) (omega arith) c.loop-a.invariant.stand (c.loop-a.invariant.seen i j)
