@@ -1,10 +1,10 @@
 //! What no clause can say: that a refusal shows itself, and that calls end as they should.
 use crate::rounds::text_of;
+use diagram::lent::{opened_or_left, worked_on};
 use labels::blank::blank_node;
 use layers::call::Call;
 use layers::refusal::Refusal;
 use layers::setting::Setting;
-use lent::{opened_or_left, worked_on};
 use round::table::Round;
 use round_sheet::sheet::Place;
 use rules::both::Both;

@@ -3,4 +3,5 @@
 
 pub mod diagram;
 mod lay;
+pub mod lent;
 pub mod room;

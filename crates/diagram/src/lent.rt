@@ -1,12 +1,10 @@
 //! Whoever lends a list of records knows it again once the diagram is gone.
-#![tactic(auto)]
-
 ghost use Rattle.std.specs.Prelude.{true, false, ◌≡◌, ◌+◌, ◌*◌, ◌≤◌, length, is_ok, IsErr, IsOk};
 ghost use Rattle.layers.specs.Settings.{setting, lent_setting};
 ghost use Rattle.layers.specs.Calls.{open_answer, after_open, after_calls};
 
-use diagram::diagram::Diagram;
-use diagram::room::Room;
+use crate::diagram::Diagram;
+use crate::room::Room;
 use layers::call::Call;
 use layers::node::Node;
 use layers::refusal::Refusal;
