@@ -10,10 +10,7 @@ pub returns-in_err-check_join : goal.returns-in_err-check_join
 unfolding join_steps
 returns-in_err-check_join g c =
     let by = lent_setting c.args.by.now (g.R.Rule.sense c.args.by.now.rule.now) (g.T.Tally.sense c.args.by.now.tally.now) in
-    let i = c.args.layer in
-    let a = c.args.a in
-    let b = c.args.b in
-    let xs = c.args.nodes.now in
+    let i = c.args.layer in let a = c.args.a in let b = c.args.b in let xs = c.args.nodes.now in
     let p = err_from_is_err_and c.from_residual.result c.from_residual.ensures.1 in
     let no = c.in_err-check_join.ensures in
     let answer : c.from_residual.result ≡ join_check by i a b xs = p.1 ∙ ap Err p.2 ∙ sym no in

@@ -26,7 +26,6 @@ pub returns-in-Err : goal.returns-in-Err
 unfolding layer_steps
 returns-in-Err g c =
     let by = lent_setting c.args.by.now (g.R.Rule.sense c.args.by.now.rule.now) (g.T.Tally.sense c.args.by.now.tally.now) in
-    let i = c.args.layer in
-    let xs = c.args.nodes.now in
+    let i = c.args.layer in let xs = c.args.nodes.now in
     let no : (false, xs) ≡ layer_steps by i xs = rw c.in-Err.ensures refl in
     record { steps = no; words = layer-said by (g.met.R.Rule.reflexive c.args.by.now.rule.now) i xs xs false no }
