@@ -16,7 +16,6 @@ use round::table::Round;
 use rules::rule::Rule;
 
 /// Whether the in-arcs of each node agree of the layer after that at `at`; `list` is room for them.
-#[tactic(auto, using(crate::proofs::Checks::count_most), unfolding(crate::specs::Steps::agreed_to))]
 fn layer_agreed<R: Rule, T, V: Copy>(
     by: &Setting<'_, R, T>,
     nodes: &[Node<R::State, V>],

@@ -71,7 +71,6 @@ pub(crate) fn agrees<R: Rule, T, V: Copy>(
 }
 
 /// The first of the listed in-arcs that leads to node t.
-#[tactic(auto, using(crate::proofs::InArcs::place_in, crate::proofs::InArcs::door_in))]
 pub(crate) fn first_into<S: Copy, V: Copy>(
     us: &[Node<S, V>],
     list: &InArcs,

@@ -15,7 +15,8 @@ fn count_nodes<S: Copy, V: Copy>(us: &[Node<S, V>]) -> usize
 /// The same of the w records at `at`.
 pub(crate) fn count_in<S: Copy, V: Copy>(nodes: &[Node<S, V>], at: usize, w: usize) -> usize
     requires { at + w ≤ length nodes.now }
-    ensures { result ≡ node_count at w nodes.now }
+    ensures count { result ≡ node_count at w nodes.now }
+    ensures most { result ≤ w }
 {
     let end = at + w;
     count_nodes(&nodes[at..end])

@@ -35,7 +35,6 @@ fn leaves<K: Test>(test: &K, us: &[Node<K::State, K::Value>], x: &InArc) -> bool
 }
 
 /// The place in the list of the first in-arc of node t that does not stay.
-#[tactic(auto, using(crate::proofs::InArcs::place_in, crate::proofs::InArcs::door_in))]
 pub(crate) fn first_leaving<K: Test>(
     test: &K,
     us: &[Node<K::State, K::Value>],
@@ -87,7 +86,6 @@ pub(crate) fn divide<K: Test>(
 }
 
 /// Writes back that the in-arc x leads to node t.
-#[tactic(auto, using(crate::proofs::Divided::put_set))]
 fn put_arc<S: Copy, V: Copy>(us: &mut [Node<S, V>], x: &InArc, t: u8)
     requires place_in_bounds { x.now.place < length us.old }
     requires door_bound { x.now.door < 16 }
@@ -97,7 +95,7 @@ fn put_arc<S: Copy, V: Copy>(us: &mut [Node<S, V>], x: &InArc, t: u8)
 }
 
 /// Writes the listed in-arcs back into the records.
-#[tactic(auto, using(crate::proofs::InArcs::place_in, crate::proofs::InArcs::door_in, labels::proofs::Folds::folded_counting), unfolding(crate::specs::Listed::written))]
+#[tactic(auto, using(labels::proofs::Folds::folded_counting), unfolding(crate::specs::Listed::written))]
 pub(crate) fn put_back<S: Copy, V: Copy>(us: &mut [Node<S, V>], list: &InArcs)
     requires { IsListed us.old list.now }
     ensures { us.new ≡ written us.old list.now }

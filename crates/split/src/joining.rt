@@ -41,7 +41,7 @@ fn check_pair<S: Copy, V: Copy>(
 }
 
 /// Whether nodes a and b of the layer can be joined.
-#[tactic(auto, using(crate::proofs::Checks::count_most), unfolding(crate::specs::Steps::join_check))]
+#[tactic(auto, unfolding(crate::specs::Steps::join_check))]
 fn check_join<R: Rule, T: Tally>(
     by: &Setting<'_, R, T>,
     nodes: &[Node<R::State, T::Value>],
@@ -66,10 +66,11 @@ fn join_nodes<R: Rule, T: Tally>(
     by: &Setting<'_, R, T>,
     nodes: &mut [Node<R::State, T::Value>],
     at: usize,
-    lo: u8,
-    hi: u8,
+    lo: usize,
+    hi: usize,
 )
     requires two_in_bounds { at + by.now.width + by.now.width < length nodes.old }
+    requires width_bound { by.now.width ≤ 128 }
     requires one_le_lo { 1 ≤ lo }
     requires lo_lt_hi { lo < hi }
     requires hi_le_width { hi ≤ by.now.width }
@@ -77,13 +78,12 @@ fn join_nodes<R: Rule, T: Tally>(
         nodes.new ≡ joined_one by at (lo - 1) (hi - 1) nodes.old }
 {
     let blank = blank_node(by.rule, by.tally);
-    let rest = &mut nodes[at..];
-    unite(rest, by.width, lo, hi, &blank);
+    let rest = nodes.split_at_mut(at).1;
+    unite(rest, by.width, lo as u8, hi as u8, &blank);
 }
 
 /// Joins nodes a and b of the layer: a node with the out-arcs of both stands at the lower of the two places, the nodes after
 /// the other move down, and all labels are worked out anew. A refusal alters nothing.
-#[tactic(auto, using(crate::proofs::Checks::count_most), unfolding(crate::specs::Steps::join_steps))]
 pub fn join<R: Rule, T: Tally>(
     by: &Setting<'_, R, T>,
     nodes: &mut [Node<R::State, T::Value>],
@@ -100,7 +100,7 @@ pub fn join<R: Rule, T: Tally>(
 {
     check_join(by, nodes, layer, a, b)?;
     let at = (layer - 1) * by.width;
-    join_nodes(by, nodes, at, a.min(b) as u8, a.max(b) as u8);
+    join_nodes(by, nodes, at, a.min(b), a.max(b));
     relabel(by, nodes);
     Ok(())
 }

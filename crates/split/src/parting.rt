@@ -25,7 +25,9 @@ fn copy_record<S: Copy, V: Copy>(vs: &mut [Node<S, V>], a: usize, b: usize)
     requires b_in_bounds { b < length vs.old }
     ensures { (z : ANode S V) → vs.new ≡ slice_set vs.old b (slice_index_or vs.old a z) }
 {
-    vs[b] = vs[a];
+    let all: &[Node<S, V>] = vs;
+    let x = all[a];
+    vs[b] = x;
 }
 
 /// Parts the node at place a of the second of the layers at the head of `nodes`, unless its in-arcs agree or the layer is full:
@@ -105,12 +107,11 @@ fn part_at<R: Rule, T: Tally>(
     ensures records { let by = lent_setting by.now (R.sense by.now.rule.now)
         (T.sense by.now.tally.now) in nodes.new ≡ next_records by at a count nodes.old }
 {
-    part_second(by, &mut nodes[at..], a, count)
+    part_second(by, nodes.split_at_mut(at).1, a, count)
 }
 
 /// Parts node `node` of the layer: the in-arcs that differ from the first go to a new last node, with the same out-arcs, and
 /// all labels are worked out anew. A refusal alters nothing.
-#[tactic(auto, using(crate::proofs::Checks::count_most), unfolding(crate::specs::Steps::part_steps))]
 pub fn part<R: Rule, T: Tally>(
     by: &Setting<'_, R, T>,
     nodes: &mut [Node<R::State, T::Value>],
@@ -186,7 +187,6 @@ fn part_from<R: Rule, T: Tally>(
 /// Parts each node of the layer whose in-arcs do not agree, one after another, the new ones too, by their arcs alone: no label
 /// is worked out anew. Yes if one is left since the layer is full. No, and nothing altered, for a list that has no room for the
 /// round's diagram, and for a layer that is not 1 to n - 1.
-#[tactic(auto, unfolding(crate::specs::Steps::layer_steps))]
 pub fn part_layer<R: Rule, T: Tally>(
     by: &Setting<'_, R, T>,
     nodes: &mut [Node<R::State, T::Value>],
@@ -201,7 +201,7 @@ pub fn part_layer<R: Rule, T: Tally>(
         Err(_) => false,
         Ok(()) => {
             let at = (layer - 1) * by.width;
-            part_from(by, &mut nodes[at..])
+            part_from(by, nodes.split_at_mut(at).1)
         }
     }
 }

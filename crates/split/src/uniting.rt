@@ -36,22 +36,21 @@ fn both<S: Copy, V: Copy>(x: &Node<S, V>, y: &Node<S, V>) -> Node<S, V>
     }
 }
 
-/// The nodes lo and hi of a layer.
+/// The nodes at the places lo and hi of a layer.
 #[tactic(auto, using(std::proofs::lemmas::List::get_or_read), unfolding(crate::specs::Joined::joined_layer))]
 fn unite_layer<S: Copy, V: Copy>(us: &mut [Node<S, V>], lo: usize, hi: usize, blank: &Node<S, V>)
-    requires one_le_lo { 1 ≤ lo }
-    requires lo_lt_hi { lo < hi }
-    requires hi_in_bounds { hi ≤ length us.old }
-    ensures { us.new ≡ joined_layer (lo - 1) (hi - 1) us.old blank.now }
+    requires lo_in_bounds { lo < length us.old }
+    requires hi_in_bounds { hi < length us.old }
+    ensures { us.new ≡ joined_layer lo hi us.old blank.now }
 {
-    let x = us[lo - 1];
-    let y = us[hi - 1];
-    us[lo - 1] = both(&x, &y);
-    take_out(us, hi - 1, blank);
+    let all: &[Node<S, V>] = us;
+    let x = all[lo];
+    let y = all[hi];
+    us[lo] = both(&x, &y);
+    take_out(us, hi, blank);
 }
 
 /// Joins the nodes lo and hi of the second of the layers of w records: their in-arcs are those of the first.
-#[tactic(auto, unfolding(crate::specs::Joined::joined_second))]
 pub(crate) fn unite<S: Copy, V: Copy>(
     nodes: &mut [Node<S, V>],
     w: usize,
@@ -67,5 +66,5 @@ pub(crate) fn unite<S: Copy, V: Copy>(
 {
     let (us, rest) = nodes.split_at_mut(w);
     move_layer(us, lo, hi);
-    unite_layer(&mut rest[..w], lo as usize, hi as usize, blank);
+    unite_layer(&mut rest[..w], lo as usize - 1, hi as usize - 1, blank);
 }

@@ -1,4 +1,5 @@
-use Rattle.std.proofs.Common.{ℕ, ◌+◌, ◌-◌, ◌≡◌, ◌&&◌, take, drop, sym, ap, ◌∙◌, ap₂, add-one, arith}
+use Rattle.std.proofs.Common.{ℕ, ◌+◌, ◌-◌, ◌≡◌, ◌&&◌, take, drop, refl, sym, ap, ◌∙◌, ap₂, add-one, arith}
+use Rattle.std.proofs.lemmas.List.{length-take}
 use Rattle.layers.specs.Labels.{all_agree}
 use Rattle.layers.specs.Settings.{lent_setting}
 use Rattle.labels.specs.Passes.{part, arrivals}
@@ -16,3 +17,13 @@ loop-b-preserved g c s =
     and_comm c.loop-b.all c.alike-all.result
     ∙ ap₂ ◌&&◌ (c.alike-all.ensures s ∙ ap (λ ys. all_agree by.rule (arrivals by (b + 1) ys)) c.list_layer.ensures.same ∙ ap₂ (λ (k t : ℕ). all_agree by.rule (arrivals by t (take k (drop c.args.at c.args.nodes.now)))) w (add-one b)) (c.loop-b.invariant s)
     ∙ ap (λ (k : ℕ). agreed_to by k us) (sym (add-one b))
+
+pub loop-b-init : goal.loop-b-init
+unfolding agreed_to
+loop-b-init g c s = refl
+
+pub list_layer-requires : goal.list_layer-requires
+list_layer-requires g c = record { few = simp length-take (omega arith) }
+
+pub returns : goal.returns
+returns g c s = let all : c.loop-b.b ≡ c.count_in-count.result = omega arith in rw (← c.count_in-count.ensures.count, ← all) (c.loop-b.invariant s)

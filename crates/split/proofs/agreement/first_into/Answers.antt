@@ -7,7 +7,7 @@ use Rattle.layers.specs.Labels.{first_arrival, arrival_over}
 use Rattle.split.specs.declared.listing.InArc.{InArc}
 use Rattle.split.specs.Listed.{told_from, written}
 use Rattle.split.specs.Agreed.{brought}
-use Rattle.split.proofs.InArcs.{not-yet, brings, brings-none, brings-next, arrivals-listed}
+use Rattle.split.proofs.InArcs.{not-yet, brings, brings-none, brings-next, arrivals-listed, place_in, door_in}
 use Rattle.split.proofs.agreement.first_into.Goals as goal
 
 abbrev none : InArc
@@ -44,3 +44,15 @@ returns g c by =
     let l = c.requires.listed in
     let told = told_from 0 (written c.args.us.now c.args.list.now) in
     sym (ap first_arrival (arrivals-listed by c.args.t c.requires.one_le_t _ l.wide ∙ sym (c.loop-m.invariant by) ∙ ap (flat_map (brings by c.args.t)) (drop_all c.loop-m.m told (omega (arith, l.told.many)))))
+
+pub offset_bounds-us-place : goal.offset_bounds-us-place
+offset_bounds-us-place g c = omega (arith, place_in c.args.us.now c.args.list.now c.loop-m.m none c.requires.listed c.loop-m-test.true)
+
+pub bounds-us-place : goal.bounds-us-place
+bounds-us-place g c = place_in c.args.us.now c.args.list.now c.loop-m.m none c.requires.listed c.loop-m-test.true
+
+pub bounds-us-place-then-list-m : goal.bounds-us-place-then-list-m
+bounds-us-place-then-list-m g c = place_in c.args.us.now c.args.list.now c.loop-m.m none c.requires.listed c.loop-m-test.true
+
+pub invariant_of-result : goal.invariant_of-result
+invariant_of-result g c = record { fits = omega (arith, door_in c.args.us.now c.args.list.now c.loop-m.m none c.requires.listed c.loop-m-test.true) }

@@ -3,7 +3,7 @@ use Rattle.std.proofs.lemmas.List.{take_all}
 use Rattle.std.proofs.lemmas.List.Folds.{list_all_more, list_all_at}
 use Rattle.split.specs.declared.listing.InArc.{InArc}
 use Rattle.split.specs.Listed.{told_from, written, leaves, all_stay}
-use Rattle.split.proofs.InArcs.{some_record, leaves-here, other-here, not-yet, stay-none}
+use Rattle.split.proofs.InArcs.{some_record, leaves-here, other-here, not-yet, stay-none, place_in, door_in}
 use Rattle.split.proofs.dividing.first_leaving.Goals as goal
 use Rattle.split.proofs.dividing.first_leaving.Goals.{else-list-m-via-then-list-m+else-leaves, else-list-m-via-else-list-m}
 
@@ -46,3 +46,8 @@ pub returns : goal.returns
 returns g c =
     let told = told_from 0 (written c.args.us.now c.args.list.now) in
     ap (all_stay (g.K.Test.keeps c.args.test.now) c.args.t) (sym (take_all c.loop-m.m told (omega (arith, c.requires.listed.told.many)))) ∙ c.loop-m.invariant
+
+pub leaves-requires : goal.leaves-requires
+leaves-requires g c =
+    let l = c.requires.listed in let lt = c.loop-m-test.true in
+    record { place_in_bounds = place_in c.args.us.now c.args.list.now c.loop-m.m none l lt; door_bound = door_in c.args.us.now c.args.list.now c.loop-m.m none l lt }

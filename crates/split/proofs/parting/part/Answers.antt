@@ -33,7 +33,7 @@ pub returns-in_err-check_node : goal.returns-in_err-check_node
 unfolding part_check
 returns-in_err-check_node g c =
     let by = lent_setting c.args.by.now (g.R.Rule.sense c.args.by.now.rule.now) (g.T.Tally.sense c.args.by.now.tally.now) in
-    let e = c.count_in-count.ensures in
+    let e = c.count_in-count.ensures.count in
     let f = c.in_err-check_node.ensures in
     let d = refused by (g.met.R.Rule.reflexive c.args.by.now.rule.now) c.args.layer c.args.node c.args.nodes.now _ _ c.in_err-check_node.field-0.0 c.from_residual-in_err-check_node.ensures.1 (rw (c.in_ok-check_place.ensures.clear, ← e, f) refl) refl in
     record { answer = d.0; steps = d.1; words = d.2 }
@@ -47,7 +47,7 @@ returns-in_err-part_at g c =
     let m = c.count_in-count.result in
     let e = c.in_err-part_at.field-0.0 in
     let check = sym c.part_at.ensures.answer ∙ c.in_err-part_at.was in
-    let clear = part-check-is by i xs a m c.in_ok-check_place.ensures c.count_in-count.ensures c.in_ok-check_node.ensures in
+    let clear = part-check-is by i xs a m c.in_ok-check_place.ensures c.count_in-count.ensures.count c.in_ok-check_node.ensures in
     let d = refused by (g.met.R.Rule.reflexive c.args.by.now.rule.now) i a xs _ _ e c.from_residual-in_err-part_at.ensures.1 (clear ∙ check) (c.part_at.ensures.records ∙ next-err by ((i - 1) * by.width) (a - 1) m xs e check) in
     record { answer = d.0; steps = d.1; words = d.2 }
 
@@ -62,9 +62,9 @@ returns g c =
     let ys = c.part_at.new.nodes in
     let placed = c.in_ok-check_place.ensures in
     let check : group_check (alike by at (suc (a - 1)) xs) (leb by.width m) ≡ Ok tt = sym c.part_at.ensures.answer ∙ c.in_ok-part_at.was in
-    let clear = part-check-is by i xs a m placed c.count_in-count.ensures c.in_ok-check_node.ensures ∙ check in
+    let clear = part-check-is by i xs a m placed c.count_in-count.ensures.count c.in_ok-check_node.ensures ∙ check in
     let made : ys ≡ parted_one by at (a - 1) (node_count (at + by.width) by.width xs) xs =
-    c.part_at.ensures.records ∙ next-ok by at (a - 1) m xs check ∙ ap (λ (k : ℕ). parted_one by at (a - 1) k xs) c.count_in-count.ensures in
+    c.part_at.ensures.records ∙ next-ok by at (a - 1) m xs check ∙ ap (λ (k : ℕ). parted_one by at (a - 1) k xs) c.count_in-count.ensures.count in
     let steps = part-done by i xs a ys c.relabel.new.nodes placed clear c.part_at.auto.nodes made c.relabel.ensures.passes in
     record {
       answer = sym clear;

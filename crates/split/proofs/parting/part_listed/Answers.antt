@@ -3,7 +3,6 @@ use Rattle.layers.specs.declared.refusal.Refusal.TheVariants.{LayerFull}
 use Rattle.layers.specs.Settings.{lent_setting}
 use Rattle.split.specs.Listed.{told_records}
 use Rattle.split.specs.Steps.{parts_from}
-use Rattle.split.proofs.Checks.{count_most}
 use Rattle.split.proofs.Turns.{parts-end, parts-full, parts_more, parts_same, Next, next-most}
 use Rattle.split.proofs.parting.part_listed.Goals as goal
 use Rattle.split.proofs.parting.part_listed.Goals.{in-Ok, in-Err+in_default}
@@ -12,8 +11,8 @@ pub loop-a-init : goal.loop-a-init
 loop-a-init g c =
     let by = lent_setting c.args.by.now (g.R.Rule.sense c.args.by.now.rule.now) (g.T.Tally.sense c.args.by.now.tally.now) in
     let all : by.width - 0 ≡ by.width = omega arith in (
-      omega (arith, c.count_in-count.ensures, count_most by.width by.width c.args.nodes.now),
-      ap₂ (λ (k m : ℕ). parts_from by 0 k 0 m (told_records by.width c.args.list.now c.args.nodes.now)) all c.count_in-count.ensures,
+      c.count_in-count.ensures.most,
+      ap₂ (λ (k m : ℕ). parts_from by 0 k 0 m (told_records by.width c.args.list.now c.args.nodes.now)) all c.count_in-count.ensures.count,
       c.requires.listed,
     )
 

@@ -93,3 +93,15 @@ returns g c =
       ap₂ (λ ys zs. ys ++ zs) (ap (λ ys. written ys next) (take_at us rest w long) ∙ made) (drop_at us rest w long ∙ last) ∙ n.1,
       subst (λ ys. IsListed ys next) (sym (take_at us rest w long)) c.divide.ensures.listed,
     )
+
+pub first_into-requires-clause-listed : goal.first_into-requires-clause-listed
+first_into-requires-clause-listed g c = subst (λ ys. IsListed ys c.args.list.now) (sym c.split_at_mut-us.ensures.front) c.requires.listed
+
+pub first_leaving-requires : goal.first_leaving-requires
+first_leaving-requires g c = record { listed = subst (λ ys. IsListed ys c.args.list.now) (sym c.split_at_mut-us.ensures.front) c.requires.listed }
+
+pub divide-requires-clause-listed : goal.divide-requires-clause-listed
+divide-requires-clause-listed g c = subst (λ ys. IsListed ys c.args.list.now) (sym c.split_at_mut-us.ensures.front) c.requires.listed
+
+pub divide-requires-clause-first : goal.divide-requires-clause-first
+divide-requires-clause-first g c = let e = c.in-Some-first_leaving.ensures in rw e.1 e.3
