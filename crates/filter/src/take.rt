@@ -34,7 +34,6 @@ pub(crate) struct Step<'a, F, S, V> {
 
 /// What is left of u's arc by the door k + 1, where `legs` are those of u; one that leads past the
 /// list goes.
-#[tactic(auto, using(crate::proofs::Doors::left_none, crate::proofs::Doors::left_past))]
 fn door_left<F: Test>(
     at: &Step<'_, F, F::State, F::Value>,
     u: &Node<F::State, F::Value>,
@@ -135,7 +134,6 @@ fn thin_nodes<F: Test>(
 }
 
 /// Takes out each arc that goes, from a layer on, with `left` layers of arcs from it to the end, and answers how many.
-#[tactic(auto, using(labels::proofs::Rests::one_more, labels::proofs::Rests::front_long), unfolding(crate::specs::Kept::kept_from))]
 pub(crate) fn take_from<F: Test>(
     by: &Filter<'_, F>,
     layer: usize,

@@ -1,5 +1,5 @@
 use Rattle.std.proofs.Common.{◌+◌, true, false, get_or, arith}
-use Rattle.filter.proofs.Doors.{left_here}
+use Rattle.filter.proofs.Doors.{left_here, left_none, left_past}
 use Rattle.filter.proofs.take.door_left.Goals as goal
 
 pub returns-then-takes_out : goal.returns-then-takes_out
@@ -11,3 +11,6 @@ pub returns-else-takes_out : goal.returns-else-takes_out
 returns-else-takes_out g c =
     let at = c.args.at.now in
     left_here (g.F.Test.goes at.test.now at.round.now) at.layer at.left at.next.now c.args.u.now (c.args.k + 1) (get_or c.args.u.now.arcs.to c.args.k 0) false c.index-at-t.result (omega arith) (omega arith) c.if-takes_out.ensures
+
+pub returns-then-t-eq0 : goal.returns-then-t-eq0
+returns-then-t-eq0 g c = grind (arith, left_none, left_past)
