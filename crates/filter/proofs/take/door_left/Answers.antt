@@ -1,6 +1,7 @@
 use Rattle.std.proofs.Common.{◌+◌, true, false, get_or, arith}
 use Rattle.filter.proofs.Doors.{left_here, left_none, left_past}
 use Rattle.filter.proofs.take.door_left.Goals as goal
+use Rattle.filter.proofs.take.door_left.Goals.{then-t-eq0-via-then-t-eq0, then-t-eq0-via-else-t-eq0+then-t-at}
 
 pub returns-then-takes_out : goal.returns-then-takes_out
 returns-then-takes_out g c =
@@ -13,4 +14,7 @@ returns-else-takes_out g c =
     left_here (g.F.Test.goes at.test.now at.round.now) at.layer at.left at.next.now c.args.u.now (c.args.k + 1) (get_or c.args.u.now.arcs.to c.args.k 0) false c.index-at-t.result (omega arith) (omega arith) c.if-takes_out.ensures
 
 pub returns-then-t-eq0 : goal.returns-then-t-eq0
-returns-then-t-eq0 g c = grind (arith, left_none, left_past)
+returns-then-t-eq0 g c = elim c.then-t-eq0.branch [
+  | then-t-eq0-via-then-t-eq0 w ↦ grind (arith, left_none)
+  | then-t-eq0-via-else-t-eq0+then-t-at w ↦ grind (arith, left_past)
+]
