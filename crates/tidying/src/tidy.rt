@@ -22,6 +22,7 @@ fn lives<S: Copy, V: Copy>(x: &Node<S, V>) -> bool
 }
 
 /// Marks the targets of a node.
+#[tactic(auto, using(crate::proofs::Marks::marked_more, crate::proofs::Marks::marked_all), unfolding(crate::specs::Tidied::marked))]
 fn mark<S: Copy, V: Copy>(marks: &mut [bool; 256], x: &Node<S, V>)
     ensures { marks.new ≡ marked marks.old (targets x.now) }
 {
@@ -31,6 +32,7 @@ fn mark<S: Copy, V: Copy>(marks: &mut [bool; 256], x: &Node<S, V>)
 }
 
 /// Marks the targets of the marked nodes.
+#[tactic(auto, using(crate::proofs::Marks::sent_all), unfolding(crate::specs::Tidied::reached_next))]
 fn mark_next<S: Copy, V: Copy>(from: &[bool; 256], us: &[Node<S, V>]) -> [bool; 256]
     requires { length us.now ≤ 128 }
     ensures { result ≡ reached_next from.now us.now }
@@ -106,6 +108,7 @@ fn renew_layer<S: Copy, V: Copy>(
 }
 
 /// The numbers that the nodes with arcs get, by the numbers that they have.
+#[tactic(auto, using(crate::proofs::Numbers::numbered_all), unfolding(crate::specs::Tidied::numbering))]
 fn number_layer<S: Copy, V: Copy>(us: &[Node<S, V>]) -> [u8; 256]
     requires { length us.now ≤ 128 }
     ensures { result ≡ numbering us.now }

@@ -1,4 +1,5 @@
-use Rattle.std.proofs.Common.{◌+◌, true, false, get_or, arith}
+use borrow.Author.Rules.{scaled_fits≤}
+use Rattle.std.proofs.Common.{length, rules, ◌+◌, true, false, get_or, arith}
 use Rattle.filter.proofs.Doors.{left_here, left_none, left_past}
 use Rattle.filter.proofs.take.door_left.Goals as goal
 use Rattle.filter.proofs.take.door_left.Goals.{then-t-eq0-via-then-t-eq0, then-t-eq0-via-else-t-eq0+then-t-at}
@@ -18,3 +19,6 @@ returns-then-t-eq0 g c = elim c.then-t-eq0.branch [
   | then-t-eq0-via-then-t-eq0 w ↦ grind (arith, left_none)
   | then-t-eq0-via-else-t-eq0+then-t-at w ↦ grind (arith, left_past)
 ]
+
+pub offset_bounds-at-t : goal.offset_bounds-at-t
+offset_bounds-at-t g c = scaled_fits≤ _ (length c.args.at.now.next.now) _ (omega arith) (search rules)
