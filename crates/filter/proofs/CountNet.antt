@@ -10,8 +10,7 @@ use Rattle.layers.specs.Net.{table, Outs, Layer, Net, node, count_doors, count_l
 use Rattle.layers.specs.Records.{arcs_at}
 use Rattle.layers.specs.Targets.{targets}
 use Rattle.labels.proofs.Laying.{Arranged, Good, arcs_of}
-use Rattle.tidying.specs.Counted.{arcs_within}
-use Rattle.tidying.specs.Counted.{arcs_of as many_of}
+use Rattle.tidying.specs.Counted.{arcs_within, arcs_of as many_of}
 use Rattle.filter.specs.Steps.{arc_count}
 
 -- how many of these are arcs

@@ -34,7 +34,6 @@ pub(crate) struct Step<'a, F, S, V> {
 
 /// What is left of u's arc by the door k + 1, where `legs` are those of u; one that leads past the
 /// list goes.
-#[tactic(auto, using(crate::proofs::Doors::left_none, crate::proofs::Doors::left_past))]
 fn door_left<F: Test>(
     at: &Step<'_, F, F::State, F::Value>,
     u: &Node<F::State, F::Value>,

@@ -32,7 +32,7 @@ fn mark<S: Copy, V: Copy>(marks: &mut [bool; 256], x: &Node<S, V>)
 }
 
 /// Marks the targets of the marked nodes.
-#[tactic(auto, using(crate::proofs::Marks::sent_more, crate::proofs::Marks::sent_all), unfolding(crate::specs::Tidied::reached_next))]
+#[tactic(auto, using(crate::proofs::Marks::sent_all), unfolding(crate::specs::Tidied::reached_next))]
 fn mark_next<S: Copy, V: Copy>(from: &[bool; 256], us: &[Node<S, V>]) -> [bool; 256]
     requires { length us.now ≤ 128 }
     ensures { result ≡ reached_next from.now us.now }
@@ -108,7 +108,7 @@ fn renew_layer<S: Copy, V: Copy>(
 }
 
 /// The numbers that the nodes with arcs get, by the numbers that they have.
-#[tactic(auto, using(crate::proofs::Numbers::numbered_yes, crate::proofs::Numbers::numbered_no, crate::proofs::Numbers::numbered_all), unfolding(crate::specs::Tidied::numbering))]
+#[tactic(auto, using(crate::proofs::Numbers::numbered_all), unfolding(crate::specs::Tidied::numbering))]
 fn number_layer<S: Copy, V: Copy>(us: &[Node<S, V>]) -> [u8; 256]
     requires { length us.now ≤ 128 }
     ensures { result ≡ numbering us.now }
@@ -167,7 +167,6 @@ struct Renumbered {
 }
 
 /// Tidies the nodes us of a layer, of which the marked ones are reached; `new` has the numbers of the next.
-#[tactic(auto, using(crate::proofs::Counts::together_same))]
 fn tidy_nodes<S: Copy, V: Copy>(
     us: &mut [Node<S, V>],
     from: &[bool; 256],
@@ -189,7 +188,6 @@ fn tidy_nodes<S: Copy, V: Copy>(
 }
 
 /// Tidies `left` layers of `w` records, the marked nodes of the first being reached.
-#[tactic(auto, using(labels::proofs::Rests::one_more), unfolding(crate::specs::Tidied::tidied, crate::specs::Tidied::numbers))]
 fn tidy_from<S: Copy, V: Copy>(
     nodes: &mut [Node<S, V>],
     w: usize,

@@ -1,4 +1,5 @@
 use Rattle.std.proofs.Common.{◌≡◌, ◌*◌, true, length, drop, sym, ap, ◌∙◌, arith}
+use Rattle.std.proofs.lemmas.Grind.{common_steps}
 use Rattle.std.proofs.lemmas.Bool.{cond-true, eq-eqb, ne_eqb}
 use Rattle.layers.specs.Settings.{lent_setting}
 use Rattle.layers.specs.declared.node.Node.{Node}
@@ -52,3 +53,6 @@ returns g c =
       none = ne_eqb _ 0 (λ e. gone (omega (arith, e))) ∙ sym none;
       counted = omega (arith, count-whole n W xs, count-whole n W c.tidy.new.nodes, take.gone, c.tidy.ensures.lost, later);
     }
+
+pub overflow_add-result : goal.overflow_add-result
+overflow_add-result g c = grind (arith, common_steps)
