@@ -37,7 +37,6 @@ fn lay_first<S: Copy, V: Copy>(us: &mut [Node<S, V>], arcs: Arcs)
 }
 
 /// So `count` layers, and the end, which has no arcs.
-#[tactic(auto, using(labels::proofs::Rests::one_more, labels::proofs::Rests::front_long, crate::proofs::Arcs_laid::arced_more))]
 fn lay_layers<S: Copy, V: Copy>(nodes: &mut [Node<S, V>], arcs: Arcs, width: usize, count: usize)
     requires one_le_width { 1 ≤ width }
     requires records_in_bounds { count * width < length nodes.old }
