@@ -36,7 +36,6 @@ fn nodes_stay<F: Test>(
 }
 
 /// The same from a layer on, with `left` layers of arcs from it to the end.
-#[tactic(auto, using(labels::proofs::Rests::one_more, labels::proofs::Rests::front_long), unfolding(crate::specs::Kept::all_stay))]
 fn stay_from<F: Test>(
     by: &Filter<'_, F>,
     layer: usize,
@@ -67,7 +66,6 @@ fn stay_from<F: Test>(
 
 /// Whether none of the six tests bars an arc, by the labels that stand. A tally has no say in it.
 /// Of a list that has no room for the diagram the answer is no.
-#[tactic(auto, using(labels::proofs::Folds::all_any))]
 pub fn quiet<R: Rule, V: Copy>(
     round: &Round,
     rule: &R,

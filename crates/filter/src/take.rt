@@ -134,7 +134,6 @@ fn thin_nodes<F: Test>(
 }
 
 /// Takes out each arc that goes, from a layer on, with `left` layers of arcs from it to the end, and answers how many.
-#[tactic(auto, using(labels::proofs::Rests::one_more, labels::proofs::Rests::front_long), unfolding(crate::specs::Kept::kept_from))]
 pub(crate) fn take_from<F: Test>(
     by: &Filter<'_, F>,
     layer: usize,

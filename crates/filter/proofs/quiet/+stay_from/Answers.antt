@@ -1,6 +1,6 @@
-use Rattle.std.proofs.Common.{length, arith}
-use Rattle.labels.proofs.Rests.{rest-fits}
-use Rattle.filter.specs.Kept.{HasLabel}
+use Rattle.std.proofs.Common.{length, sym, ap, arith}
+use Rattle.labels.proofs.Rests.{one_more, rest-fits}
+use Rattle.filter.specs.Kept.{HasLabel, all_stay}
 use Rattle.filter.proofs.Layering.{stay-step, fits_here, fits_later}
 use Rattle.filter.proofs.quiet.+stay_from.Goals as goal
 
@@ -26,3 +26,12 @@ returns-else-nodes_stay g t c =
     let by = c.args.by.now in
     rw (← stay-step (g.F.Test.goes by.test.now by.round.now) by.width c.args.layer c.args.left c.args.nodes.now _ _ c.if-left-eq0.false c.split_at.ensures.front c.split_at.ensures.back _ c.count_nodes-many.ensures.first, ← c.if-nodes_stay.ensures)
     c.if-nodes_stay.false
+
+pub returns-then-left-eq0 : goal.returns-then-left-eq0
+unfolding all_stay
+returns-then-left-eq0 g t c =
+    let by = c.args.by.now in
+    ap (λ k. all_stay (g.F.Test.goes by.test.now by.round.now) by.width c.args.layer k c.args.nodes.now) (sym c.if-left-eq0.true)
+
+pub split_at-requires : goal.split_at-requires
+split_at-requires g t c = omega (arith, one_more c.args.left c.args.by.now.width c.if-left-eq0.false)

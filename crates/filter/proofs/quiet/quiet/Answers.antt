@@ -2,6 +2,7 @@ use Rattle.std.proofs.Common.{◌≡◌, true, length, refl, sym, ◌∙◌}
 use Rattle.std.proofs.lemmas.Bool.{cond-true}
 use Rattle.layers.specs.Labels.{is_barred}
 use Rattle.labels.specs.Passes.{fits}
+use Rattle.labels.proofs.Folds.{all_any}
 use Rattle.labels.proofs.Rooms.{room-facts}
 use Rattle.filter.specs.Kept.{kept_from}
 use Rattle.filter.specs.Steps.{quiet_steps}
@@ -22,3 +23,6 @@ returns g c =
     let is : c.stay_from.result ≡ quiet_steps r R W xs =
     c.stay_from.ensures ∙ gone.2 ∙ sym (none-counted goes r.n W xs (room-facts r.n W (length xs) yes).enough (kept_from goes W 0 r.n xs) refl gone.0 gone.1) in
     record { steps = is ∙ sym (cond-true (fits r.n W (length xs)) _ _ yes); words = λ fit s. is ∙ none-words r W xs fit s goes }
+
+pub stay_from-requires-clause-fits : goal.stay_from-requires-clause-fits
+stay_from-requires-clause-fits g c = all_any _

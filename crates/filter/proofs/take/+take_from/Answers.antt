@@ -1,9 +1,9 @@
-use Rattle.std.proofs.Common.{◌-◌, length, arith, take-append-drop}
+use Rattle.std.proofs.Common.{◌-◌, length, sym, ap, arith, take-append-drop}
 use Rattle.std.proofs.lemmas.List.{length-take}
-use Rattle.labels.proofs.Rests.{rest-fits}
+use Rattle.labels.proofs.Rests.{one_more, rest-fits}
 use Rattle.labels.proofs.Rooms.{few-records}
 use Rattle.tidying.proofs.Targets.{layer-less}
-use Rattle.filter.specs.Kept.{HasLabel}
+use Rattle.filter.specs.Kept.{HasLabel, kept_from}
 use Rattle.filter.proofs.Layering.{kept-step, fits_here, fits_later}
 use Rattle.filter.proofs.take.+take_from.Goals as goal
 
@@ -41,3 +41,18 @@ returns-clause-none g t c = λ none.
     let k = c.count_nodes-many.result in
     let row = c.split_at_mut-us.result.0.now in
     rw (c.thin_nodes-here.ensures.none (omega (arith, none)), c.take_from-later.ensures.none (omega (arith, none)), take-append-drop k row, parts.front, parts.back) (take-append-drop c.args.by.now.width c.args.nodes.now)
+
+pub returns-then-left-eq0-clause-left : goal.returns-then-left-eq0-clause-left
+unfolding kept_from
+returns-then-left-eq0-clause-left g t c =
+    let by = c.args.by.now in
+    ap (λ k. kept_from (g.F.Test.goes by.test.now by.round.now) by.width c.args.layer k c.args.nodes.now) (sym c.if-left-eq0.true)
+
+pub split_at_mut-us-requires : goal.split_at_mut-us-requires
+split_at_mut-us-requires g t c = omega (arith, one_more c.args.left c.args.by.now.width c.if-left-eq0.false)
+
+pub returns-clause-few : goal.returns-clause-few
+returns-clause-few g t c =
+    let short = length-take c.count_nodes-many.result c.split_at_mut-us.result.0.now in
+    let wide = one_more c.args.left c.args.by.now.width c.if-left-eq0.false in
+    omega (arith, short, wide, c.thin_nodes-here.ensures.few, c.split_at_mut-us.ensures.front_len, c.take_from-later.ensures.few)

@@ -1,4 +1,5 @@
 use Rattle.std.proofs.Common.{◌+◌, ◌<◌, get_or, drop, set, sym, ap, ◌∙◌, arith, drop-set-lt}
+use Rattle.std.proofs.lemmas.Grind.{common_steps}
 use Rattle.std.proofs.lemmas.List.{get_or_default, drop-drop, set-get_or}
 use Rattle.std.proofs.lemmas.List.Edits.{map_over_more}
 use Rattle.std.proofs.lemmas.List.Sums.{sum_by-set}
@@ -23,3 +24,6 @@ loop-u-preserved g c =
       none = λ z. ap (set ys p) (c.thin_node-gone.ensures.none (omega (arith, z))) ∙ set-get_or ys p c.u-item.result ∙ c.loop-u.invariant.none (omega (arith, z));
       few = omega (arith, c.thin_node-gone.ensures.few);
     }
+
+pub returns-clause-left : goal.returns-clause-left
+returns-clause-left g c = grind (arith, common_steps)

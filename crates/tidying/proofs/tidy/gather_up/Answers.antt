@@ -1,6 +1,6 @@
 use Rattle.std.proofs.Common.{get_or, sym, ap, ◌∙◌, arith}
 use Rattle.std.proofs.lemmas.List.{get_or_default}
-use Rattle.std.proofs.lemmas.List.Filters.{FiltersInPlace-more_set, FiltersInPlace-more_here, FiltersInPlace-more_no}
+use Rattle.std.proofs.lemmas.List.Filters.{FiltersInPlace-all, FiltersInPlace-more_set, FiltersInPlace-more_here, FiltersInPlace-more_no}
 use Rattle.tidying.specs.Tidied.{lively}
 use Rattle.tidying.proofs.tidy.gather_up.Goals as goal
 use Rattle.tidying.proofs.tidy.gather_up.Goals.{then-lives, then-k-i, else-k-i, else-lives}
@@ -20,3 +20,6 @@ loop-i-preserved g c =
       ]
       | else-lives w ↦ rw (w.us-is, w.k-is) (FiltersInPlace-more_no c.loop-i.invariant (omega arith) (sym c.lives.ensures ∙ w.if-lives.false) is)
     ]
+
+pub returns-clause-front : goal.returns-clause-front
+returns-clause-front g c = FiltersInPlace-all c.loop-i.invariant (omega arith)
