@@ -35,7 +35,6 @@ fn move_node<S: Copy, V: Copy>(x: &Node<S, V>, lo: u8, hi: u8) -> Node<S, V>
 }
 
 /// The arcs of the layer before.
-#[tactic(auto, using(std::proofs::lemmas::List::Edits::map_over_more))]
 pub(crate) fn move_layer<S: Copy, V: Copy>(us: &mut [Node<S, V>], lo: u8, hi: u8)
     requires one_le_lo { 1 ≤ lo }
     requires lo_lt_hi { lo < hi }
@@ -47,7 +46,6 @@ pub(crate) fn move_layer<S: Copy, V: Copy>(us: &mut [Node<S, V>], lo: u8, hi: u8
 }
 
 /// Takes out the record at `at`: the later ones move down, and the last place is blank.
-#[tactic(auto, using(crate::proofs::Joins::taken_out))]
 pub(crate) fn take_out<S: Copy, V: Copy>(us: &mut [Node<S, V>], at: usize, blank: &Node<S, V>)
     requires { at < length us.old }
     ensures { us.new ≡ without_place at us.old ++ blank.now ∷ [] }
