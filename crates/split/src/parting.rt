@@ -25,9 +25,7 @@ fn copy_record<S: Copy, V: Copy>(vs: &mut [Node<S, V>], a: usize, b: usize)
     requires b_in_bounds { b < length vs.old }
     ensures { (z : ANode S V) → vs.new ≡ slice_set vs.old b (slice_index_or vs.old a z) }
 {
-    let all: &[Node<S, V>] = vs;
-    let x = all[a];
-    vs[b] = x;
+    vs[b] = vs[a];
 }
 
 /// Parts the node at place a of the second of the layers at the head of `nodes`, unless its in-arcs agree or the layer is full:
