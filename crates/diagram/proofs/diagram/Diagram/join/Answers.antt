@@ -6,11 +6,10 @@ use Rattle.diagram.proofs.diagram.Diagram.join.Goals as goal
 pub invariant_of-self : goal.invariant_of-self
 invariant_of-self g c =
     let d = c.args.self.now in
-    let is = sym c.join.ensures.steps in
     record {
       fits = omega (arith, d.fits);
-      shaped = subst (IsShaped d.room.round.now.n d.room.width) is (join-shaped _ _ _ _ _ d.room.wide d.room.narrow d.fits d.shaped);
-      timely = subst (IsTimely d.room.round.now.n d.room.width) is (join-timely _ _ _ _ _ d.room.wide d.room.narrow d.fits d.shaped d.timely);
+      shaped = subst (IsShaped d.room.round.now.n d.room.width) (sym c.join.ensures.steps) (join-shaped _ _ _ _ _ d.room.wide d.room.narrow d.fits d.shaped);
+      timely = subst (IsTimely d.room.round.now.n d.room.width) (sym c.join.ensures.steps) (join-timely _ _ _ _ _ d.room.wide d.room.narrow d.fits d.shaped d.timely);
     }
 
 pub returns : goal.returns

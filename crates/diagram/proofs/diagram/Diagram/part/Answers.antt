@@ -7,11 +7,10 @@ pub invariant_of-self : goal.invariant_of-self
 invariant_of-self g c =
     let d = c.args.self.now in
     let self = g.met.R.Rule.reflexive c.args.rule.now in
-    let is = sym c.part.ensures.steps in
     record {
       fits = omega (arith, d.fits);
-      shaped = subst (IsShaped d.room.round.now.n d.room.width) is (part-shaped _ _ _ _ d.room.wide d.room.narrow d.fits d.shaped self);
-      timely = subst (IsTimely d.room.round.now.n d.room.width) is (part-timely _ _ _ _ d.room.wide d.room.narrow d.fits d.shaped self d.timely);
+      shaped = subst (IsShaped d.room.round.now.n d.room.width) (sym c.part.ensures.steps) (part-shaped _ _ _ _ d.room.wide d.room.narrow d.fits d.shaped self);
+      timely = subst (IsTimely d.room.round.now.n d.room.width) (sym c.part.ensures.steps) (part-timely _ _ _ _ d.room.wide d.room.narrow d.fits d.shaped self d.timely);
     }
 
 pub returns : goal.returns
