@@ -1,5 +1,5 @@
 -- The sets of musts, looked at for one door.
-use Rattle.std.proofs.Common.{◌≡◌, ◌≢◌, ℕ, zero, suc, ◌<◌, ◌≤◌, ◌^◌, Bool, false, ◌&&◌, ◌⊎◌, List, get_or, map, inl, inr, ◌∙◌, sym, subst, arith}
+use Rattle.std.proofs.Common.{◌≡◌, ◌≢◌, ℕ, zero, suc, ◌+◌, ◌*◌, ◌<◌, ◌≤◌, ◌^◌, Bool, true, false, ◌&&◌, ◌⊎◌, List, get_or, map, inl, inr, ◌∙◌, sym, subst, arith}
 use Rattle.std.proofs.lemmas.Bool.{cases_lt}
 use Rattle.std.proofs.lemmas.Bool.Decides.{nat_tests}
 use Rattle.std.proofs.lemmas.List.{get_or_past}
@@ -11,8 +11,12 @@ use Rattle.layers.specs.declared.node.Node.{Node}
 use Rattle.layers.specs.Calls.{must}
 use Rattle.layers.specs.Claim.{MustMeans}
 use Rattle.layers.proofs.Main.{must-means}
+use Rattle.seek.specs.Rows.{fits}
 use Rattle.seek.proofs.Views.{has_none, has-or, has_one}
 use Rattle.diagram.specs.Musts.{set_where, must_of, behind, musts}
+
+pub room-for : (n W long : ℕ) → 1 ≤ W → W ≤ 128 → n ≤ 16 → n * W + 1 ≤ long → fits n W long ≡ true
+room-for n W long a b m h = grind (arith, nat_tests)
 
 -- a door is in the set of a test exactly when the test says yes
 has-where : (p : ℕ → Bool) (k j : ℕ) → has (set_where p k) j ≡ (is_door k j && p j)

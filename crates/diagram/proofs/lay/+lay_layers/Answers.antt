@@ -1,4 +1,4 @@
-use Rattle.std.proofs.Common.{◌≡◌, ◌++◌, drop, ap, arith}
+use Rattle.std.proofs.Common.{◌++◌, drop, ap, arith}
 use Rattle.std.proofs.lemmas.Grind.{common_steps}
 use Rattle.labels.proofs.Rests.{one_more}
 use Rattle.diagram.proofs.Arcs_laid.{arced_more}

@@ -1,4 +1,4 @@
-use Rattle.std.proofs.Common.{arith, ◌≡◌, sym, ap, ap₂, ◌∙◌}
+use Rattle.std.proofs.Common.{arith, ◌≡◌, refl, sym, ap, ap₂, ◌∙◌}
 use Rattle.tallies.specs.Late.{late_sense}
 use Rattle.layers.specs.Calls.{after_refine}
 use Rattle.allowed.specs.Senses.{side_of}
@@ -17,14 +17,15 @@ unfolding refined_diagram
 returns c =
     let r = c.args.room.round.now in
     let W = c.args.room.width in
-    let q = c.args.question in
     let late = ap (λ x. late_sense x.now.n x.now.doors) c.of-tally.ensures in
     let m = room_of c.open-diagram.result in
     let is = setting-is c.args.room m (side_sense c.side-rule.result) (doors_sense c.of-tally.result) c.open-diagram.ensures.room c.side-rule.ensures late in
     let opened = c.open-diagram.ensures.records ∙ opened-is c.args.room m _ _ c.open-diagram.ensures.room c.side-rule.ensures late _ c.blank_node-records.ensures in
-    let k = c.refine.new.self in
-    let room : k.room ≡ c.args.room = c.refine.ensures.room ∙ c.open-diagram.ensures.room in
-    let left : k.nodes.now ≡ refined_diagram r W = c.refine.ensures.records ∙ ap₂ (λ by (xs : Recs). after_refine by xs) is opened in
+    let room : c.refine.new.self.room ≡ c.args.room = c.refine.ensures.room ∙ c.open-diagram.ensures.room in
+    let left : c.refine.new.self.nodes.now ≡ refined_diagram r W = c.refine.ensures.records ∙ ap₂ (λ by (xs : Recs). after_refine by xs) is opened in
     c.loop-turn.invariant
-    ∙ ap₂ (λ (m : Room) (xs : Recs). last_answer c.loop-turn.turn (answer_word q m.round.now m.width xs)) room left
-    ∙ ap (λ t. last_answer t (answer_word q r W (refined_diagram r W))) (omega arith)
+    ∙ ap₂ (λ (m : Room) (xs : Recs). last_answer c.loop-turn.turn (answer_word c.args.question m.round.now m.width xs)) room left
+    ∙ ap (λ t. last_answer t (answer_word c.args.question r W (refined_diagram r W))) (omega arith)
+
+pub loop-turn-init : goal.loop-turn-init
+loop-turn-init c = refl

@@ -1,13 +1,8 @@
-use Rattle.std.proofs.Common.{◌≡◌, ℕ, ◌+◌, ◌*◌, ◌≤◌, true, length, refl, ◌∙◌, arith}
+use Rattle.std.proofs.Common.{◌≡◌, ◌≤◌, length, refl, ◌∙◌}
 use Rattle.std.proofs.lemmas.Bool.{cond-true}
-use Rattle.std.proofs.lemmas.Bool.Decides.{nat_tests}
-use Rattle.seek.specs.Rows.{fits}
 use Rattle.diagram.specs.Musts.{musts}
-use Rattle.diagram.proofs.Musts_each.{musts-each, musts-paths}
+use Rattle.diagram.proofs.Musts_each.{room-for, musts-each, musts-paths}
 use Rattle.diagram.proofs.diagram.Diagram.musts.Goals as goal
-
-room-for : (n W long : ℕ) → 1 ≤ W → W ≤ 128 → n ≤ 16 → n * W + 1 ≤ long → fits n W long ≡ true
-room-for n W long a b m h = grind (arith, nat_tests)
 
 pub returns : goal.returns
 returns g c =
