@@ -40,7 +40,6 @@ fn sweep_once<R: Rule, T: Tally>(
 
 /// One layer: a sweep, then all its parts on arcs alone, then the labels that these alter: the downward ones from this layer
 /// on. Answers whether it was full.
-#[tactic(auto, unfolding(crate::specs::Steps::one_layer))]
 fn refine_layer<R: Rule, T: Tally>(
     by: &Setting<'_, R, T>,
     nodes: &mut [Node<R::State, T::Value>],
@@ -84,7 +83,6 @@ fn refine_layers<R: Rule, T: Tally>(
 
 /// Sweeps until one takes out nothing: each but the last takes out an arc. The labels are known once a layer is refined, or
 /// a sweep is made.
-#[tactic(auto, using(crate::proofs::Turns::sweeps_more, crate::proofs::Turns::sweeps_none), unfolding(filter::specs::Steps::arc_count))]
 fn sweep_out<R: Rule, T: Tally>(by: &Setting<'_, R, T>, nodes: &mut [Node<R::State, T::Value>])
     requires { fits by.now.round.now.n by.now.width (length nodes.old) ≡ true }
     ensures { let by = lent_setting by.now (R.sense by.now.rule.now) (T.sense by.now.tally.now) in

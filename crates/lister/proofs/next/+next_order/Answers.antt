@@ -1,6 +1,7 @@
 -- The next list by the rest, or by what goes ahead of it.
 use Rattle.std.proofs.Common.{◌-◌, length, arith}
 use borrow.Rule.Slice.PartMut.{put_same}
+use Rattle.std.proofs.lemmas.Bool.{true≢false}
 use Rattle.std.proofs.lemmas.Grind.{common_steps}
 use Rattle.std.proofs.lemmas.List.Sorted.{IsPermutation-put_mid, IsPermutation-trans}
 use Rattle.lister.proofs.Dictionary.{next-put, last-put, last-empty, next-turned-put}
@@ -9,13 +10,13 @@ use Rattle.lister.proofs.next.+next_order.Goals as goal
 pub returns-then-is_empty-clause-last : goal.returns-then-is_empty-clause-last
 returns-then-is_empty-clause-last t c = λ e. last-empty c.args.doors.now (grind (arith, common_steps))
 
-pub returns-then-next_order-clause-same_doors : goal.returns-then-next_order-clause-same_doors
-returns-then-next_order-clause-same_doors t c =
-    IsPermutation-put_mid 1 (length c.args.doors.now - 1) c.args.doors.now c.next_order.new.doors c.next_order.ensures.same_doors
-
-pub returns-then-next_order-clause-next : goal.returns-then-next_order-clause-next
-returns-then-next_order-clause-next t c = λ e.
-    next-put c.args.doors.now c.next_order.new.doors (grind (arith, common_steps)) (c.next_order.ensures.next c.if-next_order.true)
+pub returns-then-next_order : goal.returns-then-next_order
+returns-then-next_order t c = record {
+  same_doors = IsPermutation-put_mid 1 (length c.args.doors.now - 1) c.args.doors.now c.next_order.new.doors c.next_order.ensures.same_doors;
+  next = λ e. next-put c.args.doors.now c.next_order.new.doors (grind (arith, common_steps)) (c.next_order.ensures.next c.if-next_order.true);
+  last = λ e. absurd (true≢false e);
+  unaltered = λ e. absurd (true≢false e);
+}
 
 pub returns-in_default-clause-last : goal.returns-in_default-clause-last
 returns-in_default-clause-last t c = λ e.
