@@ -1,7 +1,6 @@
 -- Layers of w records, one after the other
-use Rattle.std.proofs.Common.{◌≡◌, ℕ, ◌+◌, ◌-◌, ◌*◌, ◌<◌, ◌≤◌, ◌≢◌, List, ◌++◌, length, take, drop, sym, ap, ◌∙◌, append-nil, add-mul, one-mul, arith}
-use borrow.Rule.Slice.PartMut.{put_mid}
-use Rattle.std.proofs.lemmas.List.{drop_all, length-drop, length-take-le}
+use Rattle.std.proofs.Common.{◌≡◌, ℕ, ◌+◌, ◌-◌, ◌*◌, ◌<◌, ◌≤◌, ◌≢◌, List, length, take, sym, ap, ◌∙◌, add-mul, one-mul, arith}
+use Rattle.std.proofs.lemmas.List.{length-take-le}
 
 pub one_more : (left w : ℕ) → left ≢ 0 → left * w ≡ (left - 1) * w + w
 one_more left w ne = let e : left ≡ left - 1 + 1 = omega arith in ap (λ n. n * w) e ∙ omega (arith, add-mul (left - 1) 1 w, one-mul w)
@@ -11,11 +10,6 @@ rest-fits left w m ne le = omega (arith, one_more left w ne)
 
 pub front_long : {X : Type 0} (w : ℕ) (xs : List X) → w ≤ length xs → w ≡ length (take w xs)
 front_long w xs h = sym (length-take-le w xs h)
-
-pub rest_put : {X : Type 0} (w : ℕ) (xs ys : List X) → put_mid w (length xs - w) xs ys ≡ take w xs ++ ys
-rest_put w xs ys =
-    ap (λ zs. take w xs ++ (ys ++ zs)) (drop_all (length xs - w) (drop w xs) (omega (arith, length-drop w xs)))
-    ∙ ap (λ zs. take w xs ++ zs) (append-nil ys)
 
 -- the layers before layer i - 1, itself, and those after it
 pub layers_in : (i n w : ℕ) → 1 ≤ i → i ≤ n → (i - 1) * w + w + (n - i) * w ≡ n * w
