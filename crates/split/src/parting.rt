@@ -28,6 +28,14 @@ fn copy_record<S: Copy, V: Copy>(vs: &mut [Node<S, V>], a: usize, b: usize)
     vs[b] = vs[a];
 }
 
+/// Whether a layer of that many nodes is full.
+fn is_full(count: usize, width: usize) -> bool
+    requires { count ≤ 128 }
+    ensures { result ≡ nat_le width count }
+{
+    count >= width
+}
+
 /// Parts the node at place a of the second of the layers at the head of `nodes`, unless its in-arcs agree or the layer is full:
 /// then nothing is altered. The in-arcs are altered in the list alone.
 fn part_node<R: Rule, T: Tally>(
@@ -55,7 +63,7 @@ fn part_node<R: Rule, T: Tally>(
     let Some(from) = first_leaving(&test, us, list, t) else {
         return Err(Refusal::OneGroup);
     };
-    if count >= by.width {
+    if is_full(count, by.width) {
         return Err(Refusal::LayerFull);
     }
     divide(&test, us, list, from, count as u8 + 1);

@@ -1,5 +1,5 @@
 //! `Load` is a side rule: a state is an interval, and stands for the part orders whose load lies in it.
-ghost use Rattle.std.specs.Prelude.{◌≡◌, pos, ◌+ℤ◌, ◌≤ℤ◌, int_lt};
+ghost use Rattle.std.specs.Prelude.{◌≡◌, pos, ◌+ℤ◌, int_lt};
 ghost use Rattle.round.specs.Tables.{at};
 ghost use Rattle.rules.specs.Loads.{clamped_load, IsWithinCap, LiesBetween, load_sense};
 ghost use Rattle.rules.specs.LoadLaws.{load_lawful, load_lawful_for};
@@ -15,12 +15,11 @@ fn held_sum(a: i32, by: i32) -> i32
     a.saturating_add(by).clamp(-9999, 9999)
 }
 
-/// Whether a + by is above the cap.
-fn above(a: i32, by: i32, cap: i32) -> bool
-    requires { cap ≤ℤ pos 999 }
-    ensures { result ≡ int_lt cap (a +ℤ by) }
+/// Whether a + by is above the cap of the round.
+fn above(a: i32, by: i32, round: &Round) -> bool
+    ensures { result ≡ int_lt (pos round.now.cap) (a +ℤ by) }
 {
-    a.saturating_add(by) > cap
+    a.saturating_add(by) > i32::from(round.cap)
 }
 
 /// Whether a + by is below 0.
@@ -87,7 +86,7 @@ impl<'a> Rule for Load<'a> {
             return false;
         }
         let by = i32::from(self.round.door(j).change);
-        above(s.low, by, i32::from(self.round.cap)) || below_zero(s.high, by)
+        above(s.low, by, self.round) || below_zero(s.high, by)
     }
 
     fn same(&self, s: Interval, t: Interval) -> bool {

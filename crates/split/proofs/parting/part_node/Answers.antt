@@ -45,13 +45,13 @@ returns-in_default-first_leaving g c =
     let same = agree-stay by _ _ _ _ s.front s.back (omega arith) l c.args.a (g.met.R.Rule.reflexive c.args.by.now.rule.now) c.in-Some.first (c.in-Some.ensures by) in
     left by _ _ _ _ s.front s.back (omega arith) l c.args.a _ _ (next-alike by 0 _ _ _ (same ∙ c.in_default-first_leaving.ensures))
 
-pub returns-then-count-by : goal.returns-then-count-by
-returns-then-count-by g c =
+pub returns-then-is_full : goal.returns-then-is_full
+returns-then-is_full g c =
     let by = lent_setting c.args.by.now (g.R.Rule.sense c.args.by.now.rule.now) (g.T.Tally.sense c.args.by.now.tally.now) in
     let s = c.split_at_mut-us.ensures in
     let l = c.requires.listed in
     let same = agree-stay by _ _ _ _ s.front s.back (omega arith) l c.args.a (g.met.R.Rule.reflexive c.args.by.now.rule.now) c.in-Some.first (c.in-Some.ensures by) in
-    left by _ _ _ _ s.front s.back (omega arith) l c.args.a _ _ (next-full by 0 _ _ _ (same ∙ c.in-Some-first_leaving.ensures.2) c.if-count-by.true)
+    left by _ _ _ _ s.front s.back (omega arith) l c.args.a _ _ (next-full by 0 _ _ _ (same ∙ c.in-Some-first_leaving.ensures.2) (grind (arith, c.is_full.ensures, c.if-is_full.true)))
 
 pub returns : goal.returns
 unfolding parted_one parted_second
@@ -74,7 +74,7 @@ returns g c =
     let long : length us ≡ w = ap (λ ys. length ys) front ∙ length-take-le w xs le in
     let e = c.in-Some-first_leaving.ensures in
     let apart = agree-stay by xs us vs list front back le l a (g.met.R.Rule.reflexive c.args.by.now.rule.now) c.in-Some.first (c.in-Some.ensures by) ∙ e.2 in
-    let n = next-parted by 0 a m R apart c.if-count-by.false in
+    let n = next-parted by 0 a m R apart (grind (arith, c.is_full.ensures, c.if-is_full.false)) in
     let head : take w R ≡ written us list = told-head w xs us list front le l in
     let tail : drop w R ≡ vs = told-tail w xs us list front le l ∙ sym back in
     let rest = c.copy_record.new.vs in

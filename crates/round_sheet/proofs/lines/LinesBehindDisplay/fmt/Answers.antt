@@ -1,4 +1,4 @@
-use Rattle.std.proofs.Common.{rules, ◌-◌, [], ◌++◌, sym, ap, ◌∙◌}
+use Rattle.std.proofs.Common.{rules, ◌≡◌, arith, ◌-◌, [], ◌++◌, sym, ap, ◌∙◌}
 use Rattle.std.proofs.Output.{has_written_append, has_written_of_eq}
 use Rattle.std.proofs.lemmas.Bool.{cond-true, cond-false}
 use Rattle.doors.specs.Sets.{has}
@@ -27,3 +27,6 @@ loop-j-preserved g c = λ plain.
           has_written_of_eq _ _ _ _ _ (ap (λ t. lines_behind i set (j - 1) ++ t) (sym line) ∙ more)
           (has_written_append _ _ _ _ _ _ (c.loop-j.invariant plain) (search rules))
     ]
+
+pub returns-clause-writes : goal.returns-clause-writes
+returns-clause-writes g c = let all : c.loop-j.j-counter ≡ 17 = omega arith in λ plain ok. rw all at (c.loop-j.invariant plain)
