@@ -1,25 +1,15 @@
-use Rattle.std.proofs.Common.{◌≡◌, ℕ, zero, suc, ◌+◌, ◌-◌, ◌<◌, ◌≤◌, ◌≢◌, List, [], ◌∷◌, ◌++◌, map, length, get_or, take, drop, set, Some, None, fold, sym, refl, ap, ◌∙◌, arith}
-use Rattle.std.specs.List.{range_with_len, flat_map}
+use Rattle.std.proofs.Common.{◌≡◌, ℕ, zero, suc, ◌+◌, ◌-◌, ◌<◌, ◌≤◌, ◌≢◌, List, [], ◌∷◌, ◌++◌, map, length, get_or, take, drop, set, Some, None, fold, sym, refl, ap, arith}
+use Rattle.std.specs.List.{flat_map}
 use Rattle.std.proofs.lemmas.Bool.Decides.{nat_tests}
 use Rattle.std.proofs.lemmas.Grind.{common_steps}
-use Rattle.std.proofs.lemmas.List.{drop_all, flat_map_more}
-use Rattle.std.proofs.lemmas.List.Sums.{fold-append}
+use Rattle.std.proofs.lemmas.List.{drop_all}
 use Rattle.std.specs.Option.{unwrap_or}
-use Rattle.rules.specs.Rules.{RuleSense}
-use Rattle.tallies.specs.Tallies.{TallySense}
 use Rattle.layers.specs.declared.node.Node.{Node}
 use Rattle.layers.specs.declared.node.Up.{Up}
 use Rattle.layers.specs.Settings.{Setting}
-use Rattle.layers.specs.Labels.{first_label, climb, merge_up, no_up}
-use Rattle.labels.specs.Passes.{gathered_up, taken_up, with_down, begun, renewed, bare, risen, risen_from, next_renewed, renewed_after}
-use Rattle.labels.proofs.Folds.{counting_more, folded-view}
-
--- one more of sixteen
-pub folded-counting-more : {A B : Type 0} (f : B → A → B) (F : ℕ → List A) (a : B) (k : ℕ) → fold f a (flat_map F (range_with_len 0 (k + 1))) ≡ fold f (fold f a (flat_map F (range_with_len 0 k))) (F k)
-folded-counting-more f F a k =
-    ap (λ ys. fold f a (flat_map F ys)) (counting_more k)
-    ∙ ap (fold f a) (sym (flat_map_more F [] (range_with_len 0 k) k))
-    ∙ fold-append f a (flat_map F (range_with_len 0 k)) (F k)
+use Rattle.layers.specs.Labels.{climb, merge_up, no_up}
+use Rattle.labels.specs.Passes.{gathered_up, taken_up, renewed, bare, risen, risen_from, next_renewed, renewed_after}
+use Rattle.labels.proofs.Folds.{folded-view}
 
 -- a fold over what each brings, one by one
 pub fold_joined : {X A B : Type 0} (f : B → A → B) (F : X → List A) (a : B) (xs : List X) → fold (λ b x. fold f b (F x)) a xs ≡ fold f a (flat_map F xs)
@@ -49,9 +39,6 @@ pub end_set : {X : Type 0} (g : List X → List X) (f : X → X) (ys : List X) (
     → g (take 1 (set ys 0 (f (get_or ys 0 d)))) ++ drop 1 (set ys 0 (f (get_or ys 0 d))) ≡ g (map f (take 1 ys)) ++ drop 1 ys
 end_set g f [] d h = absurd (omega arith)
 end_set g f (y ∷ ys) d h = refl
-
-pub begun_set : {S V : Type 0} (R : RuleSense S) (T : TallySense V) (ys : List (Node S V)) (d : Node S V) → 0 < length ys → set ys 0 (with_down (get_or ys 0 d) (first_label R T)) ≡ begun R T ys
-begun_set R T ys d h = grind (arith, common_steps)
 
 -- ---- a loop over the nodes of a layer: what it leaves, so far and to come
 module _ {S V : Type 0} (f : Node S V → Node S V) where

@@ -1,4 +1,4 @@
-use Rattle.std.proofs.Common.{◌≡◌, arith}
+use Rattle.std.proofs.Common.{arith}
 use Rattle.std.proofs.lemmas.Grind.{common_steps}
 use Rattle.labels.proofs.Rests.{one_more, front_long}
 use Rattle.labels.proofs.Steps.{after_more}

@@ -1,4 +1,3 @@
-use Rattle.std.proofs.Common.{◌≡◌, ◌++◌, drop, set, ap, ◌∙◌, arith}
 use Rattle.layers.specs.Settings.{lent_setting}
 use Rattle.labels.specs.Passes.{cleared, crossed_all, end_renewed}
 use Rattle.labels.proofs.Steps.{end_set}
