@@ -13,6 +13,7 @@ pub enum Call {
     Join(u32, u32, u32),
     Cut(u32, u32),
     Refine,
+    Backsweep,
 }
 
 impl Call {
@@ -23,7 +24,7 @@ impl Call {
         let spare = i64::from(c.one_in(10));
         let mut node = || c.within(1 - spare, (nodes + spare).max(1)) as u32;
         let (a, b) = (node(), node());
-        match c.within(0, 19) {
+        match c.within(0, 22) {
             0..=2 => Call::Sweep,
             3..=10 => Call::Part(layer as u32, a),
             11..=15 => Call::Join(layer as u32, a, b),
@@ -35,7 +36,8 @@ impl Call {
                 }
                 _ => Call::Cut(c.within(0, n as i64) as u32, c.within(0, 400) as u32),
             },
-            _ => Call::Refine,
+            19 => Call::Refine,
+            _ => Call::Backsweep,
         }
     }
 
@@ -46,6 +48,7 @@ impl Call {
             Call::Join(i, a, b) => [3, i, a, b],
             Call::Cut(d, m) => [4, d, m, 0],
             Call::Refine => [5, 0, 0, 0],
+            Call::Backsweep => [6, 0, 0, 0],
         }
     }
 
@@ -56,6 +59,7 @@ impl Call {
             Call::Join(i, a, b) => d.join(i as usize, a as usize, b as usize),
             Call::Cut(doors, m) => d.cut((doors, m)),
             Call::Refine => d.refine(),
+            Call::Backsweep => d.backsweep(),
         }
     }
 
@@ -110,7 +114,9 @@ fn width_by_chance(c: &mut Chance) -> usize {
 
 #[derive(Default)]
 struct Seen {
-    calls: [usize; 5],
+    calls: [usize; 6],
+    /// sweeps, cuts and backsweeps that took out arcs
+    took: [usize; 3],
     /// part and join that were done, and each refusal's number
     done: [usize; 2],
     refused: [usize; 32],
@@ -129,7 +135,9 @@ impl Seen {
                 Call::Part(..) | Call::Join(..) => self.refused[answer as usize] += 1,
                 Call::Refine if answer == 0 => self.whole += 1,
                 Call::Refine => self.full += 1,
-                _ => {}
+                Call::Sweep => self.took[0] += usize::from(answer > 0),
+                Call::Cut(..) => self.took[1] += usize::from(answer > 0),
+                Call::Backsweep => self.took[2] += usize::from(answer > 0),
             }
         }
         self.empty += (sheet[3] == 0) as usize;
@@ -137,8 +145,10 @@ impl Seen {
     }
 
     fn print(&self) {
-        let [sweep, part, join, cut, refine] = self.calls;
-        println!("  calls: {sweep} sweep, {part} part, {join} join, {cut} cut, {refine} refine");
+        let [sweep, part, join, cut, refine, backsweep] = self.calls;
+        println!("  calls: {sweep} sweep, {part} part, {join} join, {cut} cut, {refine} refine, {backsweep} backsweep");
+        let [sweep, cut, backsweep] = self.took;
+        println!("  took out arcs: {sweep} sweep, {cut} cut, {backsweep} backsweep");
         println!("  part done {}, join done {}; refused:", self.done[0], self.done[1]);
         for number in 20..27 {
             if self.refused[number] > 0 {

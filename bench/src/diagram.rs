@@ -14,7 +14,7 @@ struct Down {
     set: u32,
     low: i32,
     high: i32,
-    late: (u32, u32),
+    value: (u32, u32),
 }
 
 impl Down {
@@ -36,7 +36,7 @@ impl Down {
         self.set |= x.set;
         self.low = self.low.min(x.low);
         self.high = self.high.max(x.high);
-        self.late = self.late.min(x.late);
+        self.value = self.value.min(x.value);
     }
 }
 
@@ -45,7 +45,13 @@ impl Down {
 struct Up {
     all: u32,
     some: u32,
+    late: i32,
 }
+
+const END_UP: Up = Up { all: 0, some: 0, late: 9_999 };
+
+/// Where no arc leads on.
+const NO_UP: Up = Up { all: 0, some: 0, late: -40_000 };
 
 #[derive(Clone, Copy)]
 struct Node {
@@ -59,9 +65,20 @@ struct Node {
 const BLANK: Node = Node {
     outs: 0,
     to: [0; 16],
-    down: Down { all: 0, some: 0, finish: 0, lasts: 0, set: 0, low: 0, high: 0, late: (0, 0) },
-    up: Up { all: 0, some: 0 },
+    down: Down { all: 0, some: 0, finish: 0, lasts: 0, set: 0, low: 0, high: 0, value: (0, 0) },
+    up: NO_UP,
 };
+
+impl Node {
+    /// The sum with this record, whose targets count from 1, with 0 for no arc.
+    fn add_to(&self, sum: u64) -> u64 {
+        let Node { outs, to, down, up } = self;
+        let targets = (1..=16).map(|j| if outs >> j & 1 == 1 { u32::from(to[j - 1]) + 1 } else { 0 });
+        let ways = [down.all, down.some, down.finish, down.lasts, down.set, down.low as u32, down.high as u32];
+        let ends = [down.value.0, down.value.1, up.all, up.some, up.late as u32];
+        targets.chain(ways).chain(ends).fold(sum, |sum, x| sum.wrapping_mul(1_000_003).wrapping_add(u64::from(x)))
+    }
+}
 
 /// The doors of a mask, from the lowest.
 #[derive(Clone, Copy)]
@@ -98,12 +115,19 @@ impl Round {
         self.ahead[j] & !from.set != 0 || from.low + change > self.cap || from.high + change < 0
     }
 
+    /// The last minute to leave a node with these lasts by door j, to a target that is to be left at `late` at the latest.
+    #[inline]
+    fn late(&self, lasts: u32, j: usize, late: i32) -> i32 {
+        let d = &self.doors[j];
+        (d.closes as i32).min(late) - (d.work + self.leg(lasts, j)) as i32
+    }
+
     #[inline]
     fn arrive(&self, from: &Down, j: usize) -> Down {
         let d = &self.doors[j];
         let finish = self.finish(from, j);
         let by = finish.saturating_sub(d.due);
-        let late = if by > 0 { ((from.late.0 + 1).min(1_000_000), (from.late.1 + by).min(1_000_000)) } else { from.late };
+        let value = if by > 0 { ((from.value.0 + 1).min(1_000_000), (from.value.1 + by).min(1_000_000)) } else { from.value };
         Down {
             all: from.all | 1 << j,
             some: from.some | 1 << j,
@@ -112,7 +136,7 @@ impl Round {
             set: from.set | 1 << j,
             low: (from.low + d.change).clamp(-9999, 9999),
             high: (from.high + d.change).clamp(-9999, 9999),
-            late,
+            value,
         }
     }
 }
@@ -132,6 +156,8 @@ pub struct Diagram<'r> {
     width: usize,
     /// whether the labels may be those of another rule and tally
     stale: bool,
+    /// whether the lasts may be others than when each late was worked out
+    late_due: bool,
     arcs: usize,
     count: [usize; 17],
     nodes: Box<[[Node; 128]; 17]>,
@@ -146,6 +172,7 @@ impl<'r> Diagram<'r> {
             round,
             width,
             stale: false,
+            late_due: false,
             arcs: 0,
             count: [0; 17],
             nodes: Box::new([[BLANK; 128]; 17]),
@@ -163,10 +190,12 @@ impl<'r> Diagram<'r> {
             self.count[i] = 1;
             self.nodes[i][0] = Node { outs: if i < n { (2 << n) - 2 } else { 0 }, ..BLANK };
         }
+        self.nodes[n][0].up = END_UP;
         self.arcs = n * n;
         self.begin();
         self.relabel_down(0);
         self.relabel_up();
+        self.relabel_late();
     }
 
     /// The label of the first node.
@@ -196,6 +225,7 @@ impl<'r> Diagram<'r> {
 
     /// The downward labels of the layers after layer `from`.
     fn relabel_down(&mut self, from: usize) {
+        self.late_due = true;
         for i in from..self.round.n {
             let (above, below) = self.nodes.split_at_mut(i + 1);
             let targets = &mut below[0];
@@ -216,17 +246,32 @@ impl<'r> Diagram<'r> {
         }
     }
 
+    /// The upward sets.
     fn relabel_up(&mut self) {
         for i in (0..self.round.n).rev() {
             let (above, below) = self.nodes.split_at_mut(i + 1);
             for s in &mut above[i][..self.count[i]] {
-                let mut up = Up { all: !0, some: 0 };
+                let (mut all, mut some) = (!0, 0);
                 for j in Doors(s.outs) {
                     let t = &below[0][(s.to[j - 1] & 127) as usize].up;
-                    up.all &= t.all | 1 << j;
-                    up.some |= t.some | 1 << j;
+                    all &= t.all | 1 << j;
+                    some |= t.some | 1 << j;
                 }
-                s.up = if s.outs == 0 { Up { all: 0, some: 0 } } else { up };
+                (s.up.all, s.up.some) = if s.outs == 0 { (0, 0) } else { (all, some) };
+            }
+        }
+    }
+
+    /// Each late, if it is due. No test of a sweep looks at it, so each call does this once, at its end.
+    fn relabel_late(&mut self) {
+        if !std::mem::take(&mut self.late_due) {
+            return;
+        }
+        for i in (0..self.round.n).rev() {
+            let (above, below) = self.nodes.split_at_mut(i + 1);
+            for s in &mut above[i][..self.count[i]] {
+                let over = |j: usize| self.round.late(s.down.lasts, j, below[0][(s.to[j - 1] & 127) as usize].up.late);
+                s.up.late = Doors(s.outs).map(over).max().unwrap_or(NO_UP.late);
             }
         }
     }
@@ -326,14 +371,31 @@ impl<'r> Diagram<'r> {
         }
     }
 
-    pub fn sweep(&mut self) -> usize {
+    fn take_barred(&mut self) -> usize {
         self.take_out(|d, i, s, targets| d.barred(i, s, targets))
     }
 
+    pub fn sweep(&mut self) -> usize {
+        let gone = self.take_barred();
+        self.relabel_late();
+        gone
+    }
+
     pub fn cut(&mut self, ceiling: (u32, u32)) -> usize {
-        self.take_out(|d, _, s, _| {
-            Doors(s.outs).filter(|&j| d.round.arrive(&s.down, j).late > ceiling).fold(0, |m, j| m | 1 << j)
-        })
+        let gone = self.take_out(|d, _, s, _| {
+            Doors(s.outs).filter(|&j| d.round.arrive(&s.down, j).value > ceiling).fold(0, |m, j| m | 1 << j)
+        });
+        self.relabel_late();
+        gone
+    }
+
+    pub fn backsweep(&mut self) -> usize {
+        let gone = self.take_out(|d, _, s, targets| {
+            let late = |j: usize| targets[(s.to[j - 1] & 127) as usize].up.late;
+            Doors(s.outs).filter(|&j| d.round.finish(&s.down, j) as i32 > late(j)).fold(0, |m, j| m | 1 << j)
+        });
+        self.relabel_late();
+        gone
     }
 
     /// What arrives at node `a` of layer `i`, in turn, with source and door.
@@ -372,10 +434,11 @@ impl<'r> Diagram<'r> {
         }
         self.copy_node(layer, node - 1);
         self.relabel(layer - 1);
+        self.relabel_late();
         0
     }
 
-    /// A new last node with the out-arcs of node `a`. Its upward label is that node's.
+    /// A new last node with the out-arcs of node `a`. Its upward sets are that node's.
     fn copy_node(&mut self, layer: usize, a: usize) {
         let new = self.count[layer];
         self.nodes[layer][new] = self.nodes[layer][a];
@@ -418,6 +481,7 @@ impl<'r> Diagram<'r> {
         }
         self.relabel(layer - 1);
         self.relabel_up();
+        self.relabel_late();
         0
     }
 
@@ -486,13 +550,14 @@ impl<'r> Diagram<'r> {
     pub fn refine(&mut self) -> usize {
         let mut answer = 0;
         for layer in 1..self.round.n {
-            self.sweep();
+            self.take_barred();
             if self.part_layer(layer) {
                 answer = layer;
                 break;
             }
         }
-        while self.sweep() > 0 {}
+        while self.take_barred() > 0 {}
+        self.relabel_late();
         answer
     }
 
@@ -501,9 +566,25 @@ impl<'r> Diagram<'r> {
         self.count[layer]
     }
 
+    /// The arcs and labels of all places up to the end in one number, as the program `mixed_calls` puts them together: a place
+    /// that is not in use has no arcs, empty sets, finish 0, the starts of rule and tally, which the first node has too, and
+    /// -40,000.
+    pub fn records_sum(&self) -> u64 {
+        let n = self.round.n;
+        let starts = Down { all: 0, some: 0, finish: 0, lasts: 0, ..self.nodes[0][0].down };
+        let blank = Node { down: starts, ..BLANK };
+        let mut sum = 0;
+        for i in 0..=n {
+            for a in 0..if i < n { self.width } else { 1 } {
+                sum = if a < self.count[i] { self.nodes[i][a].add_to(sum) } else { blank.add_to(sum) };
+            }
+        }
+        sum
+    }
+
     pub fn bound(&self) -> Option<(u32, u32)> {
         let n = self.round.n;
-        (self.count[n] > 0).then(|| self.nodes[n][0].down.late)
+        (self.count[n] > 0).then(|| self.nodes[n][0].down.value)
     }
 
     /// For each door the doors behind it on every path, as masks.

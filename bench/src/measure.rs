@@ -107,6 +107,7 @@ const OFTEN: usize = 16;
 fn single(kind: &str, d: &Diagram) -> Option<[Call; 2]> {
     match kind {
         "sweep" => Some([Call::Sweep; 2]),
+        "backsweep" => Some([Call::Backsweep; 2]),
         "cut" => d.bound().map(|(doors, minutes)| [Call::Cut(doors, minutes); 2]),
         "join, part" => Some([Call::Join(8, 1, 2), Call::Part(8, 1)]),
         _ => None,
@@ -206,7 +207,7 @@ pub fn measure() -> ExitCode {
         }
         before = Some(sums.library());
     }
-    for kind in ["sweep", "cut", "join, part"] {
+    for kind in ["sweep", "backsweep", "cut", "join, part"] {
         println!("width        rounds  library     twin  ratio (least to most)   {kind}, on a refined diagram");
         for width in WIDTHS {
             singles(&rounds, width, kind).print(&format!("{width:5}      "));

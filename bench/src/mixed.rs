@@ -1,5 +1,6 @@
 //! Calls that are lent the rule and tally of one round or of another in turn: the cases that the library's program `mixed_calls`
-//! is to work off, and what it is to print as the twin works it out.
+//! is to work off, and what it is to print as the twin works it out: what each call answers, and all records that it leaves, as
+//! one number.
 
 use crate::chance::Chance;
 use crate::compare::{Call, round_by_chance};
@@ -33,6 +34,7 @@ impl Cases {
         let lent = [first, first.under(&second)];
         let width = c.within(1, WIDEST) as usize;
         let mut d = Diagram::new(&lent[0], width);
+        writeln!(self.answers, "opened\t{}", d.records_sum()).unwrap();
         writeln!(self.texts, "{}\n{}\n{width}", first.text(), second.text()).unwrap();
         let mut who = 0;
         for _ in 0..c.within(0, 20) {
@@ -50,7 +52,8 @@ impl Cases {
         let call = Call::by_chance(c, n, d);
         let [kind, x, y, z] = call.words();
         writeln!(self.texts, "{}\t{kind}\t{x}\t{y}\t{z}", who + 1).unwrap();
-        writeln!(self.answers, "{}", call.make(d)).unwrap();
+        let answer = call.make(d);
+        writeln!(self.answers, "{answer}\t{}", d.records_sum()).unwrap();
     }
 
     fn end(&mut self, d: &Diagram, n: usize) {

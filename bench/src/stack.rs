@@ -33,7 +33,7 @@ fn of_call(call: impl Fn()) -> usize {
 /// Sheets of rounds of 16 doors at width 128, with every kind of call, in a thread with room for the paint.
 fn measure() -> usize {
     let mut c = Chance::new(3);
-    let calls: Vec<u8> = [[2, 1, 1, 0], [1, 0, 0, 0], [3, 1, 1, 2], [4, 9, 999, 0], [5, 0, 0, 0]]
+    let calls: Vec<u8> = [[2, 1, 1, 0], [1, 0, 0, 0], [3, 1, 1, 2], [6, 0, 0, 0], [4, 9, 999, 0], [5, 0, 0, 0]]
         .iter()
         .flatten()
         .flat_map(|w: &u32| w.to_le_bytes())

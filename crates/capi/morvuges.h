@@ -42,6 +42,7 @@ extern "C" {
  *   MORVUGES_JOIN        layer, a, b       0, or the refusal's number: 20, 21, 25, 26
  *   MORVUGES_CUT         doors, minutes    how many arcs went
  *   MORVUGES_REFINE                        0 for whole, or the layer that was full
+ *   MORVUGES_BACKSWEEP                     how many arcs went
  *
  * A call that the diagram refuses alters nothing, and the next one is made all the same. docs/DIAGRAM.md says what each call does.
  */
@@ -50,6 +51,7 @@ extern "C" {
 #define MORVUGES_JOIN 3
 #define MORVUGES_CUT 4
 #define MORVUGES_REFINE 5
+#define MORVUGES_BACKSWEEP 6
 
 #define MORVUGES_CALL_BYTES 16
 

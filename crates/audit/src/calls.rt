@@ -83,12 +83,13 @@ impl<'a, R: Rule, T: Tally> Case<'a, R, T, T::Value> {
         nodes: &[Node<R::State, T::Value>],
         dice: &mut Dice,
     ) -> Call<T::Value> {
-        match dice.roll(14) {
+        match dice.roll(18) {
             0 | 1 => Call::Sweep,
             10 | 11 => Call::Cut {
                 ceiling: self.draw_ceiling(dice),
             },
             12 | 13 => Call::Refine,
+            14..=17 => Call::Backsweep,
             kind => {
                 let layer = draw_layer(dice, self.round.n);
                 let count = count_nodes(nodes, self.width, layer);

@@ -23,6 +23,7 @@ pub(crate) struct Counts {
     pub(crate) telling: usize,
     pub(crate) sweeps: usize,
     pub(crate) cuts: usize,
+    pub(crate) backsweeps: usize,
     pub(crate) repeated: usize,
     pub(crate) equalled: usize,
     pub(crate) parted: usize,
@@ -55,6 +56,7 @@ impl Counts {
         note(&mut self.calls, true);
         match (answer, call) {
             (Answer::Removed(arcs), Call::Cut { .. }) => note(&mut self.cuts, arcs > 0),
+            (Answer::Removed(arcs), Call::Backsweep) => note(&mut self.backsweeps, arcs > 0),
             (Answer::Removed(arcs), _) => note(&mut self.sweeps, arcs > 0),
             (Answer::Done(Ok(())), Call::Join { .. }) => note(&mut self.joined, true),
             (Answer::Done(Ok(())), _) => note(&mut self.parted, true),
@@ -95,10 +97,11 @@ impl Counts {
         ]
     }
 
-    fn call_rows(&self) -> [Row; 8] {
+    fn call_rows(&self) -> [Row; 9] {
         [
             ("sweeps that took out arcs", self.sweeps, "\t"),
-            ("cuts that did", self.cuts, "\n"),
+            ("cuts that did", self.cuts, "\t"),
+            ("backsweeps that did", self.backsweeps, "\n"),
             ("the call before again", self.repeated, "\t"),
             ("cuts at the cost of an order", self.equalled, "\n"),
             ("parted", self.parted, "\t"),

@@ -4,6 +4,7 @@ use std::fmt;
 #[derive(Clone, Copy, PartialEq)]
 pub(crate) enum Fault {
     OrderLost,
+    LateBelow,
     BoundAbove,
     BoundMissing,
     MustBroken,
@@ -18,6 +19,7 @@ impl fmt::Display for Fault {
     fn fmt<W: fmt::Write>(&self, f: &mut fmt::Formatter<W>) -> fmt::Result {
         f.write_str(match self {
             Fault::OrderLost => "a wanted order is no path",
+            Fault::LateBelow => "a node is to be left before a wanted order leaves it",
             Fault::BoundAbove => "the bound is above a wanted order",
             Fault::BoundMissing => "no bound, but a wanted order",
             Fault::MustBroken => "a must that a wanted order breaks",

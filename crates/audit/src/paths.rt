@@ -39,6 +39,19 @@ pub(crate) fn first_gap(arcs: &[Arcs], width: usize, doors: &[usize]) -> Option<
     None
 }
 
+/// The place to which the doors lead from the first node; none if one of them has no arc.
+pub(crate) fn place_reached(arcs: &[Arcs], width: usize, doors: &[usize]) -> Option<usize> {
+    let mut place = 0;
+    for (layer, door) in doors.iter().enumerate() {
+        let node = target(arcs, place, *door)?;
+        place = layer
+            .saturating_add(1)
+            .saturating_mul(width)
+            .saturating_add(node);
+    }
+    Some(place)
+}
+
 /// The next list of doors 1 to n in dictionary order, if there is one.
 fn advance(doors: &mut [usize], n: usize) -> bool {
     for door in doors.iter_mut().rev() {

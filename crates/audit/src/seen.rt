@@ -6,10 +6,11 @@ use diagram::diagram::Diagram;
 use layers::node::{Arcs, Node};
 use rules::rule::Rule;
 
-/// The arcs of a diagram, place by place, and what it answers.
+/// The arcs of a diagram and the last minutes to leave, place by place, and what it answers.
 #[derive(Clone, Copy)]
 pub(crate) struct Seen<V> {
     pub(crate) arcs: [Arcs; LENT],
+    pub(crate) lates: [i32; LENT],
     pub(crate) bound: Option<V>,
     pub(crate) settled: bool,
     /// the musts that are yes
@@ -22,6 +23,14 @@ fn arcs_of<S: Copy, V: Copy>(nodes: &[Node<S, V>]) -> [Arcs; LENT] {
         arcs[k] = nodes[k].arcs;
     }
     arcs
+}
+
+fn lates_of<S: Copy, V: Copy>(nodes: &[Node<S, V>]) -> [i32; LENT] {
+    let mut lates = [0; LENT];
+    for k in 0..LENT.min(nodes.len()) {
+        lates[k] = nodes[k].label.up.late;
+    }
+    lates
 }
 
 /// Asks for each pair of doors; some are no doors of the round, and these refusals are counted.
@@ -47,6 +56,7 @@ pub(crate) fn look<R: Rule, V: Copy>(
 ) -> Seen<V> {
     Seen {
         arcs: arcs_of(diagram.nodes()),
+        lates: lates_of(diagram.nodes()),
         bound: diagram.bound(),
         settled: diagram.settled(rule),
         musts: musts_of(diagram, counts),

@@ -65,7 +65,7 @@ type Cases<'a> = &'a [(
     Result<Option<(u32, u32)>, Refusal>,
 )];
 
-/// The door closes at 0, so a sweep leaves no path.
+/// The door closes at 0, so a sweep leaves no path; a backsweep looks at the doors after an arc's own, of which there are none.
 const CALLS: Cases<'static> = &[
     (
         2,
@@ -76,6 +76,7 @@ const CALLS: Cases<'static> = &[
         Ok(Some((1, 1))),
     ),
     (2, &[Call::Cut { ceiling: (1, 0) }], Ok(None)),
+    (2, &[Call::Backsweep], Ok(Some((1, 1)))),
     (2, &[Call::Sweep, Call::Refine], Ok(None)),
     (3, &[Call::Sweep, Call::Refine], Err(Refusal::Short)),
     (0, &[Call::Sweep, Call::Refine], Err(Refusal::Width)),

@@ -19,7 +19,7 @@ pub anew-arcs : {S V : Type 0} (by : Setting S V) (labelled : Bool) (gone : ℕ)
 unfolding relabelled_used pass_up
 anew-arcs by false gone xs = relabelled-arcs by xs
 anew-arcs by true gone xs = cond_both (eqb gone 0) xs (relabelled_used by xs) (λ ys. map arcs_of ys ≡ map arcs_of xs) (λ e. refl)
-    (λ e. rises_keep arcs_of (λ x u. refl) by.width (by.round.n - 1) _ ∙ renewals-keep by arcs_of (λ x l. refl) (by.round.n - 1) (begun by.rule by.tally xs) ∙ begun-keeps by arcs_of (λ x l. refl) xs)
+    (λ e. rises_keep arcs_of (λ x u. refl) by.round by.width (by.round.n - 1) _ ∙ renewals-keep by arcs_of (λ x l. refl) (by.round.n - 1) (begun by.rule by.tally xs) ∙ begun-keeps by arcs_of (λ x l. refl) xs)
 
 -- so the steps of a filter
 pub anew-steps : {S V : Type 0} (by : Setting S V) (goes : Goes S V) (labelled : Bool) (gone : ℕ) (xs ys : List (Node S V)) → ys ≡ thinned by goes xs → eqb gone 0 ≡ none_goes goes by.round.n by.width xs

@@ -1,4 +1,4 @@
--- Sweep and cut as the code does them, on any list: arcs are taken out by the labels that stand, then the list is tidied and labelled anew.
+-- Sweep, cut and backsweep as the code does them, on any list: arcs are taken out by the labels that stand, then the list is tidied and labelled anew.
 -- Nobody has to believe these steps: the facts at the end say, in the definitions of the calls, what they come to on the records of a diagram.
 use Rattle.std.specs.Prelude.{◌≡◌, ℕ, ◌*◌, Bool, true, if◌then◌else◌, List, length, take, Option, ◌==◌, nat_le}
 use Rattle.std.specs.List.{list_all}
@@ -9,9 +9,9 @@ use Rattle.layers.specs.declared.node.Node.{Node}
 use Rattle.layers.specs.declared.node.Down.{Down}
 use Rattle.layers.specs.declared.node.Up.{Up}
 use Rattle.layers.specs.Settings.{Setting}
-use Rattle.layers.specs.Labels.{leg, is_barred, is_above_ceiling}
+use Rattle.layers.specs.Labels.{leg, is_barred, is_above_ceiling, is_past_late}
 use Rattle.layers.specs.Tidy.{tidied_arcs}
-use Rattle.layers.specs.Calls.{arcs, labels, keeps_all_arcs, kept_arcs, records_with, arcs_lost, after_sweep, sweep_answer, after_cut, cut_answer}
+use Rattle.layers.specs.Calls.{arcs, labels, keeps_all_arcs, kept_arcs, records_with, arcs_lost, after_sweep, sweep_answer, after_cut, cut_answer, after_backsweep, backsweep_answer}
 use Rattle.layers.specs.Shape.{IsShaped, IsTimely}
 use Rattle.labels.specs.Passes.{fits, blank_node, relabelled_used, relabelled}
 use Rattle.tidying.specs.Counted.{arcs_within}
@@ -72,6 +72,10 @@ module _ {S V : Type 0} (by : Setting S V) where
   unfolding filter_steps leg finish
   cut_steps c = filter_steps (is_above_ceiling by.round by.tally c)
 
+  unfoldable pub backsweep_steps : List (Node S V) → List (Node S V)
+  unfolding filter_steps leg finish
+  backsweep_steps = filter_steps (is_past_late by.round)
+
   -- the labels are those that this setting gives
   abbrev pub IsLabelled : List (Node S V) → Type 0
   IsLabelled xs = records_with by xs (arcs by.round.n by.width xs) ≡ xs
@@ -99,6 +103,11 @@ module _ {S V : Type 0} (by : Setting S V) where
   CutDone c xs ys m =
       fits by.round.n by.width (length xs) ≡ true → IsShaped by.round.n by.width xs → IsTimely by.round.n by.width xs
       → Done by.round.n by.width (after_cut by c xs) ys (cut_answer by c xs) m
+
+  abbrev pub BacksweepDone : List (Node S V) → List (Node S V) → ℕ → Type 0
+  BacksweepDone xs ys m =
+      fits by.round.n by.width (length xs) ≡ true → IsShaped by.round.n by.width xs
+      → Done by.round.n by.width (after_backsweep by xs) ys (backsweep_answer by xs) m
 
 module _ {S V : Type 0} (r : Round) (rule : RuleSense S) (W : ℕ) where
   -- no arc would be taken out

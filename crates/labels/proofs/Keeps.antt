@@ -2,27 +2,17 @@
 use Rattle.std.proofs.Common.{◌≡◌, ℕ, zero, suc, ◌-◌, ◌*◌, List, [], ◌∷◌, ◌++◌, map, take, drop, sym, refl, ap, ◌∙◌, ap₂, arith}
 use Rattle.std.proofs.lemmas.List.{map-append, take-map, take-append-drop}
 use Rattle.std.proofs.Math.Seq.{map-set_same}
+use Rattle.round.specs.declared.table.Round.{Round}
 use Rattle.layers.specs.declared.node.Node.{Node}
 use Rattle.layers.specs.declared.node.Down.{Down}
 use Rattle.layers.specs.declared.node.Up.{Up}
-use Rattle.layers.specs.Labels.{no_up}
 use Rattle.layers.specs.Settings.{Setting}
-use Rattle.labels.specs.Passes.{with_down, with_up, bare, blank_node, cleared, unlabelled, begun, renewed, sources, spread, crossed_all, next_renewed, end_renewed, renewed_after, risen, risen_from, pass_up, relabelled_used, relabelled}
-use Rattle.labels.proofs.Climbs.{arcs_of, up_of}
+use Rattle.labels.specs.Passes.{with_down, with_up, ended, blank_node, cleared, unlabelled, begun, renewed, sources, spread, crossed_all, next_renewed, end_renewed, renewed_after, risen, risen_from, pass_up, relabelled_used, relabelled}
+use Rattle.labels.proofs.Climbs.{arcs_of}
 use Rattle.labels.proofs.Folds.{folded_keeps}
 use Rattle.labels.proofs.Scattered.{spread-has}
 
 module _ {S V : Type 0} where
-  -- records are the same by their upward sets and by what else they have
-  pub same-records : (xs ys : List (Node S V)) → map bare xs ≡ map bare ys → map up_of xs ≡ map up_of ys → xs ≡ ys
-  same-records [] [] b u = refl
-  same-records [] (y ∷ ys) b u = absurd cc
-  same-records (x ∷ xs) [] b u = absurd cc
-  same-records (x ∷ xs) (y ∷ ys) b u =
-      let one : bare x ≡ bare y = cc in
-      let up : up_of x ≡ up_of y = cc in
-      ap₂ (λ z zs. z ∷ zs) (ap₂ (λ (z : Node S V) (v : Up). with_up z v) one up) (same-records xs ys (cc) (cc))
-
   pub fronts : {X : Type 0} (f : Node S V → X) (k : ℕ) (xs ys : List (Node S V)) → map f xs ≡ map f ys → map f (take k xs) ≡ map f (take k ys)
   fronts f k xs ys e = sym (take-map f k xs) ∙ ap (take k) e ∙ take-map f k ys
 
@@ -38,11 +28,11 @@ module _ {S V : Type 0} where
   renewed-keeps f g h [] = refl
   renewed-keeps f g h (u ∷ us) = grind (arith, h u, renewed-keeps f g h us)
 
-  -- ---- the pass up keeps what is not an upward set
-  module _ {X : Type 0} (f : Node S V → X) (h : (x : Node S V) (u : Up) → f (with_up x u) ≡ f x) where
-    pub rises_keep : (w k : ℕ) (xs : List (Node S V)) → map f (risen_from w k xs) ≡ map f xs
+  -- ---- the pass up keeps what is not an upward label
+  module _ {X : Type 0} (f : Node S V → X) (h : (x : Node S V) (u : Up) → f (with_up x u) ≡ f x) (r : Round) where
+    pub rises_keep : (w k : ℕ) (xs : List (Node S V)) → map f (risen_from r w k xs) ≡ map f xs
     unfolding risen_from risen
-    rises_keep w zero xs = in-parts f w _ _ xs (renewed-keeps f _ (λ x. h x _) (take w xs)) (in-parts f 1 _ _ (drop w xs) (each-kept f bare (λ x. h x no_up) (take 1 (drop w xs))) refl)
+    rises_keep w zero xs = in-parts f w _ _ xs (renewed-keeps f _ (λ x. h x _) (take w xs)) (in-parts f 1 _ _ (drop w xs) (each-kept f ended (λ x. h x _) (take 1 (drop w xs))) refl)
     rises_keep w (suc k) xs = in-parts f w _ _ xs (renewed-keeps f _ (λ x. h x _) (take w xs)) (rises_keep w k (drop w xs))
 
 module _ {S V : Type 0} (by : Setting S V) where
@@ -73,5 +63,5 @@ module _ {S V : Type 0} (by : Setting S V) where
   relabelled-arcs xs =
       let at = by.round.n * by.width in
       let ys = map (unlabelled by.rule by.tally) (take at xs) ++ drop at xs in
-      rises_keep arcs_of (λ x u. refl) by.width (by.round.n - 1) _ ∙ renewals-keep arcs_of (λ x l. refl) (by.round.n - 1) (begun by.rule by.tally ys) ∙ begun-keeps arcs_of (λ x l. refl) ys
+      rises_keep arcs_of (λ x u. refl) by.round by.width (by.round.n - 1) _ ∙ renewals-keep arcs_of (λ x l. refl) (by.round.n - 1) (begun by.rule by.tally ys) ∙ begun-keeps arcs_of (λ x l. refl) ys
       ∙ in-parts arcs_of at _ _ xs (each-kept arcs_of _ (λ x. refl) (take at xs)) refl

@@ -1,35 +1,39 @@
 -- The two passes over records with the arcs of a net leave the net laid out with its labels.
 use Rattle.std.proofs.Common.{◌≡◌, ℕ, zero, suc, ◌+◌, ◌-◌, ◌*◌, ◌<◌, ◌≤◌, Bool, true, false, cond, not, eqb, List, [], ◌∷◌, ◌++◌, map, length, get_or, take, drop, Some, None, Option, sym, refl, ap, ◌∙◌, subst, ap₂, ⊎_elim, inl, append_assoc, suc-mul, zero-mul, add-one, arith}
-use Rattle.std.specs.List.{flat_map}
+use Rattle.std.specs.List.{range_with_len, flat_map}
 use Rattle.round.specs.Clock.{latest_finish}
 use Rattle.std.proofs.lemmas.List.FromFn.{get_or-map-range_with_len, length-map-range_with_len}
 use Rattle.std.proofs.Math.Seq.{take-add}
 use Rattle.std.proofs.lemmas.List.{map-append, same_lists, get_or-map, get_or_past, length-map, drop-drop, drop-map, drop-take, drop_at, take-map, take-take, take_at, length-take, length-take-le, length-drop, get_or-take, get_or-drop, get_or_append_left}
+use Rattle.std.specs.Option.{is_some}
+use Rattle.std.proofs.lemmas.Int.{ints}
 use Rattle.std.proofs.lemmas.Simd.{map-map}
 use Rattle.std.proofs.lemmas.Grind.{common_steps}
-use Rattle.std.proofs.lemmas.Bool.{cases_lt, le-leb}
+use Rattle.std.proofs.lemmas.Bool.{cases_lt, le-leb, cond-false}
 use Rattle.layers.specs.declared.node.Arcs.{Arcs}
 use Rattle.layers.specs.declared.node.Node.{Node}
 use Rattle.layers.specs.declared.node.Down.{Down}
 use Rattle.layers.specs.declared.node.Label.{Label}
 use Rattle.layers.specs.declared.node.Up.{Up}
 use Rattle.layers.specs.Net.{table, Layer, Net, node, target, width}
-use Rattle.layers.specs.Flow.{arrivals_at, gather, next, climbs_of, up}
+use Rattle.layers.specs.Flow.{arrivals_at, gather, next, climbs_of}
 use Rattle.layers.specs.Lawful.{IsRanged, IsTied, IsRoomy, IsEven, IsLawful}
-use Rattle.layers.specs.Labels.{leg, arrival_over, merge, first_label, first_labels, labels_next, climb, merge_up, no_up, ups}
-use Rattle.layers.specs.Records.{is_used, nodes_in, arcs_read, laid_arcs, arcs_at, record_of_place, labelled_from, labelled_records}
+use Rattle.layers.specs.Labels.{leg, arrival_over, merge, first_label, first_labels, labels_next, climb, merge_up, end_up, no_up, lasts_of, ups}
+use Rattle.layers.specs.Records.{is_used, nodes_in, ups_in, arcs_read, laid_arcs, arcs_at, record_of_place, end_ups, labelled_from, labelled_records}
 use Rattle.layers.proofs.Flows.{Among, table_at, ins-from, next-some, gather-all}
-use Rattle.layers.proofs.Bridge.{table-long, map-table, ups-full, ups-end, Fit, Full, full-first}
+use Rattle.layers.proofs.Bridge.{table-long, map-table, ups-full, ups-end, Fit, Full, Lasting, top, full-first}
+use Rattle.layers.proofs.Lates.{ups_low}
+use Rattle.layers.proofs.Ups.{ups-long}
 use Rattle.layers.specs.Calls.{records_with}
 use Rattle.layers.proofs.Proper.{RangedAll, tied-ranged}
-use Rattle.labels.specs.Passes.{with_up, blank_node, by_door, from_node, arrivals, gathered, labelled, next_layer, up_by, ups_of, gathered_up, renewed, begun, renewed_after, Early, HasUps, HasDownsBefore, fits, below_steps, unused_label, HasPlaces, risen, risen_from, unlabelled, bare, pass_up, relabelled_used, relabelled}
+use Rattle.labels.specs.Passes.{with_up, blank_node, by_door, from_node, arrivals, gathered, labelled, next_layer, up_by, ups_of, gathered_up, ended, renewed, begun, renewed_after, Early, HasDownsBefore, fits, below_steps, unused_label, HasPlaces, risen, risen_from, unlabelled, pass_up, relabelled_used, relabelled}
 pub use Rattle.labels.proofs.Climbs.{arcs_of}
-use Rattle.labels.proofs.Climbs.{down_of, node-climbed, climbed-is, up_of}
+use Rattle.labels.proofs.Climbs.{down_of, up_of, bare, Linked, node-climbed, climbed-is}
 use Rattle.labels.proofs.Inward.{arrivals-in, gathered-is}
 use Rattle.labels.proofs.Legs.{leg_most}
 use Rattle.labels.proofs.Rooms.{room-facts}
 use Rattle.round.proofs.Clocks.{clock-laws}
-use Rattle.labels.proofs.Keeps.{renewals-keep, rises_keep, same-records, fronts, in-parts}
+use Rattle.labels.proofs.Keeps.{fronts, in-parts}
 use Rattle.labels.proofs.Places.{next-is, end-is, Stands, Blank, Ready, renewed-map, idle-stays}
 use Rattle.layers.proofs.Model.{or_blank, or_no_up}
 use Rattle.layers.specs.Settings.{Setting}
@@ -125,35 +129,36 @@ abbrev pub first : Net → Layer
 first [] = []
 first (L ∷ Ls) = L
 
-pub ups-long : (L : Layer) (Ls : Net) → length (ups (L ∷ Ls)) ≡ length L
-unfolding ups up
-ups-long L Ls = length-map L (λ nd. gather merge_up (climbs_of climb (ups Ls) 1 nd))
-
 module _ {S V : Type 0} (by : Setting S V) where
+  -- the upward labels that the first of these layers is laid with
+  abbrev pub first-ups : List (Option (Down S V)) → Net → List (Option Up)
+  first-ups labs [] = end_ups by labs
+  first-ups labs (L ∷ Ls) = ups by labs (L ∷ Ls)
+
   -- ---- the records of a net
-  pub front-of : (labs : List (Option (Down S V))) (Ls : Net) (later : List (Node S V)) → take (records by.width Ls) (labelled_from by labs Ls ++ later) ≡ table (records by.width Ls) (record_of_place by (first Ls) labs (ups Ls))
-  unfolding labelled_from ups up
+  pub front-of : (labs : List (Option (Down S V))) (Ls : Net) (later : List (Node S V)) → take (records by.width Ls) (labelled_from by labs Ls ++ later) ≡ table (records by.width Ls) (record_of_place by (first Ls) labs (first-ups labs Ls))
+  unfolding labelled_from
   front-of labs [] later = refl
   front-of labs (L ∷ Ls) later =
-      let T = record_of_place by L labs (ups (L ∷ Ls)) in
+      let T = record_of_place by L labs (ups by labs (L ∷ Ls)) in
       rw (append_assoc (table by.width T) (labelled_from by (labels_next by labs L (width Ls)) Ls) later) (take_at (table by.width T) _ by.width (table-long by.width T))
 
   pub back-of : (labs : List (Option (Down S V))) (L : Layer) (Ls : Net) (later : List (Node S V)) → drop by.width (labelled_from by labs (L ∷ Ls) ++ later) ≡ labelled_from by (labels_next by labs L (width Ls)) Ls ++ later
   unfolding labelled_from
   back-of labs L Ls later =
-      let T = record_of_place by L labs (ups (L ∷ Ls)) in
+      let T = record_of_place by L labs (ups by labs (L ∷ Ls)) in
       rw (append_assoc (table by.width T) (labelled_from by (labels_next by labs L (width Ls)) Ls) later) (drop_at (table by.width T) _ by.width (table-long by.width T))
 
   -- what g sees of layers in which it sees what it sees of the net's
   rows : {X : Type 0} (g : Node S V → X) (m : ℕ) (labs : List (Option (Down S V))) (L : Layer) (Ls : Net) (xs later : List (Node S V))
       → map g (take (suc m * by.width) xs) ≡ map g (take (suc m * by.width) (labelled_from by labs (L ∷ Ls) ++ later))
-      → (map g (take by.width xs) ≡ table by.width (λ a. g (record_of_place by L labs (ups (L ∷ Ls)) a)))
+      → (map g (take by.width xs) ≡ table by.width (λ a. g (record_of_place by L labs (ups by labs (L ∷ Ls)) a)))
       × (map g (take (m * by.width) (drop by.width xs)) ≡ map g (take (m * by.width) (labelled_from by (labels_next by labs L (width Ls)) Ls ++ later)))
   rows g m labs L Ls xs later e =
       let Y = labelled_from by labs (L ∷ Ls) ++ later in
       let h = halves g by.width (m * by.width) xs (map g (take (by.width + m * by.width) Y)) (rw (one-more m by.width) at e) in
       let k = halves g by.width (m * by.width) Y (map g (take (by.width + m * by.width) Y)) refl in (
-        h.0 ∙ sym k.0 ∙ ap (map g) (front-of labs (L ∷ Ls) later) ∙ map-table g by.width (record_of_place by L labs (ups (L ∷ Ls))),
+        h.0 ∙ sym k.0 ∙ ap (map g) (front-of labs (L ∷ Ls) later) ∙ map-table g by.width (record_of_place by L labs (ups by labs (L ∷ Ls))),
         h.1 ∙ sym k.1 ∙ ap (λ ys. map g (take (m * by.width) ys)) (back-of labs L Ls later),
       )
 
@@ -199,7 +204,7 @@ module _ {S V : Type 0} (by : Setting S V) where
 
 -- ---- layers whose nodes have labels
 module _ {S V : Type 0} (by : Setting S V) (wide : 1 ≤ by.width) where
-  -- a layer as the pass down leaves it: the arcs and the labels of the net, and no upward sets past its nodes
+  -- a layer as the pass down leaves it: the arcs and the labels of the net, and no upward label past its nodes
   record Front (w : ℕ) (labs : List (Option (Down S V))) (L : Layer) (us : List (Node S V)) : Type 0 where
     is : map bare us ≡ table w (record_of_place by L labs [])
     spare : (a : ℕ) (d : Node S V) → length L ≤ a → a < length us → (get_or us a d).label.up ≡ no_up
@@ -238,49 +243,90 @@ module _ {S V : Type 0} (by : Setting S V) (wide : 1 ≤ by.width) where
       }
 
   -- ---- up
-  -- an arc leads to a node with upward sets
-  leads : (labs : List (Option (Down S V))) (L : Layer) (Ls : Net) → Full by wide labs Ls → IsTied (L ∷ Ls) → (a j b : ℕ) → target (node L a) j ≡ suc b → (b < records by.width Ls) × ((x : Up) × (get_or (ups Ls) b None ≡ Some x))
-  leads labs L [] full tied a j b t = (tied a j b t, (no_up, ups-end b (omega (arith, tied a j b t))))
-  leads labs L (M ∷ Ls) full tied a j b t = (omega (arith, tied.0 a j b t, full.0.room), ups-full M Ls tied.2 tied.3 b (tied.0 a j b t))
+  -- the end has one, where an arc leads to it
+  end-led : (labs : List (Option (Down S V))) (b : ℕ) → b < 1 → get_or (ups_in (top by wide labs [])) b None ≡ get_or (ups by labs []) b None → get_or (ups by labs []) b None ≡ Some (or_no_up (get_or (end_ups by labs) b None))
+  end-led labs zero lt e = sym e ∙ stands (is_used (record_of_place by [] labs (end_ups by labs) 0)) (record_of_place by [] labs (end_ups by labs) 0) end_up (e ∙ ups-end by labs 0 refl)
+    where
+      stands : (q : Bool) (x : Node S V) (u : Up) → get_or (ups_in (cond q (x ∷ []) [])) 0 None ≡ Some u → get_or (ups_in (cond q (x ∷ []) [])) 0 None ≡ Some x.label.up
+      stands q x u e = grind (arith, common_steps)
+  end-led labs (suc b) lt e = absurd (omega arith)
 
-  node-ups : (labs : List (Option (Down S V))) (L : Layer) (Ls : Net) (a : ℕ) → let labs' = labels_next by labs L (width Ls) in Full by wide labs (L ∷ Ls) → IsTied (L ∷ Ls)
-      → gathered_up (ups_of (table (records by.width Ls) (record_of_place by (first Ls) labs' (ups Ls))) (record_of_place by L labs [] a)) ≡ or_no_up (get_or (ups (L ∷ Ls)) a None)
-  unfolding ups_of gathered_up
-  node-ups labs L Ls a full tied =
+  -- an arc leads to a node with an upward label
+  leads : (labs : List (Option (Down S V))) (L : Layer) (Ls : Net) → let labs' = labels_next by labs L (width Ls) in Full by wide labs (L ∷ Ls) → IsTied (L ∷ Ls) → (a j b : ℕ) → target (node L a) j ≡ suc b
+      → (b < records by.width Ls) × (get_or (ups by labs' Ls) b None ≡ Some (or_no_up (get_or (first-ups by labs' Ls) b None)))
+  leads labs L [] full tied a j b t = (tied a j b t, end-led (labels_next by labs L 1) b (tied a j b t) (full.0.tops a j b t))
+  leads labs L (M ∷ Ls) full tied a j b t =
+      let labs' = labels_next by labs L (length M) in
+      let x = ups-full by labs' M Ls tied.2 tied.3 b (tied.0 a j b t) in (omega (arith, tied.0 a j b t, full.1.0.room), x.1 ∙ ap (λ o. Some (or_no_up o)) (sym x.1))
+
+  same-lasts : (o : Option (Down S V)) → (or_blank by.rule by.tally o).lasts ≡ lasts_of o
+  same-lasts None = refl
+  same-lasts (Some l) = refl
+
+  -- what climbs to place a: the lates are of so few layers that none is out of bounds
+  node-ups : (labs : List (Option (Down S V))) (L : Layer) (Ls : Net) (a : ℕ) → let labs' = labels_next by labs L (width Ls) in length Ls ≤ 15 → Full by wide labs (L ∷ Ls) → IsTied (L ∷ Ls)
+      → gathered_up (ups_of by.round (table (records by.width Ls) (record_of_place by (first Ls) labs' (first-ups by labs' Ls))) (record_of_place by L labs [] a)) ≡ or_no_up (get_or (ups by labs (L ∷ Ls)) a None)
+  unfolding ups_of gathered_up ups
+  node-ups labs L Ls a few-layers full tied =
       let r = records by.width Ls in
-      let R = record_of_place by (first Ls) (labels_next by labs L (width Ls)) (ups Ls) in
+      let labs' = labels_next by labs L (width Ls) in
+      let us = ups by labs' Ls in
+      let up = first-ups by labs' Ls in
+      let R = record_of_place by (first Ls) labs' up in
       let f = full.0.filled in
-      let flow = climbed-is (table r R) (record_of_place by L labs [] a) ∙ node-climbed L Ls (map up_of (table r R)) a (few by.round.n L by.round.most full.0.even a) (λ j b t.
-      let x = leads (labels_next by labs L (width Ls)) L Ls full.1 tied a j b t in
-      (omega (arith, length-map (table r R) up_of, table-long r R, x.0), x.1.1 ∙ ap Some (sym (ap (λ ys. get_or ys b no_up) (map-table up_of r R) ∙ table_at r b (λ k. or_no_up (get_or (ups Ls) k None)) no_up x.0 ∙ ap or_no_up x.1.1)))) in
-      ⊎_elim (λ lt. let l = f.there a lt in rw (l.1, f.lasting a l.0 l.1) flow)
-      (λ ge. rw (get_or_past labs a None (omega (arith, f.long)), get_or_past (ups (L ∷ Ls)) a None (omega (arith, ups-long L Ls))) refl)
+      let V = map up_of (table r R) in
+      let at : (b : ℕ) → b < r → get_or V b no_up ≡ or_no_up (get_or up b None) = λ b lt. ap (λ ys. get_or ys b no_up) (map-table up_of r R) ∙ table_at r b (λ k. or_no_up (get_or up k None)) no_up lt in
+      let linked : (j b : ℕ) → target (node L a) j ≡ suc b → Linked us V b = λ j b t.
+      let x = leads labs L Ls full tied a j b t in
+      let is : get_or us b None ≡ Some (get_or V b no_up) = x.1 ∙ ap Some (sym (at b x.0)) in
+      (omega (arith, length-map (table r R) up_of, table-long r R, x.0), is, omega (arith, ints, ups_low by labs' Ls b (get_or V b no_up) is)) in
+      let o = get_or labs a None in
+      let F : ℕ → Option Up = λ m. gather merge_up (climbs_of (climb by.round m) us 1 (node L a)) in
+      let X = flat_map (up_by by.round (table r R) (record_of_place by L labs [] a)) (range_with_len 0 16) in
+      let flow : gathered_up X ≡ or_no_up (F (lasts_of o)) = climbed-is by.round (table r R) (record_of_place by L labs [] a)
+      ∙ node-climbed by.round (or_blank by.rule by.tally o).lasts L us V a (few by.round.n L by.round.most full.0.even a) linked ∙ ap (λ m. or_no_up (F m)) (same-lasts o) in
+      ⊎_elim (λ lt. let l = f.there a lt in ap gathered_up (cond-false (eqb (or_blank by.rule by.tally o).lasts 0) [] X (rw l.1 (f.lasting a l.0 l.1)))
+      ∙ flow ∙ ap or_no_up (sym (table_at (length L) a (λ a. gather merge_up (climbs_of (climb by.round (lasts_of (get_or labs a None))) us 1 (node L a))) None lt)))
+      (λ ge. rw (get_or_past labs a None (omega (arith, f.long)), get_or_past (ups by labs (L ∷ Ls)) a None (omega (arith, ups-long by labs L Ls))) refl)
       (cases_lt a (length L))
 
-  -- a layer, and all after it that have their upward sets
-  rise : (labs : List (Option (Down S V))) (L : Layer) (Ls : Net) (us R later : List (Node S V)) → Full by wide labs (L ∷ Ls) → IsTied (L ∷ Ls) → Front by.width labs L us
-      → R ≡ labelled_from by (labels_next by labs L (width Ls)) Ls ++ later → renewed (risen (take (records by.width Ls) R)) us ++ R ≡ labelled_from by labs (L ∷ Ls) ++ later
+  -- a layer, and all after it that have their upward labels
+  rise : (labs : List (Option (Down S V))) (L : Layer) (Ls : Net) (us R later : List (Node S V)) → Full by wide labs (L ∷ Ls) → IsTied (L ∷ Ls) → Front by.width labs L us → length Ls ≤ 15
+      → R ≡ labelled_from by (labels_next by labs L (width Ls)) Ls ++ later → renewed (risen by.round (take (records by.width Ls) R)) us ++ R ≡ labelled_from by labs (L ∷ Ls) ++ later
   unfolding labelled_from risen ups_of up_by
-  rise labs L Ls us R later full tied front e =
+  rise labs L Ls us R later full tied front few-layers e =
       let w = by.width in
       let f = full.0.filled in
       let B = record_of_place by L labs [] in
-      let T = record_of_place by L labs (ups (L ∷ Ls)) in
-      let vs = table (records w Ls) (record_of_place by (first Ls) (labels_next by labs L (width Ls)) (ups Ls)) in
+      let T = record_of_place by L labs (ups by labs (L ∷ Ls)) in
+      let vs = table (records w Ls) (record_of_place by (first Ls) (labels_next by labs L (width Ls)) (first-ups by (labels_next by labs L (width Ls)) Ls)) in
       let long = mapped-long bare B w us front.is in
-      let idle : Stands (λ x. (is_used x ≡ false) × (risen vs x ≡ x)) (length L) us = λ a d lt.
+      let idle : Stands (λ x. (is_used x ≡ false) × (risen by.round vs x ≡ x)) (length L) us = λ a d lt.
       let at = mapped-at bare B w us a d front.is (omega (arith, long)) in (
         λ h. ap is_used at ∙ (let l = f.there a h in rw (l.1, f.lasting a l.0 l.1) refl),
-        λ h. unfold risen in idle-stays vs (get_or us a d) (ap (λ (x : Node S V). x.label.down.lasts) at ∙ ap (λ o. (or_blank by.rule by.tally o).lasts) (get_or_past labs a None (omega (arith, f.long)))) (front.spare a d h lt),
+        λ h. unfold risen in idle-stays by.round vs (get_or us a d) (ap (λ (x : Node S V). x.label.down.lasts) at ∙ ap (λ o. (or_blank by.rule by.tally o).lasts) (get_or_past labs a None (omega (arith, f.long)))) (front.spare a d h lt),
       ) in
-      let risen-us : renewed (risen vs) us ≡ table w T = renewed-map (risen vs) (length L) us idle
-      ∙ mapped-is (risen vs) T w us long (λ a d h. ap (λ (y : Node S V). with_up y (gathered_up (ups_of vs y))) (mapped-at bare B w us a d front.is h) ∙ ap (with_up (B a)) (node-ups labs L Ls a full tied)) in
+      let risen-us : renewed (risen by.round vs) us ≡ table w T = renewed-map (risen by.round vs) (length L) us idle
+      ∙ mapped-is (risen by.round vs) T w us long (λ a d h. ap (λ (y : Node S V). with_up y (gathered_up (ups_of by.round vs y))) (mapped-at bare B w us a d front.is h) ∙ ap (with_up (B a)) (node-ups labs L Ls a few-layers full tied)) in
       rw (e, front-of by (labels_next by labs L (width Ls)) Ls later, risen-us) (sym (append_assoc (table w T) (labelled_from by (labels_next by labs L (width Ls)) Ls) later))
+
+  -- the end: what the pass down leaves, with its upward label
+  end-laid : (labs : List (Option (Down S V))) (xs : List (Node S V)) → Lasting by wide labs → map bare xs ≡ table 1 (record_of_place by [] labs []) → map ended xs ≡ table 1 (record_of_place by [] labs (end_ups by labs))
+  end-laid labs [] lasting e = absurd cc
+  end-laid labs (x ∷ []) lasting e =
+      let is : bare x ≡ record_of_place by [] labs [] 0 = cc in
+      ap (λ y. y ∷ []) (ap ended is ∙ end-of (get_or labs 0 None) (λ l q. lasting 0 l q))
+    where
+      end-of : (o : Option (Down S V)) → ((l : Down S V) → o ≡ Some l → eqb l.lasts 0 ≡ false)
+          → ended (record { arcs = arcs_at [] 0; label = record { down = or_blank by.rule by.tally o; up = no_up } }) ≡ record { arcs = arcs_at [] 0; label = record { down = or_blank by.rule by.tally o; up = or_no_up (get_or (cond (is_some o) (Some end_up ∷ []) []) 0 None) } }
+      end-of None h = refl
+      end-of (Some l) h = rw (h l refl) refl
+  end-laid labs (x ∷ y ∷ xs) lasting e = absurd cc
 
   -- ---- both
   laid : (e : ℕ) (labs : List (Option (Down S V))) (L : Layer) (Ls : Net) (xs : List (Node S V)) → e + length Ls ≤ 15 → Full by wide labs (L ∷ Ls) → IsTied (L ∷ Ls) → Soon by e labs
       → Front by.width labs L (take by.width xs) → Arranged by.width Ls (drop by.width xs) → Ready by Ls (drop by.width xs)
-      → risen_from by.width (length Ls) (renewed_after by (length Ls) xs) ≡ labelled_from by labs (L ∷ Ls) ++ past by.width (suc (length Ls)) xs
+      → risen_from by.round by.width (length Ls) (renewed_after by (length Ls) xs) ≡ labelled_from by labs (L ∷ Ls) ++ past by.width (suc (length Ls)) xs
   unfolding renewed_after risen_from labelled_from
   laid e labs L [] xs few full tied soon front arr ready =
       let w = by.width in
@@ -290,8 +336,8 @@ module _ {S V : Type 0} (by : Setting S V) (wide : 1 ≤ by.width) where
       let D = drop 1 (drop w xs) in
       let nb = next-block 1 labs L [] [] us vs full.0 tied front.is arr in
       let n-long = mapped-long bare (record_of_place by [] (labels_next by labs L 1) []) 1 N nb in
-      rw (end-is by us (drop w xs) (soon-all by e w labs L us (omega arith) soon front.is), take_at us (N ++ D) w (front-long w labs L us front), drop_at us (N ++ D) w (front-long w labs L us front), take_at N D 1 n-long, drop_at N D 1 n-long, nb)
-      (rise labs L [] us (table 1 (record_of_place by [] (labels_next by labs L 1) []) ++ D) D full tied front refl)
+      rw (end-is by us (drop w xs) (soon-all by e w labs L us (omega arith) soon front.is), take_at us (N ++ D) w (front-long w labs L us front), drop_at us (N ++ D) w (front-long w labs L us front), take_at N D 1 n-long, drop_at N D 1 n-long, end-laid (labels_next by labs L 1) N full.1 nb)
+      (rise labs L [] us (table 1 (record_of_place by [] (labels_next by labs L 1) (end_ups by (labels_next by labs L 1))) ++ D) D full tied front (omega arith) refl)
   laid e labs L (M ∷ Ls) xs few full tied soon front arr ready =
       let w = by.width in
       let us = take w xs in
@@ -305,7 +351,7 @@ module _ {S V : Type 0} (by : Setting S V) (wide : 1 ≤ by.width) where
       let ih = laid (suc e) (labels_next by labs L (length M)) M Ls (N ++ D) (omega arith) full.1 tied.3 (soon-next by e labs L (length M) soon)
       (rw (take_at N D w n-long) next) (rw (drop_at N D w n-long) arr.1) (rw (drop_at N D w n-long) ready.1) in
       rw (next-is by ready.0.0 us vs (soon-all by e w labs L us (omega arith) soon front.is) ready.0.2, take_at us Z w (front-long w labs L us front), drop_at us Z w (front-long w labs L us front))
-      (rise labs L (M ∷ Ls) us (risen_from w k Z) (past w k D) full tied front (ih ∙ ap (λ ys. labelled_from by (labels_next by labs L (length M)) (M ∷ Ls) ++ past w k ys) (drop_at N D w n-long)))
+      (rise labs L (M ∷ Ls) us (risen_from by.round w k Z) (past w k D) full tied front (omega arith) (ih ∙ ap (λ ys. labelled_from by (labels_next by labs L (length M)) (M ∷ Ls) ++ past w k ys) (drop_at N D w n-long)))
 
   -- from a layer on, where the labels of the d layers in front of it stand as they should, and k more are between it and the end
   abbrev below : ℕ → ℕ → List (Node S V) → List (Node S V)
@@ -319,19 +365,19 @@ module _ {S V : Type 0} (by : Setting S V) (wide : 1 ≤ by.width) where
       rw (one-more d w, take-add w (d * w) xs, ← drop-drop (d * w) w xs, append_assoc (take w xs) (take (d * w) (drop w xs)) (renewed_after by k (drop (d * w) (drop w xs)))) (ap (λ ys. take w xs ++ ys) (below-is d k (drop w xs)))
 
   front-laid : (L : Layer) (Ls : Net) (labs : List (Option (Down S V))) (us : List (Node S V)) → map arcs_of us ≡ table by.width (arcs_at L)
-      → map down_of us ≡ table by.width (λ a. down_of (record_of_place by L labs (ups (L ∷ Ls)) a)) → (m : ℕ) → m ≤ length L → Stands (Blank by) m us → Front by.width labs L us
+      → map down_of us ≡ table by.width (λ a. down_of (record_of_place by L labs (ups by labs (L ∷ Ls)) a)) → (m : ℕ) → m ≤ length L → Stands (Blank by) m us → Front by.width labs L us
   front-laid L Ls labs us arr downs m le blank =
       let w = by.width in
       record {
         is = mapped-is bare (record_of_place by L labs []) w us (mapped-long arcs_of (arcs_at L) w us arr)
             (λ a d lt. ap₂ (λ (o : Arcs) (l : Down S V). record { arcs = o; label = record { down = l; up = no_up } }) (mapped-at arcs_of (arcs_at L) w us a d arr lt)
-            (mapped-at down_of (λ a. down_of (record_of_place by L labs (ups (L ∷ Ls)) a)) w us a d downs lt));
+            (mapped-at down_of (λ a. down_of (record_of_place by L labs (ups by labs (L ∷ Ls)) a)) w us a d downs lt));
         spare = λ a d ge lt. ap (λ (l : Label S V). l.up) ((blank a d lt).1 (omega arith));
       }
 
   below-laid : (d k e : ℕ) (labs : List (Option (Down S V))) (L : Layer) (Ls : Net) (xs later : List (Node S V)) → length Ls ≡ d + k → e + (d + k) ≤ 15 → Full by wide labs (L ∷ Ls) → IsTied (L ∷ Ls) → Soon by e labs
       → Arranged by.width (L ∷ Ls) xs → Ready by (L ∷ Ls) xs → map down_of (take (suc d * by.width) xs) ≡ map down_of (take (suc d * by.width) (labelled_from by labs (L ∷ Ls) ++ later))
-      → risen_from by.width (d + k) (below d k xs) ≡ labelled_from by labs (L ∷ Ls) ++ past by.width (suc (d + k)) xs
+      → risen_from by.round by.width (d + k) (below d k xs) ≡ labelled_from by labs (L ∷ Ls) ++ past by.width (suc (d + k)) xs
   unfolding risen_from
   below-laid (suc d) k e labs L [] xs later q few full tied soon arr ready downs = absurd (omega arith)
   below-laid zero k e labs L Ls xs later q few full tied soon arr ready downs =
@@ -346,7 +392,7 @@ module _ {S V : Type 0} (by : Setting S V) (wide : 1 ≤ by.width) where
       let Z = below d k (drop w xs) in
       let one : suc d + k ≡ suc (d + k) = omega arith in
       rw (one, take_at us Z w (front-long w labs L us front), drop_at us Z w (front-long w labs L us front))
-      (rise labs L (M ∷ Ls) us (risen_from w (d + k) Z) (past w (suc (d + k)) (drop w xs)) full tied front
+      (rise labs L (M ∷ Ls) us (risen_from by.round w (d + k) Z) (past w (suc (d + k)) (drop w xs)) full tied front (omega arith)
       (below-laid d k (suc e) (labels_next by labs L (length M)) M Ls (drop w xs) later (omega arith) (omega arith) full.1 tied.3 (soon-next by e labs L (length M) soon) arr.1 ready.1 h.1))
 
   soon-first : Soon by 0 (first_labels by.rule by.tally)
@@ -392,7 +438,7 @@ module _ {S V : Type 0} (by : Setting S V) (wide : 1 ≤ by.width) where
   places-ready labs (L ∷ Ls) xs later full e =
       let us = take by.width xs in
       let g = unused_label by in
-      let R = record_of_place by L labs (ups (L ∷ Ls)) in
+      let R = record_of_place by L labs (ups by labs (L ∷ Ls)) in
       let f = full.0.filled in
       let h = rows by g (length Ls) labs L Ls xs later e in (
         (
@@ -403,7 +449,7 @@ module _ {S V : Type 0} (by : Setting S V) (wide : 1 ≤ by.width) where
                 λ h. used-if (eqb (get_or us a d).label.down.lasts 0) (get_or us a d).label (at ∙ (let l = f.there a h in rw (l.1, f.lasting a l.0 l.1) refl)),
                 λ h.
                     blank-if (eqb (get_or us a d).label.down.lasts 0) (get_or us a d).label _
-                    (at ∙ rw (get_or_past labs a None (omega (arith, f.long)), get_or_past (ups (L ∷ Ls)) a None (omega (arith, ups-long L Ls))) refl),
+                    (at ∙ rw (get_or_past labs a None (omega (arith, f.long)), get_or_past (ups by labs (L ∷ Ls)) a None (omega (arith, ups-long by labs L Ls))) refl),
               ),
         ),
         places-ready (labels_next by labs L (width Ls)) Ls (drop by.width xs) later full.1 h.1,
@@ -468,11 +514,11 @@ module _ {S V : Type 0} (by : Setting S V) where
       places-ready by wide (first_labels by.rule by.tally) (L ∷ Ls) xs (drop (by.round.n * by.width + 1) xs) (full-net by wide L Ls p)
       (subst (λ (k : ℕ). map (unused_label by) (take (k * by.width) xs) ≡ map (unused_label by) (take (k * by.width) (labelled_from by (first_labels by.rule by.tally) (L ∷ Ls) ++ drop (by.round.n * by.width + 1) xs))) deep has)
 
-  below-lawful : (i : ℕ) (Ls : Net) (xs : List (Node S V)) → 1 ≤ i → i ≤ by.round.n → IsLawful by.round.n by.width Ls → Arranged by.width Ls xs → HasUps by Ls xs → HasDownsBefore by i Ls xs → Ready by Ls xs
-      → take ((i - 1) * by.width) xs ++ renewed_after by (by.round.n - i) (drop ((i - 1) * by.width) xs) ≡ records_with by xs Ls
-  unfolding records_with labelled_records
-  below-lawful i [] xs low high p arr up down ready = let none : 0 ≡ by.round.n = p.deep in absurd (omega (arith, by.round.one))
-  below-lawful i (L ∷ Ls) xs low high p arr up down ready =
+  pub below-lawful : (i : ℕ) (Ls : Net) (xs : List (Node S V)) → 1 ≤ i → i ≤ by.round.n → IsLawful by.round.n by.width Ls → Arranged by.width Ls xs → HasDownsBefore by i Ls xs → Ready by Ls xs
+      → pass_up by.round by.width (take ((i - 1) * by.width) xs ++ renewed_after by (by.round.n - i) (drop ((i - 1) * by.width) xs)) ≡ records_with by xs Ls
+  unfolding records_with labelled_records pass_up
+  below-lawful i [] xs low high p arr down ready = let none : 0 ≡ by.round.n = p.deep in absurd (omega (arith, by.round.one))
+  below-lawful i (L ∷ Ls) xs low high p arr down ready =
       let w = by.width in
       let n = by.round.n in
       let d = i - 1 in
@@ -480,21 +526,19 @@ module _ {S V : Type 0} (by : Setting S V) where
       let deep : suc (length Ls) ≡ n = p.deep in
       let wide = wide-of L Ls p in
       let back : i ≡ suc d = omega arith in
-      let Y = take (d * w) xs ++ renewed_after by k (drop (d * w) xs) in
       let end : suc (d + k) ≡ n = omega arith in
-      let U : risen_from w (d + k) Y ≡ labelled_from by (first_labels by.rule by.tally) (L ∷ Ls) ++ drop (n * w + 1) xs = rw (← below-is by wide d k xs)
+      let less : n - 1 ≡ d + k = omega arith in
+      rw (less, ← below-is by wide d k xs)
       (below-laid by wide d k 0 (first_labels by.rule by.tally) L Ls xs (drop (n * w + 1) xs) (omega arith) (omega (arith, by.round.most)) (full-net by wide L Ls p) p.tied (soon-first by wide) arr ready (rw (← back) down)
-      ∙ ap (λ ys. labelled_from by (first_labels by.rule by.tally) (L ∷ Ls) ++ ys) (past-is w (suc (d + k)) xs ∙ ap (λ (m : ℕ). drop (m * w + 1) xs) end)) in
-      let kept : map up_of Y ≡ map up_of xs = in-parts up_of (d * w) (take (d * w) xs) (renewed_after by k (drop (d * w) xs)) xs refl (renewals-keep by up_of (λ x l. refl) k (drop (d * w) xs)) in
-      same-records Y (risen_from w (d + k) Y) (sym (rises_keep bare (λ x u. refl) w (d + k) Y)) (kept ∙ up ∙ ap (map up_of) (sym U)) ∙ U
+      ∙ ap (λ ys. labelled_from by (first_labels by.rule by.tally) (L ∷ Ls) ++ ys) (past-is w (suc (d + k)) xs ∙ ap (λ (m : ℕ). drop (m * w + 1) xs) end))
 
   -- ---- of the list that is lent
   pub below_laid : (i : ℕ) (Ls : Net) (xs : List (Node S V)) → fits by.round.n by.width (length xs) ≡ true → 1 ≤ i → i ≤ by.round.n → IsLawful by.round.n by.width Ls
-      → arcs_read (take (by.round.n * by.width + 1) xs) ≡ laid_arcs by.width Ls → HasUps by Ls xs → HasDownsBefore by i Ls xs → HasPlaces by Ls xs → below_steps by i xs ≡ records_with by xs Ls
+      → arcs_read (take (by.round.n * by.width + 1) xs) ≡ laid_arcs by.width Ls → HasDownsBefore by i Ls xs → HasPlaces by Ls xs → below_steps by i xs ≡ records_with by xs Ls
   unfolding below_steps
-  below_laid i Ls xs fit low high p e ups downs has =
+  below_laid i Ls xs fit low high p e downs has =
       let room = (room-facts by.round.n by.width (length xs) fit).enough in
-      rw (fit, le-leb 1 i low, le-leb i by.round.n high) (below-lawful i Ls xs low high p (read-arranged Ls xs p room e) ups downs (has-ready Ls xs p room has))
+      rw (fit, le-leb 1 i low, le-leb i by.round.n high) (below-lawful i Ls xs low high p (read-arranged Ls xs p room e) downs (has-ready Ls xs p room has))
 
   pub used_read : (Ls : Net) (xs : List (Node S V)) → fits by.round.n by.width (length xs) ≡ true → IsLawful by.round.n by.width Ls
       → arcs_read (take (by.round.n * by.width + 1) xs) ≡ laid_arcs by.width Ls → HasPlaces by Ls xs → relabelled_used by xs ≡ records_with by xs Ls

@@ -3,6 +3,7 @@ use Rattle.std.proofs.Common.{◌≡◌, ℕ, zero, suc, ◌<◌, ◌≤◌, tru
 use Rattle.std.proofs.lemmas.Bool.Decides.{nat_tests}
 use Rattle.std.proofs.lemmas.Bool.{eq-eqb}
 use Rattle.round.specs.Clock.{latest_finish}
+use Rattle.round.specs.declared.table.Round.{Round}
 use Rattle.layers.specs.declared.node.Label.{Label}
 use Rattle.layers.specs.declared.node.Node.{Node}
 use Rattle.layers.specs.Labels.{blank_label, no_up}
@@ -29,10 +30,10 @@ module _ {S V : Type 0} where
       let here = s 0 u (omega arith) in
       grind (arith, here.0, renewed-map f m us (λ a d lt. let r = s (suc a) d (omega arith) in ((λ l. r.0 (omega arith)), (λ l. r.1 (omega arith)))))
 
-  -- a place that is not in use and has no upward sets gathers none
-  pub idle-stays : (vs : List (Node S V)) (x : Node S V) → x.label.down.lasts ≡ 0 → x.label.up ≡ no_up → (is_used x ≡ false) × (risen vs x ≡ x)
+  -- a place that is not in use gathers nothing
+  pub idle-stays : (r : Round) (vs : List (Node S V)) (x : Node S V) → x.label.down.lasts ≡ 0 → x.label.up ≡ no_up → (is_used x ≡ false) × (risen r vs x ≡ x)
   unfolding risen ups_of gathered_up
-  idle-stays vs x e n = let q = eq-eqb x.label.down.lasts 0 e in rw q (refl, ap (with_up x) (sym n))
+  idle-stays r vs x e n = let q = eq-eqb x.label.down.lasts 0 e in rw q (refl, ap (with_up x) (sym n))
 
   sources-are : (us : List (Node S V)) → ((a : ℕ) (d : Node S V) → a < length us → Early (latest_finish 15) (get_or us a d)) → sources us ≡ nodes_in us
   sources-are [] h = refl

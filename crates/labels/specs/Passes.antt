@@ -1,9 +1,10 @@
 -- Relabelling as the code does it, in two passes over the records of any list: so many records to a layer, 16 doors to a record.
 -- Nobody has to believe these steps: on the arcs of a diagram `labelled` of `relabel` says what they come to.
-use Rattle.std.specs.Prelude.{◌≡◌, ℕ, zero, suc, ◌+◌, ◌-◌, ◌*◌, ◌<◌, ◌≤◌, Bool, true, false, not, if◌then◌else◌, ◌&&◌, List, [], ◌∷◌, ◌++◌, map, length, take, drop, replicate, Some, None, fold, Option, ◌==◌, nat_le, slice_index, slice_index_or, slice_set}
+use Rattle.std.specs.Prelude.{◌≡◌, ℕ, zero, suc, ◌+◌, ◌-◌, ◌*◌, ◌<◌, ◌≤◌, Bool, true, false, not, if◌then◌else◌, ◌&&◌, List, [], ◌∷◌, ◌++◌, map, length, take, drop, replicate, Some, None, fold, Option, ◌==◌, bit_or, nat_le, ℤ, pos, ◌-ℤ◌, slice_index, slice_index_or, slice_set}
+use Rattle.std.specs.Int.{w32, int_min, saturate_signed}
 use Rattle.std.specs.List.{range_with_len, flat_map, filter}
 use Rattle.doors.specs.Sets.{has}
-use Rattle.round.specs.Clock.{latest_finish}
+use Rattle.round.specs.Clock.{door, latest_finish}
 use Rattle.round.specs.declared.table.Round.{Round}
 use Rattle.rules.specs.Rules.{RuleSense}
 use Rattle.tallies.specs.Tallies.{TallySense}
@@ -15,7 +16,7 @@ use Rattle.layers.specs.Settings.{Setting}
 use Rattle.layers.specs.Calls.{records_with}
 use Rattle.layers.specs.Net.{Net}
 use Rattle.layers.specs.Records.{is_used, nodes_in}
-use Rattle.layers.specs.Labels.{leg_step, arrival_over, merge, first_label, blank_label, climb, merge_up, no_up}
+use Rattle.layers.specs.Labels.{bit_of, leg_step, leg, arrival_over, merge, first_label, blank_label, merge_up, end_up, no_up}
 
 -- ---- the doors of a record
 -- the places below 16 of a list of targets that are not 0, in order: the doors, less one, that have an arc
@@ -165,15 +166,29 @@ module _ {S V : Type 0} (by : Setting S V) where
 abbrev pub numbered : {X : Type 0} → ℕ → List X → List X
 numbered t vs = if t == 0 then [] else take 1 (drop (t - 1) vs)
 
+-- the last minute to leave a node over an arc by door j with a leg of g minutes, where t is that to leave its target; t may be any
+-- number of 32 bits, and the minute is held in those
+unfoldable pub held_late : Round → ℕ → ℤ → ℕ → ℤ
+held_late r g t j = saturate_signed w32 (int_min (pos (door r j).closes) t -ℤ pos ((door r j).work + g))
+
+-- over an arc by door j with a leg of g minutes to a node with these
+abbrev pub climb_held : Round → ℕ → Up → ℕ → Up
+climb_held r g u j = record { allup = bit_or u.allup (bit_of j); someup = bit_or u.someup (bit_of j); late = held_late r g u.late j }
+
 -- what a list of those comes to
 unfoldable pub gathered_up : List Up → Up
 gathered_up [] = no_up
 gathered_up (x ∷ xs) = fold merge_up x xs
 
-module _ {S V : Type 0} where
+-- the end: an empty diagram has none
+abbrev pub ended : {S V : Type 0} → Node S V → Node S V
+ended x = with_up x (if is_used x then end_up else no_up)
+
+module _ {S V : Type 0} (r : Round) where
   -- what climbs by the door k + 1 of u from the records vs
   unfoldable pub up_by : List (Node S V) → Node S V → ℕ → List Up
-  up_by vs u k = map (λ v. climb v.label.up (k + 1)) (numbered (slice_index u.arcs.to k) vs)
+  unfolding leg held_late
+  up_by vs u k = map (λ v. climb_held r (leg r u.label.down.lasts (k + 1)) v.label.up (k + 1)) (numbered (slice_index u.arcs.to k) vs)
 
   -- by door; to one that is not in use nothing climbs
   unfoldable pub ups_of : List (Node S V) → Node S V → List Up
@@ -185,19 +200,16 @@ module _ {S V : Type 0} where
   unfolding ups_of gathered_up
   risen vs u = with_up u (gathered_up (ups_of vs u))
 
-  -- a record with no upward sets
-  abbrev pub bare : Node S V → Node S V
-  bare x = with_up x no_up
-
-  -- the layer in front of w records and all after it, with so many layers between it and the end, which has no upward sets
+  -- the layer in front of w records and all after it, with so many layers between it and the end
   unfoldable pub risen_from : ℕ → ℕ → List (Node S V) → List (Node S V)
   unfolding risen
-  risen_from w zero xs = let rest = map bare (take 1 (drop w xs)) ++ drop 1 (drop w xs) in renewed (risen (take 1 rest)) (take w xs) ++ rest
+  risen_from w zero xs = let rest = map ended (take 1 (drop w xs)) ++ drop 1 (drop w xs) in renewed (risen (take 1 rest)) (take w xs) ++ rest
   risen_from w (suc k) xs = let rest = risen_from w k (drop w xs) in renewed (risen (take w rest)) (take w xs) ++ rest
 
-  unfoldable pub pass_up : ℕ → ℕ → List (Node S V) → List (Node S V)
+  -- all layers of w records
+  unfoldable pub pass_up : ℕ → List (Node S V) → List (Node S V)
   unfolding risen_from
-  pass_up n w xs = risen_from w (n - 1) xs
+  pass_up w xs = risen_from w (r.n - 1) xs
 
 -- one more, as the code has it
 abbrev pub taken_up : Option Up → Up → Option Up
@@ -207,7 +219,7 @@ taken_up (Some a) x = Some (merge_up a x)
 -- both passes, over the places in use
 unfoldable pub relabelled_used : {S V : Type 0} → Setting S V → List (Node S V) → List (Node S V)
 unfolding renewed_after pass_up
-relabelled_used by xs = pass_up by.round.n by.width (renewed_after by (by.round.n - 1) (begun by.rule by.tally xs))
+relabelled_used by xs = pass_up by.round by.width (renewed_after by (by.round.n - 1) (begun by.rule by.tally xs))
 
 -- and over a list of which no label is known: the places of the layers before the end are blank first
 unfoldable pub relabelled : {S V : Type 0} → Setting S V → List (Node S V) → List (Node S V)
@@ -220,18 +232,14 @@ fits n w long = nat_le 1 w && (nat_le w 128 && nat_le (n * w + 1) long)
 
 -- ---- below a layer
 module _ {S V : Type 0} (by : Setting S V) where
-  -- the downward labels of layer i and of all after it anew, from those that stand in the layer before it; of a list without
-  -- room, and where there is no such layer, nothing
+  -- the downward labels of layer i and of all after it anew, from those that stand in the layer before it, and then all upward
+  -- labels; of a list without room, and where there is no such layer, nothing
   unfoldable pub below_steps : ℕ → List (Node S V) → List (Node S V)
-  unfolding renewed_after
+  unfolding renewed_after pass_up
   below_steps i xs =
       let at = (i - 1) * by.width in
-      if fits by.round.n by.width (length xs) && (nat_le 1 i && nat_le i by.round.n) then take at xs ++ renewed_after by (by.round.n - i) (drop at xs)
+      if fits by.round.n by.width (length xs) && (nat_le 1 i && nat_le i by.round.n) then pass_up by.round by.width (take at xs ++ renewed_after by (by.round.n - i) (drop at xs))
       else xs
-
-  -- the upward sets of all records are those that the arcs Ls give
-  abbrev pub HasUps : Net → List (Node S V) → Type 0
-  HasUps Ls xs = map (λ x. x.label.up) xs ≡ map (λ x. x.label.up) (records_with by xs Ls)
 
   -- the downward labels of the layers before layer i are those that the arcs Ls give
   abbrev pub HasDownsBefore : ℕ → Net → List (Node S V) → Type 0

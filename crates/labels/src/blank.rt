@@ -26,6 +26,7 @@ pub fn blank_node<R: Rule, T: Tally>(rule: &R, tally: &T) -> Node<R::State, T::V
             up: Up {
                 allup: 0,
                 someup: 0,
+                late: -40_000,
             },
         },
     }

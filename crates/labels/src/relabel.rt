@@ -5,7 +5,7 @@ ghost use Rattle.layers.specs.Lawful.{IsLawful};
 ghost use Rattle.layers.specs.Records.{arcs_read, laid_arcs};
 ghost use Rattle.layers.specs.Settings.{lent_setting};
 ghost use Rattle.layers.specs.Calls.{records_with};
-ghost use Rattle.labels.specs.Passes.{fits, unlabelled, relabelled_used, relabelled, below_steps, HasUps, HasDownsBefore, HasPlaces};
+ghost use Rattle.labels.specs.Passes.{fits, unlabelled, relabelled_used, relabelled, below_steps, HasDownsBefore, HasPlaces};
 
 use crate::blank::blank_node;
 use crate::down::{label_after, label_down};
@@ -68,21 +68,22 @@ pub fn relabel_used<R: Rule, T: Tally>(
 {
     if has_room(by.round, by.width, nodes.len()) {
         label_down(by, nodes);
-        label_up(nodes, by.round.n, by.width);
+        label_up(by.round, nodes, by.width);
     }
 }
 
 /// Whether a list of `len` records has room for a diagram, and the layer is 1 to n.
 fn has_layer(round: &Round, width: usize, len: usize, layer: usize) -> bool
-    ensures { result ≡ (fits round.now.n width len && (nat_le 1 layer && nat_le layer round.now.n)) }
+    ensures { let n = round.now.n in
+        result ≡ (fits n width len && (nat_le 1 layer && nat_le layer n)) }
 {
     has_room(round, width, len) && layer >= 1 && layer <= round.n
 }
 
-/// Works out anew the downward labels of the layer and of all after it, from those that stand in the layer before it: of arcs
-/// that a diagram may have, every label is as the definitions say if the upward sets and the labels before the layer are, and
-/// the places that are not in use are known, and have blank labels. Left alone are a list too short for the round and the
-/// width, a width out of 1 to 128, and a layer that is not 1 to n.
+/// Works out anew the downward labels of the layer and of all after it, from those that stand in the layer before it, and then
+/// all upward labels: of arcs that a diagram may have, every label is as the definitions say if the labels before the layer
+/// are, and the places that are not in use are known, and have blank labels. Left alone are a list too short for the round and
+/// the width, a width out of 1 to 128, and a layer that is not 1 to n.
 #[tactic(auto, using(std::proofs::lemmas::Bool::Decides::nat_tests, crate::proofs::Rests::layers_in, crate::proofs::Laying::below_laid), unfolding(crate::specs::Passes::below_steps))]
 pub fn relabel_below<R: Rule, T: Tally>(
     by: &Setting<'_, R, T>,
@@ -98,12 +99,12 @@ pub fn relabel_below<R: Rule, T: Tally>(
         → 1 ≤ layer → layer ≤ by.round.n
         → IsLawful by.round.n by.width Ls
         → arcs_read (take (by.round.n * by.width + 1) nodes.old) ≡ laid_arcs by.width Ls
-        → HasUps by Ls nodes.old → HasDownsBefore by layer Ls nodes.old
-        → HasPlaces by Ls nodes.old
+        → HasDownsBefore by layer Ls nodes.old → HasPlaces by Ls nodes.old
         → nodes.new ≡ records_with by nodes.old Ls }
 {
     if has_layer(by.round, by.width, nodes.len(), layer) {
         let (_, from) = nodes.split_at_mut((layer - 1) * by.width);
         label_after(by, from, by.round.n - layer);
+        label_up(by.round, nodes, by.width);
     }
 }

@@ -6,12 +6,13 @@ use Rattle.doors.specs.Sets.{has}
 use Rattle.layers.specs.declared.node.Node.{Node}
 use Rattle.layers.specs.declared.node.Up.{Up}
 use Rattle.layers.specs.Net.{table, Outs, Layer, Net, node, target, width, redirect}
-use Rattle.layers.specs.Flow.{arrivals_at, gather, next, up, end_label}
+use Rattle.layers.specs.Flow.{arrivals_at, gather, next, end_label}
 use Rattle.layers.specs.Lawful.{IsLed, IsTied, IsRoomy}
-use Rattle.layers.specs.Labels.{first_label, first_labels, arrival_over, merge, labels_next, no_up, ups, climb, merge_up}
-use Rattle.layers.specs.Records.{is_used, nodes_in, layers, arcs_in, downs_in, ups_in, arcs_of_layers, padded_targets, record_of_place, labelled_from, labelled_records}
+use Rattle.layers.specs.Labels.{first_label, first_labels, arrival_over, merge, labels_next, end_up, ups}
+use Rattle.layers.specs.Records.{end_ups, is_used, nodes_in, layers, arcs_in, downs_in, ups_in, arcs_of_layers, padded_targets, record_of_place, labelled_from, labelled_records}
 use Rattle.layers.specs.Calls.{in_arcs_agree, value_in, labels_in, LayerLabels, kept_arcs}
-use Rattle.layers.proofs.Flows.{first-only, next-all, next-at, table_at, has-arc, up_at}
+use Rattle.layers.proofs.Flows.{first-only, next-all, next-at, table_at, has-arc}
+use Rattle.layers.proofs.Ups.{ups-at}
 use Rattle.layers.proofs.Ways.{or_left, one-self, none_has}
 use Rattle.layers.proofs.Model.{kept, agrees, valueO, or_blank, or_no_up, labels_at}
 use Rattle.layers.proofs.Tied.{redirect-cong}
@@ -30,16 +31,18 @@ module _ {S V : Type 0} (by : Setting S V) (w : 1 ≤ by.width) where
       let l = f s.0 (has-arc L s.0 s.1 b s.2) in
       let n = next-at {A = Down S V} (merge by.rule by.tally) (λ x. Unit {0}) (λ x y p. tt) (λ x y p. tt) (arrival_over by) labs L (length M) s.0 s.1 b l.0 s.2 l.1 h tt in (n.0, n.1)
 
-pub ups-full : (M : Layer) (Ls : Net) → IsLed M → IsTied (M ∷ Ls) → (a : ℕ) → a < length M → (u : Up) × (get_or (ups (M ∷ Ls)) a None ≡ Some u)
+pub ups-end : {S V : Type 0} (by : Setting S V) (labs : List (Option (Down S V))) (b : ℕ) → b ≡ 0 → get_or (ups by labs []) b None ≡ Some end_up
 unfolding ups
-ups-full M [] led t a h =
+ups-end by labs b e = ap (λ (k : ℕ). get_or {A = Option Up} (Some end_up ∷ []) k None) e
+
+pub ups-full : {S V : Type 0} (by : Setting S V) (labs : List (Option (Down S V))) (M : Layer) (Ls : Net) → IsLed M → IsTied (M ∷ Ls) → (a : ℕ) → a < length M → (u : Up) × (get_or (ups by labs (M ∷ Ls)) a None ≡ Some u)
+ups-full by labs M [] led t a h =
     let s = led a h in
-    let z : s.1 ≡ 0 = omega (arith, t a s.0 s.1 s.2) in
-    let q = up_at {A = Up} merge_up (λ x. Unit {0}) (λ x y p. tt) (λ x y p. tt) climb no_up M [] a s.0 s.1 no_up s.2 (unfold up in ap (λ (k : ℕ). get_or {A = Option Up} (Some no_up ∷ []) k None) z) tt in (q.0, q.1)
-ups-full M (N ∷ Ls) led t a h =
+    let q = ups-at by labs M [] (λ x. Unit {0}) (λ x y p. tt) (λ x y p. tt) a s.0 s.1 end_up s.2 (ups-end by (labels_next by labs M 1) s.1 (omega (arith, t a s.0 s.1 s.2))) tt in (q.0, q.1)
+ups-full by labs M (N ∷ Ls) led t a h =
     let s = led a h in
-    let x = ups-full N Ls t.2 t.3 s.1 (t.0 a s.0 s.1 s.2) in
-    let q = up_at {A = Up} merge_up (λ x. Unit {0}) (λ x y p. tt) (λ x y p. tt) climb no_up M (N ∷ Ls) a s.0 s.1 x.0 s.2 x.1 tt in (q.0, q.1)
+    let x = ups-full by (labels_next by labs M (length N)) N Ls t.2 t.3 s.1 (t.0 a s.0 s.1 s.2) in
+    let q = ups-at by labs M (N ∷ Ls) (λ x. Unit {0}) (λ x y p. tt) (λ x y p. tt) a s.0 s.1 x.0 s.2 x.1 tt in (q.0, q.1)
 
 -- ---- tables
 pub map-table : {A B : Type 0} (f : A → B) (m : ℕ) (g : ℕ → A) → map f (table m g) ≡ table m (λ k. f (g k))
@@ -62,10 +65,6 @@ pad-back : (n m : ℕ) (nd : Outs) → length nd ≡ n → n ≤ m → take n (t
 pad-back zero m [] e h = refl
 pad-back (suc n) (suc m) (t ∷ nd) e h = ap (λ (x : Outs). t ∷ x) (pad-back n m nd (omega arith) (le_of_suc-le-suc h))
 pad-back n m nd e h = absurd (omega arith)
-
-pub ups-end : (b : ℕ) → b ≡ 0 → get_or (ups []) b None ≡ Some no_up
-unfolding ups up
-ups-end b e = ap (λ (k : ℕ). get_or {A = Option Up} (Some no_up ∷ []) k None) e
 
 -- the nodes of a layer, out of its W places
 stand-table : {S V : Type 0} (W m : ℕ) (f : ℕ → Node S V) → m ≤ W → ((k : ℕ) → k < m → is_used (f k) ≡ true) → (m < W → is_used (f m) ≡ false) → nodes_in (table W f) ≡ table m f
@@ -108,8 +107,8 @@ module _ {S V : Type 0} (by : Setting S V) (w : 1 ≤ by.width) where
 
   -- ---- the nodes that stand, by layers
   abbrev pub top : Labs → Net → List (Node S V)
-  top labs [] = nodes_in (record_of_place by [] labs [] 0 ∷ [])
-  top labs (L ∷ Ls) = table (length L) (record_of_place by L labs (ups (L ∷ Ls)))
+  top labs [] = nodes_in (record_of_place by [] labs (end_ups by labs) 0 ∷ [])
+  top labs (L ∷ Ls) = table (length L) (record_of_place by L labs (ups by labs (L ∷ Ls)))
 
   abbrev pub rest : Labs → Net → List (List (Node S V))
   rest labs [] = []
@@ -123,7 +122,7 @@ module _ {S V : Type 0} (by : Setting S V) (w : 1 ≤ by.width) where
     pub filled : Filled labs (length L)
     pub room : length L ≤ by.width
     pub even : (a : ℕ) → a < length L → length (node L a) ≡ by.round.n
-    pub tops : (a j b : ℕ) → target (node L a) j ≡ suc b → get_or (ups_in (top (labels_next by labs L (width Ls)) Ls)) b None ≡ get_or (ups Ls) b None
+    pub tops : let labs' = labels_next by labs L (width Ls) in (a j b : ℕ) → target (node L a) j ≡ suc b → get_or (ups_in (top labs' Ls)) b None ≡ get_or (ups by labs' Ls) b None
 
   abbrev pub Full : Labs → Net → Type 0
   Full labs [] = Lasting labs
@@ -132,20 +131,20 @@ module _ {S V : Type 0} (by : Setting S V) (w : 1 ≤ by.width) where
   -- ---- a layer
   row-arcs : (labs : Labs) (L : Layer) (Ls : Net) → Fit labs L Ls → arcs_in by.round.n (top labs (L ∷ Ls)) ≡ L
   row-arcs labs L Ls f =
-      map-table (λ (x : Node S V). take by.round.n x.arcs.to) (length L) (record_of_place by L labs (ups (L ∷ Ls)))
+      map-table (λ (x : Node S V). take by.round.n x.arcs.to) (length L) (record_of_place by L labs (ups by labs (L ∷ Ls)))
       ∙ table-ext (length L) _ (λ k. get_or L k []) (λ k h. pad-back by.round.n 16 (node L k) (f.even k h) by.round.most) ∙ table-back [] L
 
   row-downs : (labs : Labs) (L : Layer) (Ls : Net) → Fit labs L Ls → downs_in (top labs (L ∷ Ls)) ≡ labs
   row-downs labs L Ls f =
-      map-table (λ (x : Node S V). Some x.label.down) (length L) (record_of_place by L labs (ups (L ∷ Ls)))
+      map-table (λ (x : Node S V). Some x.label.down) (length L) (record_of_place by L labs (ups by labs (L ∷ Ls)))
       ∙ table-ext (length L) _ (λ k. get_or labs k None) (λ k h. let x = f.filled.there k h in ap (λ (o : Option (Down S V)). Some (or_blank by.rule by.tally o)) x.1 ∙ sym x.1)
       ∙ rw (← f.filled.long) (table-back None labs)
 
   -- the end's node
-  pub end-top : (labs : Labs) (l : Down S V) → get_or labs 0 None ≡ Some l → eqb l.lasts 0 ≡ false → top labs [] ≡ record { arcs = record { to = padded_targets [] }; label = record { down = l; up = no_up } } ∷ []
+  pub end-top : (labs : Labs) (l : Down S V) → get_or labs 0 None ≡ Some l → eqb l.lasts 0 ≡ false → top labs [] ≡ record { arcs = record { to = padded_targets [] }; label = record { down = l; up = end_up } } ∷ []
   end-top labs l e q = grind (arith, e, q)
 
-  tops-end : (labs : Labs) (L : Layer) → Filled labs (length L) → IsTied (L ∷ []) → (a j b : ℕ) → target (node L a) j ≡ suc b → get_or (ups_in (top (labels_next by labs L 1) [])) b None ≡ get_or (ups []) b None
+  tops-end : (labs : Labs) (L : Layer) → Filled labs (length L) → IsTied (L ∷ []) → let labs' = labels_next by labs L 1 in (a j b : ℕ) → target (node L a) j ≡ suc b → get_or (ups_in (top labs' [])) b None ≡ get_or (ups by labs' []) b None
   unfolding labels_next
   tops-end labs L f t a j b e =
       let z : b ≡ 0 = omega (arith, t a j b e) in
@@ -153,12 +152,12 @@ module _ {S V : Type 0} (by : Setting S V) (w : 1 ≤ by.width) where
       let n = next-at {A = Down S V} (merge by.rule by.tally) (λ x. Unit {0}) (λ x y p. tt) (λ x y p. tt) (arrival_over by) labs L 1 a j b l.0 e l.1 (t a j b e) tt in
       let n0 : get_or (next (arrival_over by) (merge by.rule by.tally) labs L 1) 0 None ≡ Some n.0 = ap (λ (k : ℕ). get_or (next (arrival_over by) (merge by.rule by.tally) labs L 1) k None) (sym z) ∙ n.1 in
       let q = lasting-next labs L 1 0 n.0 n0 in
-      grind (arith, z, q, n0, end-top (next (arrival_over by) (merge by.rule by.tally) labs L 1) n.0, ups-end b)
+      grind (arith, z, q, n0, end-top (next (arrival_over by) (merge by.rule by.tally) labs L 1) n.0, ups-end by (next (arrival_over by) (merge by.rule by.tally) labs L 1) b)
 
-  tops-inner : (labs : Labs) (M : Layer) (Ls : Net) (b : ℕ) → IsLed M → IsTied (M ∷ Ls) → b < length M → get_or (ups_in (top labs (M ∷ Ls))) b None ≡ get_or (ups (M ∷ Ls)) b None
+  tops-inner : (labs : Labs) (M : Layer) (Ls : Net) (b : ℕ) → IsLed M → IsTied (M ∷ Ls) → b < length M → get_or (ups_in (top labs (M ∷ Ls))) b None ≡ get_or (ups by labs (M ∷ Ls)) b None
   tops-inner labs M Ls b led t h =
-      let x = ups-full M Ls led t b h in
-      grind (arith, x, map-table (λ (x : Node S V). Some x.label.up) (length M) (record_of_place by M labs (ups (M ∷ Ls))), table_at (length M) b (λ k. Some (or_no_up (get_or (ups (M ∷ Ls)) k None))) None h)
+      let x = ups-full by labs M Ls led t b h in
+      grind (arith, x, map-table (λ (x : Node S V). Some x.label.up) (length M) (record_of_place by M labs (ups by labs (M ∷ Ls))), table_at (length M) b (λ k. Some (or_no_up (get_or (ups by labs (M ∷ Ls)) k None))) None h)
 
   full_from : (labs : Labs) (L : Layer) (Ls : Net) → Filled labs (length L) → IsTied (L ∷ Ls) → IsRoomy by.width (L ∷ Ls) → IsEven by.round.n (L ∷ Ls) → Full labs (L ∷ Ls)
   full_from labs L [] f t room even = (record { filled = f; room = room.0; even = even.0; tops = tops-end labs L f t }, lasting-next labs L 1)
@@ -175,7 +174,7 @@ module _ {S V : Type 0} (by : Setting S V) (w : 1 ≤ by.width) where
   unfolding labelled_from
   layers-laid later labs [] f = refl
   layers-laid later labs (L ∷ Ls) f =
-      let f' = record_of_place by L labs (ups (L ∷ Ls)) in
+      let f' = record_of_place by L labs (ups by labs (L ∷ Ls)) in
       let X = labelled_from by (labels_next by labs L (width Ls)) Ls in
       let e = append_assoc (table by.width f') X later in
       let t = take_at (table by.width f') (X ++ later) by.width (table-long by.width f') in
@@ -202,7 +201,7 @@ module _ {S V : Type 0} (by : Setting S V) (w : 1 ≤ by.width) where
         let F : Labs → List (Option Up) → ℕ → ℕ → ℕ → ℕ = λ x y a j b. Q x a j (get_or y b None) b in
         ap₂ (λ (x : Layer) (y : Net). x ∷ y)
         (ap (λ (x : Labs). redirect (F x (ups_in (top labs' Ls))) L) (row-downs labs L Ls f.0)
-        ∙ redirect-cong (F labs (ups_in (top labs' Ls))) (F labs (ups Ls)) L (λ a j b g. ap (λ (u : Option Up). Q labs a j u b) (f.0.tops a j b g)))
+        ∙ redirect-cong (F labs (ups_in (top labs' Ls))) (F labs (ups by labs' Ls)) L (λ a j b g. ap (λ (u : Option Up). Q labs a j u b) (f.0.tops a j b g)))
         (kept-stood (suc i) labs' Ls f.1)
 
   pub agrees-stood : (labs : Labs) (Ls : Net) → Full labs Ls → in_arcs_agree by Ls (Standing labs Ls) ≡ agrees by labs Ls
@@ -213,7 +212,7 @@ module _ {S V : Type 0} (by : Setting S V) (w : 1 ≤ by.width) where
   pub stood-at : (d : ℕ) (labs : Labs) (Ls : Net) → Full labs Ls → d < length Ls
       → (downs_in (get_or (stood labs Ls) d []) ≡ labels_at by d labs Ls) × (arcs_in by.round.n (get_or (stood labs Ls) d []) ≡ get_or Ls d []) × (length (get_or (stood labs Ls) d []) ≡ length (get_or Ls d []))
   stood-at d labs [] f h = absurd (not-suc-le-zero h)
-  stood-at zero labs (L ∷ Ls) f h = (row-downs labs L Ls f.0, row-arcs labs L Ls f.0, table-long (length L) (record_of_place by L labs (ups (L ∷ Ls))))
+  stood-at zero labs (L ∷ Ls) f h = (row-downs labs L Ls f.0, row-arcs labs L Ls f.0, table-long (length L) (record_of_place by L labs (ups by labs (L ∷ Ls))))
   stood-at (suc d) labs (L ∷ Ls) f h = stood-at d (labels_next by labs L (width Ls)) Ls f.1 (le_of_suc-le-suc h)
 
   -- the end's value
@@ -227,7 +226,7 @@ module _ {S V : Type 0} (by : Setting S V) (w : 1 ≤ by.width) where
   unfolding labelled_from
   laid-long labs [] = omega (arith, zero-mul by.width)
   laid-long labs (L ∷ Ls) =
-      let f' = record_of_place by L labs (ups (L ∷ Ls)) in
+      let f' = record_of_place by L labs (ups by labs (L ∷ Ls)) in
       let X = labelled_from by (labels_next by labs L (width Ls)) Ls in
       omega (arith, length-append (table by.width f') X, table-long by.width f', laid-long (labels_next by labs L (width Ls)) Ls, suc-mul (length Ls) by.width)
 

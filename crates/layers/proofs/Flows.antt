@@ -118,14 +118,19 @@ module _ {A : Type 0} (merge : A → A → A) (P : A → Type 0) (left : (x y : 
   outs-in climb us u j (t ∷ ts) zero m b h e g = let y : m ≡ j = omega arith in grind (arith, e, g, y)
   outs-in climb us u j (t ∷ ts) (suc k) m b h e g = grind (arith, outs-in climb us u (suc j) ts k m b (omega arith) e g)
 
+  -- what is so of what climbs over an arc of a node is so of what the node gathers
+  pub climbs-at : (climb : A → ℕ → A) (us : List (Option A)) (L : Layer) (a j b : ℕ) (u : A) → target (node L a) j ≡ suc b → get_or us b None ≡ Some u
+      → P (climb u j) → (m : A) × (gather merge (climbs_of climb us 1 (node L a)) ≡ Some m) × P m
+  climbs-at climb us L a zero b u e g p = absurd (omega arith)
+  climbs-at climb us L a (suc k) b u e g p = gather-in (climb u (suc k)) (climbs_of climb us 1 (node L a)) (outs-in climb us u 1 (node L a) k (suc k) b (omega arith) e g) p
+
   pub up_at : (climb : A → ℕ → A) (top : A) (L : Layer) (Ls : Net) (a j b : ℕ) (u : A) → target (node L a) j ≡ suc b → get_or (up climb merge top Ls) b None ≡ Some u
       → P (climb u j) → (m : A) × (get_or (up climb merge top (L ∷ Ls)) a None ≡ Some m) × P m
   unfolding up
-  up_at climb top L Ls a zero b u e g p = absurd (omega arith)
-  up_at climb top L Ls a (suc k) b u e g p =
+  up_at climb top L Ls a j b u e g p =
       let us = up climb merge top Ls in
-      let q = gather-in (climb u (suc k)) (climbs_of climb us 1 (node L a)) (outs-in climb us u 1 (node L a) k (suc k) b (omega arith) e g) p in
-      (q.0, get_or-map (λ nd. gather merge (climbs_of climb us 1 nd)) L a [] None (has-arc L a (suc k) b e) ∙ q.1, q.2)
+      let q = climbs-at climb us L a j b u e g p in
+      (q.0, get_or-map (λ nd. gather merge (climbs_of climb us 1 nd)) L a [] None (has-arc L a j b e) ∙ q.1, q.2)
 
 -- ---- tidying
 pub mark-next : (fr : List (Option Mark)) (L : Layer) (count a j b : ℕ) → target (node L a) j ≡ suc b → get_or fr a None ≡ Some tt → b < count → get_or (marks_next fr L count) b None ≡ Some tt
@@ -235,7 +240,7 @@ module _ {A : Type 0} (arrival_over : A → ℕ → A) where
   ]
   ins-from b labs L x i = absurd i
 
-table-get : {A : Type 0} (n k : ℕ) (f : ℕ → Option A) (x : A) → get_or (table n f) k None ≡ Some x → (k < n) × (f k ≡ Some x)
+pub table-get : {A : Type 0} (n k : ℕ) (f : ℕ → Option A) (x : A) → get_or (table n f) k None ≡ Some x → (k < n) × (f k ≡ Some x)
 table-get zero k f x e = absurd cc
 table-get (suc n) k f x e = grind (arith, e, table-get n (k - 1) (λ m. f (suc m)) x)
 
@@ -286,10 +291,16 @@ map-some : {A : Type 0} (f : Outs → Option A) (L : Layer) (a : ℕ) (x : A) �
 map-some f [] a x e = absurd cc
 map-some f (nd ∷ L) a x e = grind (arith, e, map-some f L)
 
+-- what climbs over each arc of a node and merging keeps, the node gathers
+pub climbs-all : {A : Type 0} (climb : A → ℕ → A) (merge : A → A → A) (us : List (Option A)) (L : Layer) (a : ℕ) (m : A) (P : A → Type 0) → ((x y : A) → P x → P y → P (merge x y))
+    → ((j b : ℕ) (u : A) → target (node L a) j ≡ suc b → get_or us b None ≡ Some u → P (climb u j)) → gather merge (climbs_of climb us 1 (node L a)) ≡ Some m → P m
+climbs-all climb merge us L a m P keep f =
+    gather-all merge P keep (climbs_of climb us 1 (node L a)) m
+    (λ x i. let c = outs-from climb us x 1 (node L a) i in rw (c.5, ap (climb c.2) {x = 1 + c.0} {y = suc c.0} (omega arith)) (f (suc c.0) c.1 c.2 c.3 c.4))
+
 pub up-all : {A : Type 0} (climb : A → ℕ → A) (merge : A → A → A) (top : A) (L : Layer) (Ls : Net) (a : ℕ) (m : A) (P : A → Type 0) → ((x y : A) → P x → P y → P (merge x y))
     → ((j b : ℕ) (u : A) → target (node L a) j ≡ suc b → get_or (up climb merge top Ls) b None ≡ Some u → P (climb u j)) → get_or (up climb merge top (L ∷ Ls)) a None ≡ Some m → P m
 unfolding up
 up-all climb merge top L Ls a m P keep f e =
     let us = up climb merge top Ls in
-    gather-all merge P keep (climbs_of climb us 1 (node L a)) m
-    (λ x i. let c = outs-from climb us x 1 (node L a) i in rw (c.5, ap (climb c.2) {x = 1 + c.0} {y = suc c.0} (omega arith)) (f (suc c.0) c.1 c.2 c.3 c.4)) (map-some (λ nd. gather merge (climbs_of climb us 1 nd)) L a m e)
+    climbs-all climb merge us L a m P keep f (map-some (λ nd. gather merge (climbs_of climb us 1 nd)) L a m e)

@@ -1,6 +1,7 @@
 pub mod Bridge
 pub mod Counts
 pub mod Flows
+pub mod Lates
 pub mod Main
 pub mod Model
 pub mod Proper
@@ -8,6 +9,7 @@ pub mod Shaped
 pub mod Standing
 pub mod Tidying
 pub mod Tied
+pub mod Ups
 pub mod Walk
 pub mod Ways
 pub mod Wholes

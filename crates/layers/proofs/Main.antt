@@ -18,9 +18,11 @@ use Rattle.layers.specs.Settings.{Setting, setting}
 use Rattle.doors.specs.Orders.{IsDoor, IsPartOrder, StandsIn}
 use Rattle.round.proofs.Clocks.{clock-laws}
 use Rattle.round.specs.Clock.{drive, latest_finish}
-use Rattle.layers.specs.Flow.{end_label, up}
-use Rattle.layers.specs.Labels.{arrival_over, merge, first_labels, labels_next, is_above_ceiling, opening_arcs, all_doors, ups, no_up, bit_of, climb, merge_up, first_label}
-use Rattle.layers.proofs.Flows.{table_at, tidy-keeps, first-only, EvenLayer, next-all, up-all, next-at}
+use Rattle.layers.specs.Flow.{end_label}
+use Rattle.layers.specs.Labels.{arrival_over, merge, first_labels, labels_next, is_above_ceiling, opening_arcs, all_doors, ups, end_up, bit_of, first_label}
+use Rattle.layers.proofs.Flows.{table_at, tidy-keeps, first-only, EvenLayer, next-all, next-at}
+use Rattle.layers.proofs.Lates.{backsweep_keeps, last-minute}
+use Rattle.layers.proofs.Ups.{ups-all}
 use Rattle.layers.proofs.Ways.{trip-snoc, length-snoc, snoc-assoc, or_left, or_right, or_split, one-self, one_only, none_has}
 use Rattle.layers.proofs.Walk.{within, Going, going_next, Told, told-next, At, going-facts, OnWay, way_next, way-fits, filter-keeps, setting-out, sweep-keeps, paths-allowed, bound-attained, Good, path-up, good-first, good-next, Tells, Longer, at_front, at_back, tells-step, tells-left, tells-right}
 use Rattle.layers.proofs.Proper.{part-edited, join-edited}
@@ -126,7 +128,7 @@ module _ {S V : Type 0} {Keeps : List ℕ → Type 0} {Stands : S → List ℕ �
       (filter-keeps by ruled tallied (is_above_ceiling by.round by.tally c) (λ z. by.tally.not_above (cost by.round by.tally z) c ≡ true) stays (first_labels by.rule by.tally) Ls 0 [] w (setting-out by ruled tallied w Ls o even q) u)
     where
       stays : (labs : List (Option (Down S V))) (L : Layer) (Ls : Net) (a j : ℕ) (p w : List ℕ) (o : OnWay by ruled tallied labs (L ∷ Ls) a p (j ∷ w)) → by.tally.not_above (cost by.round by.tally (p ++ (j ∷ w))) c ≡ true
-          → is_above_ceiling by.round by.tally c (length p) (suc (length Ls)) j (get_or labs a None) (get_or (ups Ls) o.path.0 None) ≡ false
+          → is_above_ceiling by.round by.tally c (length p) (suc (length Ls)) j (get_or labs a None) (get_or (ups by (labels_next by labs L (width Ls)) Ls) o.path.0 None) ≡ false
       stays labs L Ls a j p w o u =
           let f = way-fits by ruled tallied labs L Ls a j p w o in
           let on = way_next by ruled tallied labs L Ls a j p w o in
@@ -154,6 +156,7 @@ module _ {S V : Type 0} {Keeps : List ℕ → Type 0} {Stands : S → List ℕ �
     path-kept later = record {
       sweep = λ Ls p q. sweep-keeps by ruled tallied w Ls o p.even q;
       cut = λ c Ls u p q. cut_keeps c w Ls o u p.even q;
+      backsweep = λ Ls p q. backsweep_keeps by ruled tallied w Ls o p.even q;
       part = λ d a Ls x y z p q. (part-edited by w1 ruled.same_self d a (labels_at by d (first_labels by.rule by.tally) Ls) Ls x y z).paths 0 w q;
       join = λ d lo hi Ls a b n p q. (join-edited by.round.n by.width d lo hi Ls a b n).paths 0 w q;
     }
@@ -352,27 +355,28 @@ module _ {S V : Type 0} {Keeps : List ℕ → Type 0} {Stands : S → List ℕ �
         rw (labs-step d (first_labels by.rule by.tally) D h) (good-next by ruled tallied d (LabsAt d D) (get_or D d []) (width (drop (suc d) D)) (omega arith) (good-at tallied k s d (omega arith)) (even-at by.round.n D d s h))
 
 -- ---- upward
-owed-up : (Ls : Net) (a : ℕ) (u : Up) → get_or (ups Ls) a None ≡ Some u → Owed u.allup u.someup (PathFrom Ls a)
-unfolding ups
-owed-up [] a u e =
-    first-only no_up (λ a u. Owed u.allup u.someup (PathFrom [] a)) (record { way = ([], refl); all-if = λ j f. absurd (f [] refl); some-from = λ j g. absurd (none_has j g) }) a u (unfold up in e)
-owed-up (L ∷ Ls) a u e =
-    up-all climb merge_up no_up L Ls a u (λ x. Owed x.allup x.someup (PathFrom (L ∷ Ls) a)) (λ x y p q. owed-merge x.allup x.someup y.allup y.someup (PathFrom (L ∷ Ls) a) p q)
-    (λ j b v f g. owed-step v.allup v.someup j (PathFrom Ls b) (PathFrom (L ∷ Ls) a) (λ w. j ∷ w) (at_front j) (λ w q. (b, f, q)) (owed-up Ls b v g)) e
+module _ {S V : Type 0} (by : Setting S V) where
+  owed-up : (labs : List (Option (Down S V))) (Ls : Net) (a : ℕ) (u : Up) → get_or (ups by labs Ls) a None ≡ Some u → Owed u.allup u.someup (PathFrom Ls a)
+  unfolding ups
+  owed-up labs [] a u e =
+      first-only end_up (λ a u. Owed u.allup u.someup (PathFrom [] a)) (record { way = ([], refl); all-if = λ j f. absurd (f [] refl); some-from = λ j g. absurd (none_has j g) }) a u e
+  owed-up labs (L ∷ Ls) a u e =
+      ups-all by labs L Ls a u (λ x. Owed x.allup x.someup (PathFrom (L ∷ Ls) a)) (λ x y p q. owed-merge x.allup x.someup y.allup y.someup (PathFrom (L ∷ Ls) a) p q)
+      (λ j b v f g. owed-step v.allup v.someup j (PathFrom Ls b) (PathFrom (L ∷ Ls) a) (λ w. j ∷ w) (at_front j) (λ w q. (b, f, q)) (owed-up (labels_next by labs L (width Ls)) Ls b v g)) e
 
-tells-up : (Ls : Net) (a : ℕ) (u : Up) → get_or (ups Ls) a None ≡ Some u → (w : List ℕ) → PathFrom Ls a w → Tells u.allup u.someup w
-tells-up Ls a u e w p =
-    let q = path-up Ls a w p in
-    let x : q.0 ≡ u = cc q.1 in
-    rw (← x) q.2
+  tells-up : (labs : List (Option (Down S V))) (Ls : Net) (a : ℕ) (u : Up) → get_or (ups by labs Ls) a None ≡ Some u → (w : List ℕ) → PathFrom Ls a w → Tells u.allup u.someup w
+  tells-up labs Ls a u e w p =
+      let q = path-up by labs Ls a w p in
+      let x : q.0 ≡ u = cc q.1 in
+      rw (← x) q.2
 
--- the sets of a node, also of one from which no path leads to the end
-pub up-exact : (Ls : Net) (a : ℕ) → let u = or_no_up (get_or (ups Ls) a None) in Exactly u.allup (OnEvery (PathFrom Ls a)) × Exactly u.someup (OnOne (PathFrom Ls a))
-up-exact Ls a = elim (get_or (ups Ls) a None) as (λ o. get_or (ups Ls) a None ≡ o → Exactly (or_no_up o).allup (OnEvery (PathFrom Ls a)) × Exactly (or_no_up o).someup (OnOne (PathFrom Ls a))) [
-  | None ↦ λ e. let no : (w : List ℕ) → PathFrom Ls a w → ⊥ = λ w p. let q = path-up Ls a w p in let z : ◌≡◌ {A = ℕ} 0 1 = cc q.1 in omega arith in
-      (λ j. (λ h. absurd (none_has j (true-has 0 j h)), λ h. absurd (no h.0.0 h.0.1)), λ j. (λ h. absurd (none_has j (true-has 0 j h)), λ h. absurd (no h.0 h.1)))
-  | Some u ↦ λ e. let o = owed-up Ls a u e in let t = tells-up Ls a u e in (all-exact u.allup u.someup (PathFrom Ls a) o t, some-exact u.allup u.someup (PathFrom Ls a) o t)
-] refl
+  -- the sets of a node, also of one from which no path leads to the end
+  pub up-exact : (labs : List (Option (Down S V))) (Ls : Net) (a : ℕ) → let u = or_no_up (get_or (ups by labs Ls) a None) in Exactly u.allup (OnEvery (PathFrom Ls a)) × Exactly u.someup (OnOne (PathFrom Ls a))
+  up-exact labs Ls a = elim (get_or (ups by labs Ls) a None) as (λ o. get_or (ups by labs Ls) a None ≡ o → Exactly (or_no_up o).allup (OnEvery (PathFrom Ls a)) × Exactly (or_no_up o).someup (OnOne (PathFrom Ls a))) [
+    | None ↦ λ e. let no : (w : List ℕ) → PathFrom Ls a w → ⊥ = λ w p. let q = path-up by labs Ls a w p in let z : ◌≡◌ {A = ℕ} 0 1 = cc q.1 in omega arith in
+        (λ j. (λ h. absurd (none_has j (true-has 0 j h)), λ h. absurd (no h.0.0 h.0.1)), λ j. (λ h. absurd (none_has j (true-has 0 j h)), λ h. absurd (no h.0 h.1)))
+    | Some u ↦ λ e. let o = owed-up labs Ls a u e in let t = tells-up labs Ls a u e in (all-exact u.allup u.someup (PathFrom Ls a) o t, some-exact u.allup u.someup (PathFrom Ls a) o t)
+  ] refl
 
 module _ {S V : Type 0} {Keeps : List ℕ → Type 0} {Stands : S → List ℕ → Type 0} (by : Setting S V) (ruled : RuleLaws by.round.n by.rule Keeps Stands) (w1 : 1 ≤ by.width) where
   -- a record that stands in the first of these layers has the labels worked out
@@ -381,7 +385,7 @@ module _ {S V : Type 0} {Keeps : List ℕ → Type 0} {Stands : S → List ℕ �
     label : Down S V
     labelled : get_or labs a None ≡ Some label
     down : x.label.down ≡ label
-    up : x.label.up ≡ or_no_up (get_or (ups Ls) a None)
+    up : x.label.up ≡ or_no_up (get_or (ups by labs Ls) a None)
 
   top-at : (labs : Labs by w1) (Ls : Net) (a : ℕ) (other : Node S V) → Full by w1 labs Ls → a < length (top by w1 labs Ls)
       → Stands-at labs Ls a (get_or (top by w1 labs Ls) a other)
@@ -390,10 +394,10 @@ module _ {S V : Type 0} {Keeps : List ℕ → Type 0} {Stands : S → List ℕ �
     | Some l ↦ λ e.
         let s = end-top by w1 labs l e (f 0 l e) in
         let z : a ≡ 0 = omega (arith, ap (λ (N : List (Node S V)). length N) s) in
-        rw (s, z) (record { inner = omega arith; label = l; labelled = e; down = refl; up = unfold ups up in refl })
+        rw (s, z) (record { inner = omega arith; label = l; labelled = e; down = refl; up = unfold ups in refl })
   ] refl
   top-at labs (L ∷ Ls) a other f h =
-      let F = record_of_place by L labs (ups (L ∷ Ls)) in
+      let F = record_of_place by L labs (ups by labs (L ∷ Ls)) in
       let k : a < length L = omega (arith, table-long (length L) F) in
       let x = f.0.filled.there a k in
       let e = table_at (length L) a F other k in
@@ -412,13 +416,13 @@ module _ {S V : Type 0} {Keeps : List ℕ → Type 0} {Stands : S → List ℕ �
   module _ {Allows : ℕ → V → Type 0} (tallied : TallyLaws by.round.n by.tally Allows) where
     -- on the arcs
     labelled : (D : Net) → IsLawful by.round.n by.width D → (i a : ℕ) (x : Node S V) → i ≤ length D
-        → Stands-at (labels_at by i (first_labels by.rule by.tally) D) (drop i D) a x → Labelled Allows D i a x
+        → Stands-at (labels_at by i (first_labels by.rule by.tally) D) (drop i D) a x → Labelled by.round Allows D i a x
     labelled D p i a x h s =
         let o = owed-at by ruled w1 D i h a s.label s.labelled in
         let t : (w : List ℕ) → LeadsTo D i a w → Tells s.label.all s.label.some w =
         λ w q. let y = tells_at by ruled w1 D p.tied i h a w q in let e : y.0 ≡ s.label = cc (y.1, s.labelled) in rw (← e) y.2 in
         let g : Allows i s.label.value × (s.label.finish ≤ latest_finish i) = unfold Good in good-at by ruled w1 D tallied (omega (arith, p.deep, by.round.most)) p.even i h a s.label s.labelled in
-        let u = up-exact (drop i D) a in
+        let u = up-exact by (labels_at by i (first_labels by.rule by.tally) D) (drop i D) a in
         record {
           reached = o.way;
           leads = λ lo. leads-at D i a p.tied lo h s.inner;
@@ -427,12 +431,13 @@ module _ {S V : Type 0} {Keeps : List ℕ → Type 0} {Stands : S → List ℕ �
           allup = rw s.up u.0;
           someup = rw s.up u.1;
           finish = rw s.down g.1;
+          late = rw s.up (last-minute by D p i a h);
           value = rw s.down g.0;
         }
 
     -- on the records
     labelled-X : (later : List (Node S V)) (D : Net) → IsLawful by.round.n by.width D → (i a : ℕ) (other : Node S V) → i ≤ by.round.n
-        → let Y = X by w1 later D in a < length (layer by.round.n by.width i Y) → Labelled Allows (arcs by.round.n by.width Y) i a (get_or (layer by.round.n by.width i Y) a other)
+        → let Y = X by w1 later D in a < length (layer by.round.n by.width i Y) → Labelled by.round Allows (arcs by.round.n by.width Y) i a (get_or (layer by.round.n by.width i Y) a other)
     labelled-X later D p i a other h k =
         let labs = labels_at by i (first_labels by.rule by.tally) D in
         let h' : i ≤ length D = omega (arith, p.deep) in

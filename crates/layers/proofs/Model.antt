@@ -8,7 +8,7 @@ use Rattle.layers.specs.Flow.{end_label}
 use Rattle.layers.specs.Tidy.{tidied_arcs}
 use Rattle.layers.specs.Calls.{LayerLabels, kept_arcs, keeps_all_arcs, arrivals, parted_arcs, in_arcs_agree}
 use Rattle.round.specs.Clock.{finish}
-use Rattle.layers.specs.Labels.{leg, is_barred, is_above_ceiling, ups, no_up, first_labels, blank_label, arrival_over, merge, labels_next, all_agree, first_arrival, differs_from_first}
+use Rattle.layers.specs.Labels.{leg, is_barred, is_above_ceiling, is_past_late, ups, no_up, first_labels, blank_label, arrival_over, merge, labels_next, all_agree, first_arrival, differs_from_first}
 use Rattle.layers.specs.Settings.{Setting}
 use Rattle.layers.specs.declared.node.Down.{Down}
 
@@ -23,7 +23,7 @@ module _ {S V : Type 0} (by : Setting S V) where
   -- the labels at each layer of arcs, worked out downward from labs and upward from the end
   abbrev pub labels_from : List (Option (Down S V)) → Net → List (LayerLabels S V)
   labels_from labs [] = []
-  labels_from labs (L ∷ Ls) = record { downs = labs; ups = ups Ls } ∷ labels_from (labels_next by labs L (width Ls)) Ls
+  labels_from labs (L ∷ Ls) = let labs' = labels_next by labs L (width Ls) in record { downs = labs; ups = ups by labs' Ls } ∷ labels_from labs' Ls
 
   -- those of layer d
   abbrev pub labels_at : ℕ → List (Option (Down S V)) → Net → List (Option (Down S V))
@@ -48,6 +48,13 @@ module _ {S V : Type 0} (by : Setting S V) where
   unfoldable pub cut : V → Net → Net
   unfolding kept_arcs leg finish tidied_arcs
   cut c Ls = tidied_arcs (cuts c 0 (first_labels by.rule by.tally) Ls)
+
+  abbrev pub backsweeps : ℕ → List (Option (Down S V)) → Net → Net
+  backsweeps = kept (is_past_late by.round)
+
+  unfoldable pub backsweep : Net → Net
+  unfolding kept_arcs leg finish tidied_arcs
+  backsweep Ls = tidied_arcs (backsweeps 0 (first_labels by.rule by.tally) Ls)
 
   -- d is the layer less one, a the place of the node
   abbrev pub part_at : ℕ → ℕ → List (Option (Down S V)) → Net → Net

@@ -8,8 +8,8 @@ use Rattle.round.specs.declared.table.Round.{Round}
 use Rattle.layers.specs.declared.node.Node.{Node}
 use Rattle.layers.specs.Net.{table, Outs, Layer, Net, node, target, width, count_doors, count_layer}
 use Rattle.layers.specs.Lawful.{IsEven, IsLawful, IsRoomy, IsTied}
-use Rattle.layers.specs.Labels.{first_labels, labels_next, no_up, leg, ups, first_label, arrival_over, merge}
-use Rattle.layers.specs.Records.{nodes_in, layers, arcs_in, arcs_of_layers, arcs_at, laid_arcs, arcs_read, record_of_place, labelled_from, labelled_records}
+use Rattle.layers.specs.Labels.{first_labels, labels_next, end_up, leg, ups, first_label, arrival_over, merge}
+use Rattle.layers.specs.Records.{end_ups, nodes_in, layers, arcs_in, arcs_of_layers, arcs_at, laid_arcs, arcs_read, record_of_place, labelled_from, labelled_records}
 use Rattle.layers.specs.Calls.{arcs, layer, records_with, bound, value_in}
 use Rattle.layers.specs.Shape.{targets_of, HasEnd, IsShaped, IsTimely}
 use Rattle.layers.proofs.Flows.{within, EvenLayer, next-all, first-only}
@@ -150,8 +150,8 @@ module _ {S V : Type 0} (by : Setting S V) (w : 1 ≤ by.width) where
   end-stands labs (L ∷ []) zero d t f a j b e =
       let z : b ≡ 0 = omega (arith, t a j b e) in
       let E = top by w (labels_next by labs L 1) [] in
-      let lo = within (map (λ (x : Node S V). Some x.label.up) E) b no_up (f.0.tops a j b e ∙ ups-end b z) in
-      let hi = standing-short (record_of_place by [] (labels_next by labs L 1) [] 0 ∷ []) in
+      let lo = within (map (λ (x : Node S V). Some x.label.up) E) b end_up (f.0.tops a j b e ∙ ups-end by (labels_next by labs L 1) b z) in
+      let hi = standing-short (record_of_place by [] (labels_next by labs L 1) (end_ups by (labels_next by labs L 1)) 0 ∷ []) in
       omega (arith, length-map E (λ (x : Node S V). Some x.label.up))
   end-stands labs (L ∷ M ∷ Ls) (suc k) d t f a j b e = end-stands (labels_next by labs L (length M)) (M ∷ Ls) k (omega arith) t.3 f.1 a j b e
   end-stands labs Ls k d t f a j b e = absurd (omega arith)
@@ -226,7 +226,7 @@ module _ {S V : Type 0} (by : Setting S V) where
   unfolding labelled_from
   laid-early i labs [] later h soon = rw (zero-mul by.width) tt
   laid-early i labs (L ∷ Ls) later h soon =
-      let f = record_of_place by L labs (ups (L ∷ Ls)) in
+      let f = record_of_place by L labs (ups by labs (L ∷ Ls)) in
       let X = labelled_from by (labels_next by labs L (width Ls)) Ls in
       let m = length Ls * by.width in
       let both : suc (length Ls) * by.width ≡ by.width + m = omega (arith, suc-mul (length Ls) by.width) in

@@ -9,18 +9,18 @@ use Rattle.layers.specs.declared.node.Up.{Up}
 use Rattle.layers.specs.Net.{table, Net, node, width, count_arcs}
 use Rattle.layers.specs.Tidy.{tidied_arcs}
 use Rattle.layers.specs.Join.{clash, joined_arcs}
-use Rattle.layers.specs.Labels.{is_barred, is_above_ceiling, first_labels, labels_next, ups, opening_arcs}
+use Rattle.layers.specs.Labels.{is_barred, is_above_ceiling, is_past_late, first_labels, labels_next, ups, opening_arcs}
 use Rattle.layers.specs.Records.{layers, arcs_in, downs_in, arcs_read, laid_arcs, record_of_place, labelled_from, labelled_records}
 use Rattle.layers.specs.declared.call.Call.{Call}
-use Rattle.layers.specs.declared.call.Call.TheVariants.{Sweep, Part, Join, Cut, Refine}
-use Rattle.layers.specs.Calls.{EachCut, kept_arcs, nodes, arcs, labels, layer, records_with, after_open, arcs_lost, after_sweep, sweep_answer, after_cut, count_of, part_answer, parted_records, after_part, join_answer, after_join, parts_of_layer, refinement_from, after_sweeps, refinement, after_call, after_calls, bound, is_settled, in_arcs_agree, value_in, one_group as oneGroupIn}
-use Rattle.layers.proofs.Model.{kept, sweep, cut, one_group, part_at, agrees, settles, bound as boundOf, settled as settled_of, labels_at}
+use Rattle.layers.specs.declared.call.Call.TheVariants.{Sweep, Part, Join, Cut, Refine, Backsweep}
+use Rattle.layers.specs.Calls.{EachCut, kept_arcs, nodes, arcs, labels, layer, records_with, after_open, arcs_lost, after_sweep, sweep_answer, after_cut, after_backsweep, count_of, part_answer, parted_records, after_part, join_answer, after_join, parts_of_layer, refinement_from, after_sweeps, refinement, after_call, after_calls, bound, is_settled, in_arcs_agree, value_in, one_group as oneGroupIn}
+use Rattle.layers.proofs.Model.{kept, sweep, cut, backsweep, one_group, part_at, agrees, settles, bound as boundOf, settled as settled_of, labels_at}
 use Rattle.layers.proofs.Counts.{kept-same, sweep-fewer, settled-yes, settled-if}
 use Rattle.layers.proofs.Bridge.{Full, stood, map-table, full-first, layers-laid, drawn-stood, kept-stood, agrees-stood, stood-at, value-stood, laid-long, later-stays}
 use Rattle.layers.proofs.Proper.{proper-opened, proper-kept, proper-parted-at, proper-join}
 use Rattle.layers.specs.Settings.{Setting}
 
--- ---- what sweep, part, join and cut each keep, every list of calls keeps
+-- ---- what sweep, part, join, cut and backsweep each keep, every list of calls keeps
 module _ {S V : Type 0} (by : Setting S V) where
   abbrev pub Recs : Type 0
   Recs = List (Node S V)
@@ -29,6 +29,7 @@ module _ {S V : Type 0} (by : Setting S V) where
   pub record KeptBySteps (P : Recs → Type 0) (Q : V → Type 0) : Type 0 where
     pub sweep : (xs : Recs) → P xs → P (after_sweep by xs)
     pub cut : (c : V) (xs : Recs) → Q c → P xs → P (after_cut by c xs)
+    pub backsweep : (xs : Recs) → P xs → P (after_backsweep by xs)
     pub part : (i a : ℕ) (xs : Recs) → 1 ≤ i → i < by.round.n → 1 ≤ a → a ≤ count_of by i xs → oneGroupIn by i a xs ≡ false → count_of by i xs < by.width → P xs → P (parted_records by i a xs)
     pub join : (i lo hi : ℕ) (xs : Recs) → 1 ≤ i → i < by.round.n → lo < hi → hi < count_of by i xs
         → let D = arcs by.round.n by.width xs in clash (node (get_or D i []) lo) (node (get_or D i []) hi) ≡ false → P xs → P (records_with by xs (joined_arcs (i - 1) lo hi D))
@@ -73,6 +74,7 @@ module _ {S V : Type 0} (by : Setting S V) where
     kept-calls (Join i a b ∷ cs) xs u p = kept-calls cs (after_join by i a b xs) u (kept-join i a b xs p)
     kept-calls (Cut c ∷ cs) xs u p = kept-calls cs (after_cut by c xs) u.1 (k.cut c xs u.0 p)
     kept-calls (Refine ∷ cs) xs u p = kept-calls cs (refinement by xs).1 u (kept-refine xs p)
+    kept-calls (Backsweep ∷ cs) xs u p = kept-calls cs (after_backsweep by xs) u (k.backsweep xs p)
 
 any-cut : {V : Type 0} (cs : List (Call V)) → EachCut (λ c. Unit {0}) cs
 any-cut [] = tt
@@ -107,7 +109,7 @@ module _ {S V : Type 0} (by : Setting S V) (w : 1 ≤ by.width) (later : List (N
   unfolding labelled_from
   written_from labs [] = refl
   written_from labs (L ∷ Ls) =
-      let here = record_of_place by L labs (ups (L ∷ Ls)) in
+      let here = record_of_place by L labs (ups by labs (L ∷ Ls)) in
       map-append (λ (x : Node S V). x.arcs) (table by.width here) _ ∙ ap₂ (λ xs ys. xs ++ ys) (map-table (λ (x : Node S V). x.arcs) by.width here) (written_from (labels_next by labs L (width Ls)) Ls)
 
   pub written : (Ls : Net) → Well Ls → arcs_read (take (by.round.n * by.width + 1) (X Ls)) ≡ laid_arcs by.width (arcs by.round.n by.width (X Ls))
@@ -136,6 +138,10 @@ module _ {S V : Type 0} (by : Setting S V) (w : 1 ≤ by.width) (later : List (N
   cut-X : (c : V) (Ls : Net) → Well Ls → after_cut by c (X Ls) ≡ X (cut by c Ls)
   unfolding after_cut cut
   cut-X c = filtered-X (is_above_ceiling by.round by.tally c)
+
+  backswept-X : (Ls : Net) → Well Ls → after_backsweep by (X Ls) ≡ X (backsweep by Ls)
+  unfolding after_backsweep backsweep
+  backswept-X = filtered-X (is_past_late by.round)
 
   -- layer d
   pub at-X : (d : ℕ) (Ls : Net) (p : Well Ls) → d < by.round.n → (downs_in (layer by.round.n by.width d (X Ls)) ≡ labels_at by d first Ls) × (arcs_in by.round.n (layer by.round.n by.width d (X Ls)) ≡ get_or Ls d []) × (count_of by d (X Ls) ≡ length (get_or Ls d []))
@@ -203,6 +209,7 @@ module _ {S V : Type 0} (by : Setting S V) (w : 1 ≤ by.width) (later : List (N
   pub record KeptOnArcs (P : Net → Type 0) (Q : V → Type 0) : Type 0 where
     pub sweep : (Ls : Net) → Well Ls → P Ls → P (sweep by Ls)
     pub cut : (c : V) (Ls : Net) → Q c → Well Ls → P Ls → P (cut by c Ls)
+    pub backsweep : (Ls : Net) → Well Ls → P Ls → P (backsweep by Ls)
     pub part : (d a : ℕ) (Ls : Net) → a < length (get_or Ls (suc d) []) → length (get_or Ls (suc d) []) < by.width → one_group by d a first Ls ≡ false → Well Ls → P Ls → P (part_at by d a first Ls)
     pub join : (d lo hi : ℕ) (Ls : Net) → lo < hi → hi < length (get_or Ls (suc d) []) → clash (node (get_or Ls (suc d) []) lo) (node (get_or Ls (suc d) []) hi) ≡ false → Well Ls → P Ls → P (joined_arcs d lo hi Ls)
 
@@ -213,6 +220,14 @@ module _ {S V : Type 0} (by : Setting S V) (w : 1 ≤ by.width) (later : List (N
       well = unfold cut in proper-kept by w (is_above_ceiling by.round by.tally c) r.net _ r.well;
       is = ap (after_cut by c) r.is ∙ cut-X c r.net r.well;
       holds = k.cut c r.net u r.well r.holds;
+    }
+
+    reached-backsweep : (xs : List (Node S V)) → Reached P xs → Reached P (after_backsweep by xs)
+    reached-backsweep xs r = record {
+      net = backsweep by r.net;
+      well = unfold backsweep in proper-kept by w (is_past_late by.round) r.net _ r.well;
+      is = ap (after_backsweep by) r.is ∙ backswept-X r.net r.well;
+      holds = k.backsweep r.net r.well r.holds;
     }
 
     reached-join : (i lo hi : ℕ) (xs : List (Node S V)) → 1 ≤ i → i < by.round.n → lo < hi → hi < count_of by i xs
@@ -234,6 +249,7 @@ module _ {S V : Type 0} (by : Setting S V) (w : 1 ≤ by.width) (later : List (N
     steps = record {
       sweep = λ xs r. reached-sweep P xs r (k.sweep r.net r.well r.holds);
       cut = reached-cut;
+      backsweep = reached-backsweep;
       part = λ i a xs lo hi one inn e room r.
           let m = count-of P xs r i (i - 1) (omega arith) hi in
           reached-part self P i a (i - 1) (a - 1) xs (omega arith) (omega arith) hi inn e room r
@@ -251,7 +267,7 @@ module _ {S V : Type 0} (by : Setting S V) (w : 1 ≤ by.width) (later : List (N
 
   -- of which nothing else is said
   pub plain : KeptOnArcs (λ Ls. Unit {0}) (λ c. Unit {0})
-  plain = record { sweep = λ Ls p h. tt; cut = λ c Ls u p h. tt; part = λ d a Ls x y z p h. tt; join = λ d lo hi Ls x y z p h. tt }
+  plain = record { sweep = λ Ls p h. tt; cut = λ c Ls u p h. tt; backsweep = λ Ls p h. tt; part = λ d a Ls x y z p h. tt; join = λ d lo hi Ls x y z p h. tt }
 
 -- opening, and whatever is called then
 module _ {S V : Type 0} (by : Setting S V) (w : 1 ≤ by.width) (lent : List (Node S V)) where

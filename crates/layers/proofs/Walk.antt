@@ -18,10 +18,11 @@ use Rattle.orders.specs.Times.{van_after, finish_of, KeepsHours}
 use Rattle.layers.specs.Lawful.{IsEven}
 use Rattle.layers.specs.declared.node.Up.{Up}
 use Rattle.layers.specs.Net.{Outs, Layer, Net, node, target, width, PathFrom, every_door, every_arc}
-use Rattle.layers.specs.Flow.{arrivals_at, up, end_label, gather}
-use Rattle.layers.specs.Labels.{bit_of, leg, climb, merge_up, no_up, ups, first_label, arrival_over, merge, first_labels, labels_next, is_barred, all_agree, agree, agrees_with_all}
-use Rattle.layers.proofs.Flows.{EvenLayer, redirect-arc, inside, has-arc, next-at, up_at, tidy-keeps, next-all, first-only, Among, ins-in, ins-from, next-some, next-within, gather-all}
+use Rattle.layers.specs.Flow.{arrivals_at, end_label, gather}
+use Rattle.layers.specs.Labels.{bit_of, leg, end_up, ups, first_label, arrival_over, merge, first_labels, labels_next, is_barred, all_agree, agree, agrees_with_all}
+use Rattle.layers.proofs.Flows.{EvenLayer, redirect-arc, inside, has-arc, next-at, tidy-keeps, next-all, first-only, Among, ins-in, ins-from, next-some, next-within, gather-all}
 use Rattle.layers.proofs.Ways.{or_left, or_right, or_split, and_left, and_right, one-self, one_only, none_has, ones_in, part-tail, trip-snoc, van-snoc, length-snoc, snoc-assoc, TimelyFrom, timely-from, leg-le, leg-bound, state-snoc, leg-one}
+use Rattle.layers.proofs.Ups.{ups-at}
 use Rattle.layers.proofs.Model.{kept, sweeps, sweep, agrees, quiet, settles, settled, bound, valueO}
 use Rattle.layers.specs.Settings.{Setting}
 use Rattle.layers.specs.declared.node.Down.{Down}
@@ -157,14 +158,14 @@ module _ {S V : Type 0} {Keeps : List ℕ → Type 0} {Stands : S → List ℕ �
   At labs a p = (l : Down S V) × (get_or labs a None ≡ Some l) × Fits l p
 
 -- ---- upward
-pub path-up : (Ls : Net) (a : ℕ) (w : List ℕ) → PathFrom Ls a w → (u : Up) × (get_or (ups Ls) a None ≡ Some u) × Tells u.allup u.someup w
+pub path-up : {S V : Type 0} (by : Setting S V) (labs : List (Option (Down S V))) (Ls : Net) (a : ℕ) (w : List ℕ) → PathFrom Ls a w → (u : Up) × (get_or (ups by labs Ls) a None ≡ Some u) × Tells u.allup u.someup w
 unfolding ups
-path-up [] a [] p = unfold up in (no_up, ap (λ (x : ℕ). get_or {A = Option Up} (Some no_up ∷ []) x None) p, record { all_in = λ j h. absurd (none_has j h); in_some = λ j i. absurd i })
-path-up (L ∷ Ls) a (j ∷ w) p =
-    let x = path-up Ls p.0 w p.2 in
-    up_at {A = Up} merge_up (λ x. Tells x.allup x.someup (j ∷ w)) (λ x y. tells-left x.allup x.someup y.allup y.someup (j ∷ w)) (λ x y. tells-right x.allup x.someup y.allup y.someup (j ∷ w))
-    climb no_up L Ls a j p.0 x.0 p.1 x.1 (tells-step x.0.allup x.0.someup j (λ w. j ∷ w) w (at_front j) x.2)
-path-up Ls a w p = absurd p
+path-up by labs [] a [] p = (end_up, ap (λ (x : ℕ). get_or {A = Option Up} (Some end_up ∷ []) x None) p, record { all_in = λ j h. absurd (none_has j h); in_some = λ j i. absurd i })
+path-up by labs (L ∷ Ls) a (j ∷ w) p =
+    let x = path-up by (labels_next by labs L (width Ls)) Ls p.0 w p.2 in
+    ups-at by labs L Ls (λ x. Tells x.allup x.someup (j ∷ w)) (λ x y. tells-left x.allup x.someup y.allup y.someup (j ∷ w)) (λ x y. tells-right x.allup x.someup y.allup y.someup (j ∷ w))
+    a j p.0 x.0 p.1 x.1 (tells-step x.0.allup x.0.someup j (λ w. j ∷ w) w (at_front j) x.2)
+path-up by labs Ls a w p = absurd p
 
 pub path-length : (Ls : Net) (a : ℕ) (w : List ℕ) → PathFrom Ls a w → length w ≡ length Ls
 path-length [] a [] p = refl
@@ -233,14 +234,14 @@ module _ {S V : Type 0} {Keeps : List ℕ → Type 0} {Stands : S → List ℕ �
 
   -- a filter that takes out none of its arcs keeps the order
   pub filter-keeps : (goes : ℕ → ℕ → ℕ → Option (Down S V) → Option Up → Bool) (Q : List ℕ → Type 0)
-      → ((labs : List (Option (Down S V))) (L : Layer) (Ls : Net) (a j : ℕ) (p w : List ℕ) (o : OnWay labs (L ∷ Ls) a p (j ∷ w)) → Q (p ++ (j ∷ w)) → goes (length p) (suc (length Ls)) j (get_or labs a None) (get_or (ups Ls) o.path.0 None) ≡ false)
+      → ((labs : List (Option (Down S V))) (L : Layer) (Ls : Net) (a j : ℕ) (p w : List ℕ) (o : OnWay labs (L ∷ Ls) a p (j ∷ w)) → Q (p ++ (j ∷ w)) → goes (length p) (suc (length Ls)) j (get_or labs a None) (get_or (ups by (labels_next by labs L (width Ls)) Ls) o.path.0 None) ≡ false)
       → (labs : List (Option (Down S V))) (Ls : Net) (a : ℕ) (p w : List ℕ) → OnWay labs Ls a p w → Q (p ++ w) → PathFrom (kept by goes (length p) labs Ls) a w
   unfolding kept_arcs
   filter-keeps goes Q stays labs [] a p [] o u = o.path
   filter-keeps goes Q stays labs (L ∷ Ls) a p (j ∷ w) o u =
       let q = o.path in (
         q.0,
-        redirect-arc (λ a j b. cond (goes (length p) (suc (length Ls)) j (get_or labs a None) (get_or (ups Ls) b None)) 0 (suc b)) L a j q.0 q.1 ∙ ap (λ (z : Bool). cond z 0 (suc q.0)) (stays labs L Ls a j p w o u),
+        redirect-arc (λ a j b. cond (goes (length p) (suc (length Ls)) j (get_or labs a None) (get_or (ups by (labels_next by labs L (width Ls)) Ls) b None)) 0 (suc b)) L a j q.0 q.1 ∙ ap (λ (z : Bool). cond z 0 (suc q.0)) (stays labs L Ls a j p w o u),
         rw (← (length-snoc p j)) (filter-keeps goes Q stays (labels_next by labs L (width Ls)) Ls q.0 (p ++ (j ∷ [])) w (way_next labs L Ls a j p w o) (rw (snoc-assoc p w j) u)),
       )
   filter-keeps goes Q stays labs Ls a p w o u = absurd o.path
@@ -258,9 +259,9 @@ module _ {S V : Type 0} {Keeps : List ℕ → Type 0} {Stands : S → List ℕ �
   sweep-keeps w Ls o even q = tidy-keeps (sweeps by 0 (first_labels by.rule by.tally) Ls) w
       (filter-keeps (is_barred by.round by.rule) (λ z. Unit {0}) stays (first_labels by.rule by.tally) Ls 0 [] w (setting-out w Ls o even q) tt)
     where
-      stays : (labs : List (Option (Down S V))) (L : Layer) (Ls : Net) (a j : ℕ) (p w : List ℕ) (o : OnWay labs (L ∷ Ls) a p (j ∷ w)) → Unit {0} → is_barred by.round by.rule (length p) (suc (length Ls)) j (get_or labs a None) (get_or (ups Ls) o.path.0 None) ≡ false
+      stays : (labs : List (Option (Down S V))) (L : Layer) (Ls : Net) (a j : ℕ) (p w : List ℕ) (o : OnWay labs (L ∷ Ls) a p (j ∷ w)) → Unit {0} → is_barred by.round by.rule (length p) (suc (length Ls)) j (get_or labs a None) (get_or (ups by (labels_next by labs L (width Ls)) Ls) o.path.0 None) ≡ false
       stays labs L Ls a j p w o u =
-          let x = path-up Ls o.path.0 w o.path.2 in
+          let x = path-up by (labels_next by labs L (width Ls)) Ls o.path.0 w o.path.2 in
           let f = way-fits labs L Ls a j p w o in
           rw (f.1, x.1, ← path-length Ls o.path.0 w o.path.2) (not-barred p w j f.0 x.0 o.going o.told f.2 f.3 x.2)
 
@@ -392,7 +393,7 @@ module _ {S V : Type 0} {Keeps : List ℕ → Type 0} {Stands : S → List ℕ �
       → target (node L a) j ≡ suc b → get_or labs a None ≡ Some l → Clear l j
   unfolding settles keeps_all_arcs
   settles-arc i labs L Ls a j b l s e g =
-      let t = every_arc-at (λ a j b. not (is_barred by.round by.rule i (suc (length Ls)) j (get_or labs a None) (get_or (ups Ls) b None))) 0 L a a j b (omega arith)
+      let t = every_arc-at (λ a j b. not (is_barred by.round by.rule i (suc (length Ls)) j (get_or labs a None) (get_or (ups by (labels_next by labs L (width Ls)) Ls) b None))) 0 L a a j b (omega arith)
       (and_parts _ _ (and_parts (agrees by labs (L ∷ Ls)) (quiet by i labs (L ∷ Ls)) s).1).0 e in
       grind (arith, nat_tests, g, t)
 

@@ -14,6 +14,7 @@ use Rattle.orders.specs.Costs.{next_trip, trip_after}
 use Rattle.orders.specs.Times.{yard, next_van, van_after, KeepsHours}
 use Rattle.orders.specs.declared.van.Van.{Van}
 use Rattle.layers.specs.Labels.{bit_of, leg_step, leg}
+use Rattle.layers.specs.LabelLaws.{KeepsHoursFrom}
 use lib.Bits.{bit_and, bit_or}
 use lib.Count.{ones}
 use Rattle.doors.proofs.Sets.{digit_and, digit-one, digit-other, has-none, has_left, has_right, has_either, has-true, true-has, length-within}
@@ -68,8 +69,7 @@ state-snoc rule p j = fold_push rule.step rule.start p j
 
 -- going on through w from the van a, no door finishes after it closes
 abbrev pub TimelyFrom : Round → Van → List ℕ → Type 0
-TimelyFrom r a [] = Unit {0}
-TimelyFrom r a (j ∷ w) = ((next_van r a j).finish ≤ (door r j).closes) × TimelyFrom r (next_van r a j) w
+TimelyFrom = KeepsHoursFrom
 
 pub timely-from : (r : Round) (p w : List ℕ) → KeepsHours r (p ++ w) → TimelyFrom r (van_after r p) w
 timely-from r p [] h = tt

@@ -87,7 +87,7 @@ module _ {S V : Type 0} (by : Setting S V) where
   sub-sweeps i labs [] = tt
   sub-sweeps i labs (L ∷ Ls) = (
     λ b. b,
-    kept-back (λ a j b. is_barred by.round by.rule i (suc (length Ls)) j (get_or labs a None) (get_or (ups Ls) b None)) L,
+    kept-back (λ a j b. is_barred by.round by.rule i (suc (length Ls)) j (get_or labs a None) (get_or (ups by (labels_next by labs L (width Ls)) Ls) b None)) L,
     sub-sweeps (suc i) (labels_next by labs L (width Ls)) Ls,
   )
 

@@ -4,7 +4,7 @@ use Rattle.std.specs.Prelude.{ℕ, zero, suc, ◌+◌, ◌-◌, ◌*◌, min, ma
 use Rattle.layers.specs.declared.call.Answer.TheVariants as answer
 use Rattle.layers.specs.declared.call.Answer as calls
 use Rattle.layers.specs.declared.call.Call.{Call}
-use Rattle.layers.specs.declared.call.Call.TheVariants.{Sweep, Part, Join, Cut, Refine}
+use Rattle.layers.specs.declared.call.Call.TheVariants.{Sweep, Part, Join, Cut, Refine, Backsweep}
 use Rattle.layers.specs.declared.node.Node.{Node}
 use Rattle.layers.specs.declared.node.Down.{Down}
 use Rattle.layers.specs.declared.node.Up.{Up}
@@ -19,7 +19,7 @@ use Rattle.layers.specs.Join.{clash, joined_arcs}
 use Rattle.layers.specs.Settings.{Setting}
 use Rattle.std.specs.Int.Count.{ones}
 use Rattle.round.specs.Clock.{finish}
-use Rattle.layers.specs.Labels.{leg, arrival_over, opening_arcs, is_barred, is_above_ceiling, agree, all_agree, first_arrival, differs_from_first}
+use Rattle.layers.specs.Labels.{leg, arrival_over, opening_arcs, is_barred, is_above_ceiling, is_past_late, agree, all_agree, first_arrival, differs_from_first}
 use Rattle.layers.specs.Records.{layers, arcs_in, downs_in, ups_in, arcs_of_layers, labelled_records}
 
 -- Q holds of each ceiling that the calls cut at
@@ -30,6 +30,7 @@ EachCut Q (Part i a ∷ cs) = EachCut Q cs
 EachCut Q (Join i a b ∷ cs) = EachCut Q cs
 EachCut Q (Cut c ∷ cs) = Q c × EachCut Q cs
 EachCut Q (Refine ∷ cs) = EachCut Q cs
+EachCut Q (Backsweep ∷ cs) = EachCut Q cs
 
 -- the labels at a layer of arcs: those of its nodes, and the upward ones of the nodes that the arcs lead to
 pub record LayerLabels (S V : Type 0) : Type 0 where
@@ -181,6 +182,15 @@ module _ {S V : Type 0} (by : Setting S V) where
   abbrev pub cut_answer : V → Recs → ℕ
   cut_answer c xs = arcs_lost by.round.n by.width xs (after_cut c xs)
 
+  -- backsweep
+  unfoldable pub after_backsweep : Recs → Recs
+  unfolding records_with tidied_arcs kept_arcs leg finish
+  after_backsweep xs = records_with xs (tidied_arcs (kept_arcs (is_past_late by.round) 0 (arcs by.round.n by.width xs) (labels by.round.n by.width xs)))
+
+  -- how many arcs it took out
+  abbrev pub backsweep_answer : Recs → ℕ
+  backsweep_answer xs = arcs_lost by.round.n by.width xs (after_backsweep xs)
+
   -- how many nodes layer i has
   abbrev pub count_of : ℕ → Recs → ℕ
   count_of i xs = length (layer by.round.n by.width i xs)
@@ -286,21 +296,23 @@ module _ {S V : Type 0} (by : Setting S V) where
   -- ---- a list of calls
   -- what a call leaves of the records
   unfoldable pub after_call : Call V → Recs → Recs
-  unfolding after_sweep after_part after_join after_cut refinement
+  unfolding after_sweep after_part after_join after_cut after_backsweep refinement
   after_call Sweep xs = after_sweep xs
   after_call (Part i a) xs = after_part i a xs
   after_call (Join i a b) xs = after_join i a b xs
   after_call (Cut c) xs = after_cut c xs
   after_call Refine xs = after_refine xs
+  after_call Backsweep xs = after_backsweep xs
 
   -- what it answers
   unfoldable pub answer_of : Call V → Recs → calls.Answer
-  unfolding after_sweep part_answer join_answer after_cut refinement arcs_lost
+  unfolding after_sweep part_answer join_answer after_cut after_backsweep refinement arcs_lost
   answer_of Sweep xs = answer.Removed (sweep_answer xs)
   answer_of (Part i a) xs = answer.Done (part_answer i a xs)
   answer_of (Join i a b) xs = answer.Done (join_answer i a b xs)
   answer_of (Cut c) xs = answer.Removed (cut_answer c xs)
   answer_of Refine xs = answer.Refined (refine_answer xs)
+  answer_of Backsweep xs = answer.Removed (backsweep_answer xs)
 
   -- call after call
   abbrev pub after_calls : List (Call V) → Recs → Recs

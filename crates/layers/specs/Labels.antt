@@ -1,5 +1,6 @@
 -- Labels: what each arc brings to its target, and what a node gathers.
-use Rattle.std.specs.Prelude.{ℕ, suc, ◌+◌, ◌^◌, min, Bool, true, false, if◌then◌else◌, not, ◌&&◌, ◌||◌, List, [], ◌∷◌, Some, None, fold, Option, unwrap_or, ◌==◌, bit_and, bit_or, count_ones, nat_lt}
+use Rattle.std.specs.Prelude.{ℕ, suc, ◌+◌, ◌^◌, min, Bool, true, false, if◌then◌else◌, not, ◌&&◌, ◌||◌, List, [], ◌∷◌, length, Some, None, fold, Option, unwrap_or, ◌==◌, bit_and, bit_or, count_ones, nat_lt, ℤ, pos, negsuc, ◌-ℤ◌, int_lt, slice_index_or}
+use Rattle.std.specs.Int.{int_max, int_min}
 use Rattle.std.specs.List.{range_with_len}
 use Rattle.doors.specs.Sets.{has}
 use Rattle.round.specs.declared.table.Round.{Round}
@@ -8,31 +9,13 @@ use Rattle.rules.specs.Rules.{RuleSense}
 use Rattle.tallies.specs.Tallies.{TallySense}
 use Rattle.layers.specs.declared.node.Down.{Down}
 use Rattle.layers.specs.declared.node.Up.{Up}
-use Rattle.layers.specs.Net.{table, Outs, Layer, Net}
-use Rattle.layers.specs.Flow.{up, next}
+use Rattle.layers.specs.Net.{table, Outs, Layer, Net, node, width}
+use Rattle.layers.specs.Flow.{gather, climbs_of, next}
 use Rattle.layers.specs.Settings.{Setting}
 
 -- the set of door j alone
 abbrev pub bit_of : ℕ → ℕ
 bit_of j = 2 ^ j
-
--- ---- upward
--- over an arc by door j to a node with these sets
-abbrev pub climb : Up → ℕ → Up
-climb u j = record { allup = bit_or u.allup (bit_of j); someup = bit_or u.someup (bit_of j) }
-
--- what two arcs have together
-abbrev pub merge_up : Up → Up → Up
-merge_up u v = record { allup = bit_and u.allup v.allup; someup = bit_or u.someup v.someup }
-
--- on the end
-abbrev pub no_up : Up
-no_up = record { allup = 0; someup = 0 }
-
--- the upward sets of the nodes of the first of these layers; None for a node from which no path leads to the end
-unfoldable pub ups : Net → List (Option Up)
-unfolding up
-ups = up climb merge_up no_up
 
 -- ---- legs
 -- the lesser of a drive and the least so far
@@ -48,6 +31,29 @@ leg_step r m j o i = if has m i && not (i == j) then nearest o (drive r i j) els
 unfoldable pub leg : Round → ℕ → ℕ → ℕ
 unfolding leg_step
 leg r m j = unwrap_or (fold (leg_step r m j) None (range_with_len 0 (r.n + 1))) 0
+
+-- ---- upward
+-- the last minute to leave a node with the last places m over an arc by door j, where t is that to leave its target: the work
+-- at j has to end before j closes, and by t
+unfoldable pub late_over : Round → ℕ → ℤ → ℕ → ℤ
+unfolding leg
+late_over r m t j = int_min (pos (door r j).closes) t -ℤ pos ((door r j).work + leg r m j)
+
+-- over an arc by door j from a node with the last places m to a node with these
+abbrev pub climb : Round → ℕ → Up → ℕ → Up
+climb r m u j = record { allup = bit_or u.allup (bit_of j); someup = bit_or u.someup (bit_of j); late = late_over r m u.late j }
+
+-- what two arcs have together: the doors that both have, the doors that one has, and the later minute
+abbrev pub merge_up : Up → Up → Up
+merge_up u v = record { allup = bit_and u.allup v.allup; someup = bit_or u.someup v.someup; late = int_max u.late v.late }
+
+-- on the end
+abbrev pub end_up : Up
+end_up = record { allup = 0; someup = 0; late = pos 9999 }
+
+-- where no arc leads on, and in a place that is not in use: the minute is -40,000
+abbrev pub no_up : Up
+no_up = record { allup = 0; someup = 0; late = negsuc 39999 }
 
 -- ---- downward: what stands at a node
 module _ {S V : Type 0} (rule : RuleSense S) (tally : TallySense V) where
@@ -100,6 +106,20 @@ unfoldable pub labels_next : {S V : Type 0} → Setting S V → List (Option (Do
 unfolding next arrival_over merge
 labels_next by = next (arrival_over by) (merge by.rule by.tally)
 
+-- the last places of a node with this label
+abbrev pub lasts_of : {S V : Type 0} → Option (Down S V) → ℕ
+lasts_of None = 0
+lasts_of (Some l) = l.lasts
+
+-- the upward labels of the nodes of the first of these layers, whose downward labels are labs; None for a node from which no
+-- path leads to the end
+unfoldable pub ups : {S V : Type 0} → Setting S V → List (Option (Down S V)) → Net → List (Option Up)
+unfolding late_over climbs_of gather labels_next
+ups by labs [] = Some end_up ∷ []
+ups by labs (L ∷ Ls) =
+    let us = ups by (labels_next by labs L (width Ls)) Ls in
+    table (length L) (λ a. gather merge_up (climbs_of (climb by.round (lasts_of (slice_index_or labs a None))) us 1 (node L a)))
+
 -- ---- open: each of n layers has one node, and each node an arc for every door, to the one node of the next
 abbrev pub all_doors : ℕ → Outs
 all_doors n = table n (λ k. 1)
@@ -126,6 +146,12 @@ is_barred r rule i h j (Some l) (Some u) =
 abbrev pub is_above_ceiling : {S V : Type 0} → Round → TallySense V → V → ℕ → ℕ → ℕ → Option (Down S V) → Option Up → Bool
 is_above_ceiling r tally c i h j None u = true
 is_above_ceiling r tally c i h j (Some l) u = not (tally.not_above (arrival_value r tally l j) c)
+
+-- ---- backsweep: the arrival finishes after the last minute to leave the target; the layer has no say in it
+abbrev pub is_past_late : {S V : Type 0} → Round → ℕ → ℕ → ℕ → Option (Down S V) → Option Up → Bool
+is_past_late r i h j None u = true
+is_past_late r i h j (Some l) None = true
+is_past_late r i h j (Some l) (Some u) = int_lt u.late (pos (arrival_finish r l j))
 
 -- ---- part: which in-arcs stay
 module _ {S V : Type 0} (rule : RuleSense S) where

@@ -1,12 +1,12 @@
 -- The lent list of records: node a of layer i at place i * W + a - 1, the end at n * W.
-use Rattle.std.specs.Prelude.{ℕ, zero, suc, Bool, if◌then◌else◌, not, List, [], ◌∷◌, ◌++◌, map, take, drop, Some, None, Option, unwrap_or, ◌==◌, slice_index, slice_index_or}
+use Rattle.std.specs.Prelude.{ℕ, zero, suc, Bool, if◌then◌else◌, not, List, [], ◌∷◌, ◌++◌, map, take, drop, Some, None, Option, unwrap_or, is_some, ◌==◌, slice_index, slice_index_or}
 use Rattle.layers.specs.declared.node.Arcs.{Arcs}
 use Rattle.layers.specs.declared.node.Node.{Node}
 use Rattle.layers.specs.declared.node.Down.{Down}
 use Rattle.layers.specs.declared.node.Up.{Up}
 use Rattle.layers.specs.Net.{table, Outs, Layer, Net, width}
 use Rattle.layers.specs.Settings.{Setting}
-use Rattle.layers.specs.Labels.{no_up, first_labels, blank_label, labels_next, ups}
+use Rattle.layers.specs.Labels.{end_up, no_up, first_labels, blank_label, labels_next, ups}
 
 -- ---- reading: what stands in the records
 module _ {S V : Type 0} where
@@ -68,11 +68,15 @@ module _ {S V : Type 0} (by : Setting S V) where
     label = record { down = unwrap_or (slice_index_or labs k None) (blank_label by.rule by.tally); up = unwrap_or (slice_index_or us k None) no_up };
   }
 
+  -- the upward label of the end, which has none in an empty diagram
+  abbrev pub end_ups : List (Option (Down S V)) → List (Option Up)
+  end_ups labs = if is_some (slice_index_or labs 0 None) then Some end_up ∷ [] else []
+
   -- from the layer with the labels labs on
   unfoldable pub labelled_from : List (Option (Down S V)) → Net → List (Node S V)
   unfolding ups labels_next
-  labelled_from labs [] = record_of_place [] labs [] 0 ∷ []
-  labelled_from labs (L ∷ Ls) = table by.width (record_of_place L labs (ups (L ∷ Ls))) ++ labelled_from (labels_next by labs L (width Ls)) Ls
+  labelled_from labs [] = record_of_place [] labs (end_ups labs) 0 ∷ []
+  labelled_from labs (L ∷ Ls) = table by.width (record_of_place L labs (ups by labs (L ∷ Ls))) ++ labelled_from (labels_next by labs L (width Ls)) Ls
 
   -- all of them
   unfoldable pub labelled_records : Net → List (Node S V)

@@ -24,12 +24,14 @@ pub enum Call<V> {
     },
     /// sweep and part from layer to layer
     Refine,
+    /// take out each arc whose arrival finishes after the last minute to leave its target
+    Backsweep,
 }
 
 /// What a call answers.
 #[derive(Clone, Copy, Debug, PartialEq)]
 pub enum Answer {
-    /// a sweep or a cut: how many arcs it took out
+    /// a sweep, a cut or a backsweep: how many arcs it took out
     Removed(usize),
     /// a part or a join: done, or refused, and then nothing is altered
     Done(Result<(), Refusal>),

@@ -19,11 +19,13 @@ pub struct Down<S, V> {
     pub value: V,
 }
 
-/// What is worked out from the end: the doors on every path from the node to the end, and on at least one.
+/// What is worked out from the end: the doors on every path from the node to the end, and on at least one, and the last minute
+/// to leave the node.
 #[derive(Clone, Copy)]
 pub struct Up {
     pub allup: DoorSet,
     pub someup: DoorSet,
+    pub late: i32,
 }
 
 /// What stands at a node: worked out from the first node, and from the end.

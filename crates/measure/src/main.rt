@@ -36,7 +36,7 @@ fn move_arc<S: Copy, V: Copy>(nodes: &mut [Node<S, V>], turn: usize) {
     }
 }
 
-/// The sum, with all sets and finishes of all places.
+/// The sum, with all sets, finishes and last minutes to leave of all places.
 fn sum_with<S: Copy, V: Copy>(sum: u64, nodes: &[Node<S, V>]) -> u64 {
     let mut sum = sum;
     for node in nodes {
@@ -49,6 +49,7 @@ fn sum_with<S: Copy, V: Copy>(sum: u64, nodes: &[Node<S, V>]) -> u64 {
             down.lasts,
             up.allup,
             up.someup,
+            up.late.cast_unsigned(),
         ] {
             sum = sum.wrapping_mul(1_000_003).wrapping_add(u64::from(x));
         }

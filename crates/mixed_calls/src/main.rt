@@ -1,7 +1,8 @@
 //! Calls that are lent the rule and the tally of one round or of another in turn: reads cases on standard input, makes the calls
-//! of each on the diagram of its first round, and prints what they answer and what the diagram then says, to be compared with
-//! what another program works out. A case is the texts of two rounds, then a line with the width and a line for each call: 1 or
-//! 2 for the round whose rule and tally it is lent, its kind, and three numbers. Each of the three has an empty line after it.
+//! of each on the diagram of its first round, and prints what they answer, all records that each leaves as one number, and what
+//! the diagram then says, to be compared with what another program works out. A case is the texts of two rounds, then a line
+//! with the width and a line for each call: 1 or 2 for the round whose rule and tally it is lent, its kind, and three numbers.
+//! Each of the three has an empty line after it.
 #![tactic(auto)]
 
 use anyhow::anyhow;
@@ -11,7 +12,7 @@ use doors::contains;
 use layers::call::{Answer, Call};
 use layers::refined::Refined;
 use round::table::Round;
-use round_sheet::sheet::{EMPTY, RECORDS};
+use round_sheet::sheet::{EMPTY, Place, RECORDS};
 use rules::both::Both;
 use rules::load::Interval;
 use tallies::late::LateDoors;
@@ -61,6 +62,7 @@ fn lent_of(line: &str) -> anyhow::Result<Lent> {
         },
         4 => Call::Cut { ceiling: (x, y) },
         5 => Call::Refine,
+        6 => Call::Backsweep,
         _ => return Err(anyhow!("no such call")),
     };
     Ok(Lent {
@@ -78,6 +80,54 @@ fn number_of(answer: Answer) -> usize {
         Answer::Refined(Refined::Whole) => 0,
         Answer::Refined(Refined::Full(layer)) => layer,
     }
+}
+
+/// The sum with each of the numbers.
+fn add_all(sum: u64, numbers: &[u32]) -> u64 {
+    let mut sum = sum;
+    for x in numbers {
+        sum = sum.wrapping_mul(1_000_003).wrapping_add(u64::from(*x));
+    }
+    sum
+}
+
+/// The sum with the arcs and all labels of a record.
+fn add_record(sum: u64, place: &Place) -> u64 {
+    let mut sum = sum;
+    for t in place.arcs.to {
+        sum = add_all(sum, &[u32::from(t)]);
+    }
+    let down = place.label.down;
+    let (set, load) = down.state;
+    let (doors, minutes) = down.value;
+    let up = place.label.up;
+    add_all(
+        sum,
+        &[
+            down.all,
+            down.some,
+            down.finish,
+            down.lasts,
+            set,
+            load.low.cast_unsigned(),
+            load.high.cast_unsigned(),
+            doors,
+            minutes,
+            up.allup,
+            up.someup,
+            up.late.cast_unsigned(),
+        ],
+    )
+}
+
+/// The records up to the end, as one number.
+fn sum_of(round: &Round, width: usize, diagram: &Work<'_, '_>) -> u64 {
+    let count = round.n.saturating_mul(width).saturating_add(1);
+    let mut sum = 0;
+    for place in diagram.nodes().iter().take(count) {
+        sum = add_record(sum, place);
+    }
+    sum
 }
 
 /// Bound and musts, and whether the diagram is settled under this round's rule.
@@ -102,20 +152,24 @@ fn print_end(rt: &HostRuntime, diagram: &Work<'_, '_>, lent: &Round) -> anyhow::
     Ok(())
 }
 
-/// Makes the calls of the lines after the first on the diagram, and prints what they answer.
+/// Makes the calls of the lines after the first on the diagram, and prints what they answer, and the records from opening on.
 fn make_calls(
     rt: &HostRuntime,
     diagram: &mut Work<'_, '_>,
+    width: usize,
     rounds: &[Round; 2],
     asked: &str,
 ) -> anyhow::Result<()> {
     let mut round = &rounds[0];
+    let sum = sum_of(round, width, diagram);
+    println!(rt; "opened\t{sum}")?;
     for line in asked.lines().skip(1) {
         let lent = lent_of(line)?;
         round = &rounds[usize::from(lent.second)];
         let answer = diagram.call(&Both::of(round), &LateDoors::of(round), lent.call);
         let number = number_of(answer);
-        println!(rt; "{number}")?;
+        let sum = sum_of(round, width, diagram);
+        println!(rt; "{number}\t{sum}")?;
     }
     print_end(rt, diagram, round)
 }
@@ -136,7 +190,7 @@ fn print_case(rt: &HostRuntime, rounds: &[Round; 2], asked: &str) -> anyhow::Res
                 &LateDoors::of(round),
                 &mut records,
             );
-            make_calls(rt, &mut diagram, rounds, asked)
+            make_calls(rt, &mut diagram, width, rounds, asked)
         }
         Err(_) => Err(anyhow!("the diagram is refused")),
     }

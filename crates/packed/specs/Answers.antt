@@ -22,7 +22,7 @@ abbrev pub word_of_refined : Refined → ℕ
 word_of_refined Whole = 0
 word_of_refined (Full i) = i
 
--- the word of an answer; of a sweep or a cut it is how many arcs it took out
+-- the word of an answer; of a sweep, a cut or a backsweep it is how many arcs it took out
 abbrev pub word_of : Answer → ℕ
 word_of (Removed count) = count_word count
 word_of (Done done) = word_of_refusal done

@@ -1,7 +1,7 @@
 -- The calls that bytes are: 16 bytes each, one call after the other.
 use Rattle.std.specs.Prelude.{ℕ, zero, suc, ◌+◌, ◌*◌, ◌/◌, ◌%◌, List, [], ◌∷◌, ◌++◌, length, Some, None, Option, ◌==◌, unwrap_or, if◌then◌else◌}
 use Rattle.layers.specs.declared.call.Call.{Call}
-use Rattle.layers.specs.declared.call.Call.TheVariants.{Sweep, Part, Join, Cut, Refine}
+use Rattle.layers.specs.declared.call.Call.TheVariants.{Sweep, Part, Join, Cut, Refine, Backsweep}
 use Rattle.packed.specs.Words.{word_at}
 
 -- a call on a diagram; a ceiling is late doors and late minutes
@@ -16,6 +16,7 @@ request kind x y z =
     else if kind == 3 then Some (Join x y z)
     else if kind == 4 then Some (Cut (x, y))
     else if kind == 5 then Some Refine
+    else if kind == 6 then Some Backsweep
     else None
 
 -- the call in the 16 bytes from place k on

@@ -30,6 +30,7 @@ pub(crate) fn call_at(bytes: &[u8], at: usize) -> Option<Call<Cost>>
         }),
         4 => Some(Call::Cut { ceiling: (x, y) }),
         5 => Some(Call::Refine),
+        6 => Some(Call::Backsweep),
         _ => None,
     }
 }

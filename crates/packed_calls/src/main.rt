@@ -15,8 +15,10 @@ const SWEEP: Call = [1, 0, 0, 0];
 
 const REFINE: Call = [5, 0, 0, 0];
 
+const BACKSWEEP: Call = [6, 0, 0, 0];
+
 /// Calls of every kind, and every refusal that a call has.
-const MANY: [Call; 22] = [
+const MANY: [Call; 24] = [
     REFINE,
     [2, 0, 1, 0],
     [2, 6, 1, 0],
@@ -36,13 +38,15 @@ const MANY: [Call; 22] = [
     [3, 5, 1, 2],
     [4, 2, 40, 0],
     SWEEP,
+    BACKSWEEP,
     [4, 1, 30, 0],
     SWEEP,
     [4, 1, 25, 0],
+    BACKSWEEP,
 ];
 
 /// No call has this kind.
-const UNKNOWN: Call = [6, 0, 0, 0];
+const UNKNOWN: Call = [7, 0, 0, 0];
 
 /// A byte that no case writes.
 const FILL: u8 = 0xee;
@@ -105,9 +109,10 @@ fn print_sheet(rt: &HostRuntime, case: Case<'_>) -> anyhow::Result<()> {
 
 /// Sheets after calls.
 fn print_sheets(rt: &HostRuntime, text: &[u8]) -> anyhow::Result<()> {
-    let sheets: [(&str, usize, &[Call]); 6] = [
+    let sheets: [(&str, usize, &[Call]); 7] = [
         ("opened", 3, &[]),
         ("sweeps", 3, &[SWEEP, SWEEP, REFINE, SWEEP]),
+        ("backsweeps", 3, &[BACKSWEEP, BACKSWEEP, SWEEP, BACKSWEEP]),
         ("many", 3, &MANY),
         ("none", 3, &[REFINE, [4, 0, 0, 0]]),
         ("narrow", 1, &[REFINE]),

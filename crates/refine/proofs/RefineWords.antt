@@ -1,7 +1,7 @@
 -- On the records of a diagram the steps of refine and settled come to their definitions.
 use Rattle.std.proofs.Common.{◌≡◌, ℕ, zero, suc, ◌+◌, ◌-◌, ◌*◌, ◌<◌, ◌≤◌, Bool, true, false, cond, eqb, ltb, List, ◌++◌, map, length, take, drop, add-zero, sym, refl, ap, ◌∙◌, subst, ap₂, arith}
 use Rattle.std.proofs.lemmas.List.{length-append, length-drop}
-use Rattle.std.proofs.lemmas.Bool.{cond_both, true≢false}
+use Rattle.std.proofs.lemmas.Bool.{cond_both, le-leb, true≢false}
 use Rattle.layers.specs.Lawful.{IsLawful}
 use Rattle.layers.specs.declared.node.Node.{Node}
 use Rattle.layers.specs.declared.refined.Refined.{Refined}
@@ -9,7 +9,7 @@ use Rattle.layers.specs.declared.refined.Refined.TheVariants.{Full}
 use Rattle.layers.specs.Net.{Net, count_arcs}
 use Rattle.layers.specs.Tidy.{tidied_arcs}
 use Rattle.layers.specs.Labels.{is_barred, first_labels}
-use Rattle.layers.specs.Records.{labelled_records, arcs_read}
+use Rattle.layers.specs.Records.{labelled_records}
 use Rattle.layers.specs.Calls.{arcs, labels, kept_arcs, records_with, after_sweep, sweep_answer, parts_of_layer, refinement_from, after_sweeps, refinement}
 use Rattle.layers.specs.Settings.{Setting}
 use Rattle.layers.specs.Shape.{IsShaped, IsTimely}
@@ -17,15 +17,15 @@ use Rattle.layers.proofs.Bridge.{laid-long, later-stays}
 use Rattle.layers.proofs.Standing.{arcs-X}
 use Rattle.layers.proofs.Proper.{proper-kept}
 use Rattle.layers.proofs.Shaped.{relaid-shaped}
-use Rattle.labels.specs.Passes.{fits, below_steps, HasDownsBefore, unused_label}
-use Rattle.labels.proofs.Laying.{below_laid}
-use Rattle.labels.proofs.Climbs.{down_of, up_of}
+use Rattle.labels.specs.Passes.{fits, below_steps, HasDownsBefore}
+use Rattle.labels.proofs.Laying.{below-lawful}
+use Rattle.labels.proofs.Climbs.{down_of}
 use Rattle.labels.proofs.Rooms.{Roomed, room-facts}
 use Rattle.filter.specs.Steps.{Done, IsLabelled, arc_count, sweep_labelled_steps}
 use Rattle.filter.proofs.FilterWords.{proper, labelled-words, sweep-words, swept-timely, shaped-count, fewer-words}
 use Rattle.split.specs.Steps.{layer_steps}
 use Rattle.split.proofs.LayerWords.{Done as LayerDone, layer-net}
-use Rattle.refine.proofs.Parts.{Stands, parted-stands, arcs-laid}
+use Rattle.refine.proofs.Parts.{Kept, kept-by-parts, kept-downs, placed-ready}
 use Rattle.refine.specs.Steps.{one_sweep, one_layer, some_layers, sweeps_out, refine_steps}
 
 module _ {S V : Type 0} (by : Setting S V) (self : (s : S) → by.rule.same s s ≡ true) where
@@ -90,26 +90,22 @@ module _ {S V : Type 0} (by : Setting S V) (self : (s : S) → by.rule.same s s 
 
     -- ---- a layer
     module _ (i : ℕ) (lo : 1 ≤ i) (hi : i < n) where
-      parts-done : LayerDone by room.low (later xs) (Stands by room.low (later xs) (i - 1)) (after_sweep by xs) (parts i xs) (layer_steps by i (after_sweep by xs))
+      parts-done : LayerDone by room.low (later xs) (Kept by room.low (later xs) (i - 1)) (after_sweep by xs) (parts i xs) (layer_steps by i (after_sweep by xs))
       unfolding after_sweep records_with
-      parts-done =
-          layer-net by room.low (later xs) (Stands by room.low (later xs) (i - 1)) self i lo hi
-          (record { start = λ Ls p. record { ups = refl; downs = refl; places = refl }; step = parted-stands by room.low (later xs) (i - 1) }) room.high (after_sweep by xs) (record { net = left xs; well = left-proper; is = refl; holds = tt })
+      parts-done = layer-net by room.low (later xs) (Kept by room.low (later xs) (i - 1)) self i lo hi (kept-by-parts by room.low (later xs) (i - 1)) room.high (after_sweep by xs) (record { net = left xs; well = left-proper; is = refl; holds = tt })
 
       layer-words : Known (ltb 1 i) xs → one_layer by i xs ≡ parts i xs
-      unfolding one_layer records_with
+      unfolding one_layer records_with below_steps
       layer-words h =
           let q = parts-done in
           let Ls = q.left.net in
           let zs = (layer_steps by i (after_sweep by xs)).1 in
           let st = q.left.holds.1 in
-          let deep : length Ls * by.width + 1 ≡ n * by.width + 1 = ap (λ (k : ℕ). k * by.width + 1) q.left.well.deep in
           let back : suc (i - 1) ≡ i = omega arith in
           let is : labelled_records by Ls ++ later xs ≡ records_with by zs Ls = ap (λ (ys : Recs). labelled_records by Ls ++ ys) (sym (q.tail ∙ swept-fresh.tail)) in
+          let downs : HasDownsBefore by i Ls zs = subst (λ (k : ℕ). HasDownsBefore by k Ls zs) back (kept-downs by room.low (later xs) (i - 1) Ls zs (omega (arith, q.left.well.deep)) st ∙ ap (λ ys. map down_of (take (suc (i - 1) * by.width) ys)) is) in
           let below : below_steps by i zs ≡ records_with by zs Ls =
-          below_laid by i Ls zs (ap (fits n by.width) q.long ∙ swept-fresh.sound.fit) lo (omega arith) q.left.well
-          (ap (λ (k : ℕ). arcs_read (take k zs)) (sym deep) ∙ arcs-laid by.width Ls zs q.left.holds.0) (st.ups ∙ ap (map up_of) is)
-          (subst (λ (k : ℕ). HasDownsBefore by k Ls zs) back (st.downs ∙ ap (λ ys. map down_of (take (suc (i - 1) * by.width) ys)) is)) (st.places ∙ ap (λ ys. map (unused_label by) (take (n * by.width) ys)) is) in
+          rw (ap (fits n by.width) q.long ∙ swept-fresh.sound.fit, le-leb 1 i lo, le-leb i n (omega arith)) (below-lawful by i Ls zs lo (omega arith) q.left.well q.left.holds.0 downs (placed-ready by Ls zs st.placed)) in
           ap (λ (ys : Recs). ((layer_steps by i ys).0, below_steps by i (layer_steps by i ys).1)) (once-words (ltb 1 i) h)
           ∙ ap₂ (λ (b : Bool) (ys : Recs). (b, ys)) q.answer (below ∙ sym is ∙ sym q.left.is)
 

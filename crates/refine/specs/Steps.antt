@@ -17,7 +17,7 @@ module _ {S V : Type 0} (by : Setting S V) where
   unfolding sweep_steps sweep_labelled_steps
   one_sweep known xs = if known then sweep_labelled_steps by xs else sweep_steps by xs
 
-  -- layer i: a sweep, the parts of the layer, and the downward labels from it on anew; yes if the layer was full. After the first
+  -- layer i: a sweep, the parts of the layer, and the labels that these alter anew; yes if the layer was full. After the first
   -- layer the labels are known
   unfoldable pub one_layer : ℕ → List (Node S V) → Bool × List (Node S V)
   unfolding one_sweep layer_steps below_steps

@@ -39,7 +39,7 @@ fn sweep_once<R: Rule, T: Tally>(
 }
 
 /// One layer: a sweep, then all its parts on arcs alone, then the labels that these alter: the downward ones from this layer
-/// on. Answers whether it was full.
+/// on, and all upward ones. Answers whether it was full.
 fn refine_layer<R: Rule, T: Tally>(
     by: &Setting<'_, R, T>,
     nodes: &mut [Node<R::State, T::Value>],

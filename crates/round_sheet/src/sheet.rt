@@ -41,6 +41,7 @@ pub const EMPTY: Place = Node {
         up: Up {
             allup: 0,
             someup: 0,
+            late: 0,
         },
     },
 };

@@ -1,9 +1,9 @@
 -- The worked cases, by computing; which orders are allowed, or keep the load, by their definitions (Kept).
 use Rattle.std.proofs.Common.{◌≤◌, List, refl, arith}
 use Rattle.round.specs.Clock.{finish}
-use Rattle.layers.specs.Calls.{after_open, after_sweep, arcs_lost, after_cut, part_answer, after_part, refinement, bound, must, is_settled}
+use Rattle.layers.specs.Calls.{after_open, after_sweep, arcs_lost, after_cut, after_backsweep, part_answer, after_part, refinement, bound, must, is_settled}
 use Rattle.worked.specs.Rounds.{trio, loose}
-use Rattle.worked.specs.Cases.{Place, Sheet, AsPrinted, ClosedEarly, Paired, WorkedCases}
+use Rattle.worked.specs.Cases.{Place, Sheet, AsPrinted, ClosedEarly, Paired, LastMinutes, WorkedCases}
 use Rattle.worked.proofs.Kept.{allowed, not_allowed, two-keep}
 
 module _ (lent : List Place) where
@@ -59,6 +59,10 @@ module _ (lent : List Place) where
   unfolding after_sweep arcs_lost after_part part_answer after_open refinement is_settled must finish
   paired = record { sweep_one = refl; parts = refl; before_part = refl; part_moves = refl; sweep_three = refl; full_at_2 = refl; not_settled = refl; whole_at_3 = refl; must_two = refl; must_three = refl }
 
+  last-minutes : (h : 9 ≤ 9999) (i : 8 ≤ 9999) (k : 7 ≤ 9999) → LastMinutes (trio 9 h) (trio 8 i) (trio 7 k) lent
+  unfolding refinement after_backsweep arcs_lost after_open finish
+  last-minutes h i k = record { opened_at_9 = refl; goes_at_9 = refl; left_at_9 = refl; again_at_9 = refl; none_at_9 = refl; opened_at_8 = refl; left_at_8 = refl; none_at_7 = refl }
+
 pub computed : WorkedCases
 unfolding finish
 computed lent = record {
@@ -66,6 +70,7 @@ computed lent = record {
   printed_at_8 = printed-8 lent (omega arith);
   closed_at_7 = closed-7 lent (omega arith);
   paired = paired lent;
+  last_minutes = last-minutes lent (omega arith) (omega arith) (omega arith);
   loads = two-keep;
   says = refl;
 }

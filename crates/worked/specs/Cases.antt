@@ -1,5 +1,5 @@
 -- The worked cases, in one statement on the definitions: the rule is pairs and load together, the tally late doors.
-use Rattle.std.specs.Prelude.{◌≡◌, ℕ, zero, suc, Bool, true, false, ◌⊎◌, List, [], ◌∷◌, length, map, Some, None, Ok, slice_index_or}
+use Rattle.std.specs.Prelude.{◌≡◌, ℕ, zero, suc, ◌*◌, Bool, true, false, ◌⊎◌, List, [], ◌∷◌, length, map, replicate, Some, None, Ok, slice_index_or, ℤ, pos, negsuc}
 use Rattle.std.proofs.Common.{arith}
 use Rattle.doors.specs.Orders.{IsPartOrder}
 use Rattle.round.specs.declared.table.Round.{Round}
@@ -20,7 +20,7 @@ use Rattle.layers.specs.declared.node.Node.{Node}
 use Rattle.layers.specs.declared.refined.Refined.{Refined}
 use Rattle.layers.specs.declared.refined.Refined.TheVariants.{Whole, Full}
 use Rattle.layers.specs.Settings.{Setting, setting}
-use Rattle.layers.specs.Calls.{after_open, arcs, after_sweep, sweep_answer, after_cut, cut_answer, part_answer, after_part, refinement, bound, must, is_settled}
+use Rattle.layers.specs.Calls.{after_open, arcs, after_sweep, sweep_answer, after_cut, cut_answer, after_backsweep, backsweep_answer, part_answer, after_part, refinement, bound, must, is_settled}
 use Rattle.worked.specs.Rounds.{trio, loose, boxes}
 
 abbrev pub rule : Round → RuleSense (ℕ × Interval)
@@ -109,6 +109,29 @@ pub record Paired (r : Round) (lent : List Place) : Type 0 where
   pub must_two : asked r 3 2 1 lent ≡ true
   pub must_three : asked r 3 3 1 lent ≡ false
 
+-- at width W, the last minutes to leave that stand at the first places of layers 0 to 3
+abbrev pub minutes : ℕ → List Place → List ℤ
+minutes W xs = let all = map (λ x. x.label.up.late) xs in map (λ i. slice_index_or all (i * W) (pos 0)) (0 ∷ 1 ∷ 2 ∷ 3 ∷ [])
+
+-- the diagram of r, opened at width 16 and then backswept
+abbrev pub backswept : Round → List Place → List Place
+backswept r lent = after_backsweep (by r 16) (sweeps r 16 0 lent)
+
+-- the last minutes to leave, and what a backsweep takes out, with door 2 closing at 9, 8 or 7
+pub record LastMinutes (at9 at8 at7 : Round) (lent : List Place) : Type 0 where
+  -- at 9, opened: the first node has to be left by 3, the next by 5 and 7; doors 2 and 3 as first door would end at 6, and go;
+  -- then the first node has to be left by 1, and nothing more goes
+  pub opened_at_9 : minutes 16 (sweeps at9 16 0 lent) ≡ pos 3 ∷ pos 5 ∷ pos 7 ∷ pos 9999 ∷ []
+  pub goes_at_9 : backsweep_answer (by at9 16) (sweeps at9 16 0 lent) ≡ 2
+  pub left_at_9 : slice_index_or (arcs 3 16 (backswept at9 lent)) 0 [] ≡ (1 ∷ 0 ∷ 0 ∷ []) ∷ []
+  pub again_at_9 : minutes 16 (backswept at9 lent) ≡ pos 1 ∷ pos 5 ∷ pos 7 ∷ pos 9999 ∷ []
+  pub none_at_9 : backsweep_answer (by at9 16) (backswept at9 lent) ≡ 0
+  -- at 8 each has to be left a minute sooner; door 2 as second door ends at 6, the last minute to leave its target, and stays
+  pub opened_at_8 : minutes 16 (sweeps at8 16 0 lent) ≡ pos 2 ∷ pos 4 ∷ pos 6 ∷ pos 9999 ∷ []
+  pub left_at_8 : slice_index_or (arcs 3 16 (backswept at8 lent)) 1 [] ≡ (1 ∷ 1 ∷ 1 ∷ []) ∷ []
+  -- at 7 refine leaves no path, and so no minute
+  pub none_at_7 : minutes 16 (fine at7 16 lent).1 ≡ replicate 4 (negsuc 39999)
+
 -- of all orders of three doors exactly 1, 2, 3 and 2, 1, 3 keep the load
 pub record TwoKeep (r : Round) : Type 0 where
   -- these two keep it
@@ -126,6 +149,7 @@ pub record WorkedOut (lent : List Place) : Type 0 where
   pub printed_at_8 : AsPrinted (trio 8 (omega arith)) lent
   pub closed_at_7 : ClosedEarly (trio 7 (omega arith)) lent
   pub paired : Paired loose lent
+  pub last_minutes : LastMinutes (trio 9 (omega arith)) (trio 8 (omega arith)) (trio 7 (omega arith)) lent
   -- an empty van that holds 2, changes 1, 1 and −2: exactly 1, 2, 3 and 2, 1, 3 keep the load
   pub loads : TwoKeep boxes
   -- the verdicts of the six say so: all but these two break the rule, with door 3 as their first fault

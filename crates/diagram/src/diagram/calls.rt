@@ -2,7 +2,7 @@
 ghost use Rattle.std.specs.Prelude.{◌≡◌, ◌+◌, ◌*◌, ◌≤◌, ◌++◌, List, length};
 ghost use Rattle.layers.specs.declared.call.Call.{Call as ACall};
 ghost use Rattle.layers.specs.declared.node.Node.{Node as ANode};
-ghost use Rattle.layers.specs.Calls.{after_open, after_sweep, sweep_answer, after_cut, cut_answer, after_part, part_answer, after_join, join_answer, after_refine, refine_answer, after_call, answer_of, after_calls};
+ghost use Rattle.layers.specs.Calls.{after_open, after_sweep, sweep_answer, after_cut, cut_answer, after_backsweep, backsweep_answer, after_part, part_answer, after_join, join_answer, after_refine, refine_answer, after_call, answer_of, after_calls};
 ghost use Rattle.layers.specs.Claim.{ClaimHolds};
 ghost use Rattle.layers.specs.Shape.{IsShaped, IsTimely};
 ghost use Rattle.refine.specs.Answers.{IsInnerIfFull};
@@ -11,6 +11,7 @@ ghost use Rattle.diagram.specs.Words.{room_of, round_of, records_of, setting_of}
 
 use super::Diagram;
 use crate::room::Room;
+use filter::backsweep::backsweep;
 use filter::cut::cut;
 use filter::sweep::sweep;
 use layers::call::{Answer, Call};
@@ -66,6 +67,30 @@ impl<'a, 'n, S: Copy, V: Copy> Diagram<'a, 'n, S, V> {
             width,
         };
         cut(&by, self.nodes, ceiling)
+    }
+
+    /// Takes out each arc whose arrival finishes after its target's last minute to leave, by the labels that stand, and answers
+    /// how many arcs went.
+    pub fn backsweep<R: Rule<State = S>, T: Tally<Value = V>>(
+        &mut self,
+        rule: &R,
+        tally: &T,
+    ) -> usize
+        ensures room { room_of self.new ≡ room_of self.old }
+        ensures records { let by = setting_of self.old (R.sense rule.now) (T.sense tally.now) in
+            records_of self.new ≡ after_backsweep by (records_of self.old) }
+        ensures answer { let by = setting_of self.old (R.sense rule.now) (T.sense tally.now) in
+            result ≡ backsweep_answer by (records_of self.old) }
+        ensures lender { self.new.nodes.ghost_name ≡ self.old.nodes.ghost_name }
+    {
+        let Room { round, width } = self.room;
+        let by = Setting {
+            round,
+            rule,
+            tally,
+            width,
+        };
+        backsweep(&by, self.nodes)
     }
 
     /// Parts a node: the in-arcs that differ from the first in what arrives over them go to a new last node of its layer, which has
@@ -144,7 +169,7 @@ impl<'a, 'n, S: Copy, V: Copy> Diagram<'a, 'n, S, V> {
         refine(&by, self.nodes)
     }
 
-    /// One of these five calls, and what it answers.
+    /// One of these six calls, and what it answers.
     #[tactic(auto, unfolding(layers::specs::Calls::after_call, layers::specs::Calls::answer_of))]
     pub fn call<R: Rule<State = S>, T: Tally<Value = V>>(
         &mut self,
@@ -170,6 +195,7 @@ impl<'a, 'n, S: Copy, V: Copy> Diagram<'a, 'n, S, V> {
             } => Answer::Done(self.join(rule, tally, layer, first, second)),
             Call::Cut { ceiling } => Answer::Removed(self.cut(rule, tally, ceiling)),
             Call::Refine => Answer::Refined(self.refine(rule, tally)),
+            Call::Backsweep => Answer::Removed(self.backsweep(rule, tally)),
         }
     }
 
