@@ -3,7 +3,7 @@
 use crate::chance::Chance;
 use crate::diagram::Diagram;
 use crate::library;
-use crate::round::Round;
+use crate::round::{Drawn, Round, grid_by_chance};
 use std::process::ExitCode;
 
 #[derive(Clone, Copy, Debug)]
@@ -98,13 +98,14 @@ fn by_chance(c: &mut Chance, round: &Round, width: usize) -> (Vec<Call>, Vec<u32
 }
 
 pub fn round_by_chance(c: &mut Chance, n: usize) -> Round {
+    let grid = grid_by_chance(c);
     if c.one_in(5) {
-        return Round::wild(c, n);
+        return Round::wild(c, grid, n);
     }
     let slack = [5, 30, 80, 200, 1000][c.within(0, 4) as usize];
     let pairs = [3, 10, 30, 1000][c.within(0, 3) as usize];
     let change = [0, 1, 4][c.within(0, 2) as usize];
-    Round::around(c, n, slack, pairs, change)
+    Round::around(c, grid, n, Drawn { slack, pairs, change })
 }
 
 fn width_by_chance(c: &mut Chance) -> usize {
@@ -114,6 +115,8 @@ fn width_by_chance(c: &mut Chance) -> usize {
 
 #[derive(Default)]
 struct Seen {
+    /// rounds on a grid above 1
+    grids: usize,
     calls: [usize; 6],
     /// sweeps, cuts and backsweeps that took out arcs
     took: [usize; 3],
@@ -127,7 +130,8 @@ struct Seen {
 }
 
 impl Seen {
-    fn note(&mut self, calls: &[Call], sheet: &[u32]) {
+    fn note(&mut self, round: &Round, calls: &[Call], sheet: &[u32]) {
+        self.grids += usize::from(round.grid > 1);
         for (call, &answer) in calls.iter().zip(&sheet[22..]) {
             self.calls[call.kind()] += 1;
             match call {
@@ -145,6 +149,7 @@ impl Seen {
     }
 
     fn print(&self) {
+        println!("  on a grid above 1: {} rounds", self.grids);
         let [sweep, part, join, cut, refine, backsweep] = self.calls;
         println!("  calls: {sweep} sweep, {part} part, {join} join, {cut} cut, {refine} refine, {backsweep} backsweep");
         let [sweep, cut, backsweep] = self.took;
@@ -162,7 +167,7 @@ impl Seen {
 /// What is refused, and that a refusal writes nothing.
 fn refusals() -> bool {
     let mut c = Chance::new(7);
-    let text = Round::around(&mut c, 5, 80, 10, 1).text();
+    let text = Round::around(&mut c, 1, 5, Drawn { slack: 80, pairs: 10, change: 1 }).text();
     let call = bytes([5, 0, 0, 0]);
     let long = text.clone() + &"first\t1\t2\n".repeat(1639);
     let cases: [(&str, &[u8], usize, &[u8], usize, i64); 11] = [
@@ -211,7 +216,7 @@ pub fn compare(rounds: usize) -> ExitCode {
                 println!("  library {sheet:?}\n  twin    {expected:?}\n{text}");
             }
         }
-        seen.note(&calls, &expected);
+        seen.note(&round, &calls, &expected);
     }
     println!("compared {rounds} rounds, widths 1 to 128: {differ} differ");
     seen.print();

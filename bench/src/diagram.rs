@@ -107,7 +107,8 @@ impl Round {
     #[inline]
     fn finish(&self, from: &Down, j: usize) -> u32 {
         let d = &self.doors[j];
-        d.opens.max(from.finish + self.leg(from.lasts, j)) + d.work
+        let ready = d.opens.max(from.finish + self.leg(from.lasts, j));
+        d.work + if self.grid == 1 { ready } else { ready.next_multiple_of(self.grid) }
     }
 
     fn bars(&self, from: &Down, j: usize) -> bool {

@@ -5,7 +5,7 @@ use crate::clock;
 use crate::compare::{Call, bytes};
 use crate::diagram::Diagram;
 use crate::library;
-use crate::round::Round;
+use crate::round::{Drawn, Round};
 use std::hint::black_box;
 use std::process::ExitCode;
 
@@ -13,13 +13,13 @@ const ROUNDS: usize = 24;
 const TRIES: usize = 5;
 const WIDTHS: [usize; 4] = [16, 32, 64, 128];
 
-/// Rounds of 16 doors with hours that leave the order open here and there.
+/// Rounds of 16 doors on a grid of 1, with hours that leave the order open here and there.
 fn tight() -> Vec<Round> {
     let mut c = Chance::new(16);
     (0..ROUNDS)
         .map(|k| {
             let slack = [40, 80, 160][k % 3];
-            Round::around(&mut c, 16, slack, 20, 2)
+            Round::around(&mut c, 1, 16, Drawn { slack, pairs: 20, change: 2 })
         })
         .collect()
 }

@@ -1,4 +1,4 @@
-//! A round, its text, and rounds by chance.
+//! A round, its text, and rounds and grids by chance.
 
 use crate::chance::Chance;
 use std::fmt::Write;
@@ -18,15 +18,28 @@ pub struct Round {
     pub n: usize,
     pub load: i32,
     pub cap: i32,
+    /// work starts at a multiple of so many minutes only
+    pub grid: u32,
     pub doors: [Door; 17],
     pub drive: [[u32; 17]; 17],
     /// the doors that have to come ahead of each door, as a mask
     pub ahead: [u32; 17],
 }
 
+/// How a round around some order is drawn.
+#[derive(Clone, Copy)]
+pub struct Drawn {
+    /// how many minutes an hour reaches to either side
+    pub slack: i64,
+    /// one in about so many couples of doors is a pair
+    pub pairs: u64,
+    /// how far changes reach from 0
+    pub change: i64,
+}
+
 impl Round {
     fn blank(n: usize) -> Round {
-        Round { n, load: 0, cap: 0, doors: [Door::default(); 17], drive: [[0; 17]; 17], ahead: [0; 17] }
+        Round { n, load: 0, cap: 0, grid: 1, doors: [Door::default(); 17], drive: [[0; 17]; 17], ahead: [0; 17] }
     }
 
     /// The clock of this round with what side rule and tally look at in another of as many doors.
@@ -40,7 +53,11 @@ impl Round {
 
     pub fn text(&self) -> String {
         let mut s = String::new();
-        writeln!(s, "round\t{}\t{}\t{}", self.n, self.load, self.cap).unwrap();
+        write!(s, "round\t{}\t{}\t{}", self.n, self.load, self.cap).unwrap();
+        if self.grid != 1 {
+            write!(s, "\t{}", self.grid).unwrap();
+        }
+        s.push('\n');
         for j in 1..=self.n {
             let d = &self.doors[j];
             writeln!(s, "door\t{j}\t{}\t{}\t{}\t{}\t{}", d.opens, d.closes, d.due, d.work, d.change).unwrap();
@@ -66,10 +83,10 @@ impl Round {
         s
     }
 
-    /// A round of n doors with hours around the times of some order of them. `slack` is how many minutes an hour reaches to
-    /// either side; a pair is drawn for about one in `pairs` couples of neighbours in that order; changes reach to ±`change`.
-    pub fn around(c: &mut Chance, n: usize, slack: i64, pairs: u64, change: i64) -> Round {
-        let mut r = Round::blank(n);
+    /// A round of n doors with hours around the times of some order of them on the grid.
+    pub fn around(c: &mut Chance, grid: u32, n: usize, drawn: Drawn) -> Round {
+        let Drawn { slack, pairs, change } = drawn;
+        let mut r = Round { grid, ..Round::blank(n) };
         for i in 0..=n {
             for j in 1..=n {
                 if i != j {
@@ -85,7 +102,7 @@ impl Round {
         for &j in &order {
             let work = c.within(5, 25);
             let change = c.within(-change, change);
-            time += r.drive[at][j] as i64 + work;
+            time = (time as u32 + r.drive[at][j]).next_multiple_of(grid) as i64 + work;
             load += change;
             least = least.min(load);
             most = most.max(load);
@@ -108,8 +125,8 @@ impl Round {
     }
 
     /// A round of n doors of which nothing need fit: hours, changes and pairs as they come.
-    pub fn wild(c: &mut Chance, n: usize) -> Round {
-        let mut r = Round::blank(n);
+    pub fn wild(c: &mut Chance, grid: u32, n: usize) -> Round {
+        let mut r = Round { grid, ..Round::blank(n) };
         let day = [20, 100, 400, 2000, 9999][c.within(0, 4) as usize];
         let far = [0, 5, 40, 999][c.within(0, 3) as usize];
         let long = [1, 10, 60, 999][c.within(0, 3) as usize];
@@ -141,4 +158,14 @@ impl Round {
         }
         r
     }
+}
+
+/// A grid of 1 in one of two cases, else one above it.
+pub fn grid_by_chance(c: &mut Chance) -> u32 {
+    if c.one_in(2) { 1 } else { grid_above_1(c) }
+}
+
+/// 15, 5, 60, or any from 2 to 60.
+pub fn grid_above_1(c: &mut Chance) -> u32 {
+    [15, 5, 60, c.within(2, 60) as u32][c.within(0, 3) as usize]
 }

@@ -2,22 +2,50 @@
 
 use crate::chance::Chance;
 use crate::diagram::Diagram;
-use crate::round::Round;
+use crate::round::{Drawn, Round, grid_above_1};
+use std::fmt::Write;
 
 /// The width at which the programs open a diagram.
 const WIDTH: usize = 16;
 
-/// Rounds of 1 to 16 doors, twice over: with hours around some order, and with hours, changes and pairs as they come.
+/// How rounds with hours around some order are drawn.
+const AROUND: [Drawn; 6] = [
+    Drawn { slack: 5, pairs: 30, change: 1 },
+    Drawn { slack: 30, pairs: 10, change: 1 },
+    Drawn { slack: 80, pairs: 10, change: 4 },
+    Drawn { slack: 200, pairs: 3, change: 2 },
+    Drawn { slack: 1000, pairs: 4, change: 4 },
+    Drawn { slack: 1000, pairs: 1000, change: 0 },
+];
+
+/// One of them, or with hours, changes and pairs as they come.
+fn round(c: &mut Chance, k: usize, grid: u32, n: usize) -> Round {
+    if k % 5 == 4 { Round::wild(c, grid, n) } else { Round::around(c, grid, n, AROUND[k % AROUND.len()]) }
+}
+
+/// A round on a grid of 15 that has an allowed order, and whose bound and musts would be others on a grid of 1.
+fn decided(c: &mut Chance, n: usize) -> Round {
+    loop {
+        let round = Round::around(c, 15, n, Drawn { slack: 60, pairs: 10, change: 1 });
+        let (here, there) = (sheet(&round), sheet(&Round { grid: 1, ..round }));
+        let (mut lines, mut others) = (here.lines(), there.lines());
+        let bound = lines.next();
+        if bound != Some("bound\tnone") && bound != others.next() && lines.ne(others) {
+            return round;
+        }
+    }
+}
+
+/// Rounds of 1 to 16 doors on a grid of 1, twice over; two whose sheets the grid decides; and of 3 to 16 doors on other grids.
 fn rounds() -> Vec<Round> {
     let mut c = Chance::new(2);
-    let around = [(5, 30, 1), (30, 10, 1), (80, 10, 4), (200, 3, 2), (1000, 4, 4), (1000, 1000, 0)];
-    (0..32)
-        .map(|k| {
-            let n = k % 16 + 1;
-            let (slack, pairs, change) = around[k % around.len()];
-            if k % 5 == 4 { Round::wild(&mut c, n) } else { Round::around(&mut c, n, slack, pairs, change) }
-        })
-        .collect()
+    let mut rounds: Vec<Round> = (0..32).map(|k| round(&mut c, k, 1, k % 16 + 1)).collect();
+    rounds.extend([4, 6].map(|n| decided(&mut c, n)));
+    for k in 0..14 {
+        let grid = grid_above_1(&mut c);
+        rounds.push(round(&mut c, k, grid, k + 3));
+    }
+    rounds
 }
 
 /// Each text with an empty line after it.
@@ -27,26 +55,32 @@ pub fn print_texts() {
     }
 }
 
+/// The lines of a sheet; behind that of refine, whether the diagram is settled.
+fn sheet(round: &Round) -> String {
+    let mut lines = String::new();
+    let mut d = Diagram::new(round, WIDTH);
+    let full = d.refine();
+    match d.bound() {
+        Some((doors, minutes)) => writeln!(lines, "bound\t{doors}\t{minutes}").unwrap(),
+        None => writeln!(lines, "bound\tnone").unwrap(),
+    }
+    if full == 0 {
+        writeln!(lines, "refine\twhole").unwrap();
+    } else {
+        writeln!(lines, "refine\tfull\t{full}").unwrap();
+    }
+    writeln!(lines, "settled\t{}", if d.settled() { "yes" } else { "no" }).unwrap();
+    let musts = d.musts();
+    for i in 1..=round.n {
+        for j in (1..=round.n).filter(|j| musts[i] >> j & 1 == 1) {
+            writeln!(lines, "must\t{i}\t{j}").unwrap();
+        }
+    }
+    lines
+}
+
 pub fn print_sheets() {
     for (k, round) in rounds().iter().enumerate() {
-        let mut d = Diagram::new(round, WIDTH);
-        println!("sheet\t{}\tdoors\t{}", k + 1, round.n);
-        let full = d.refine();
-        match d.bound() {
-            Some((doors, minutes)) => println!("bound\t{doors}\t{minutes}"),
-            None => println!("bound\tnone"),
-        }
-        if full == 0 {
-            println!("refine\twhole");
-        } else {
-            println!("refine\tfull\t{full}");
-        }
-        println!("settled\t{}", if d.settled() { "yes" } else { "no" });
-        let musts = d.musts();
-        for i in 1..=round.n {
-            for j in (1..=round.n).filter(|j| musts[i] >> j & 1 == 1) {
-                println!("must\t{i}\t{j}");
-            }
-        }
+        print!("sheet\t{}\tdoors\t{}\n{}", k + 1, round.n, sheet(round));
     }
 }

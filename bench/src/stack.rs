@@ -2,7 +2,7 @@
 
 use crate::chance::Chance;
 use crate::library;
-use crate::round::Round;
+use crate::round::{Drawn, Round};
 use std::hint::black_box;
 use std::process::ExitCode;
 
@@ -30,7 +30,8 @@ fn of_call(call: impl Fn()) -> usize {
     deep(base)
 }
 
-/// Sheets of rounds of 16 doors at width 128, with every kind of call, in a thread with room for the paint.
+/// Sheets of rounds of 16 doors at width 128, half of them on a grid of 15, with every kind of call, in a thread with room for
+/// the paint.
 fn measure() -> usize {
     let mut c = Chance::new(3);
     let calls: Vec<u8> = [[2, 1, 1, 0], [1, 0, 0, 0], [3, 1, 1, 2], [6, 0, 0, 0], [4, 9, 999, 0], [5, 0, 0, 0]]
@@ -38,7 +39,11 @@ fn measure() -> usize {
         .flatten()
         .flat_map(|w: &u32| w.to_le_bytes())
         .collect();
-    let rounds: Vec<String> = (0..12).map(|k| Round::around(&mut c, 16, [40, 160, 1000][k % 3], 20, 2).text()).collect();
+    let mut round = |k: usize| {
+        let slack = [40, 160, 1000][k % 3];
+        Round::around(&mut c, [1, 15][k % 2], 16, Drawn { slack, pairs: 20, change: 2 })
+    };
+    let rounds: Vec<String> = (0..12).map(|k| round(k).text()).collect();
     let mut out = vec![0; 256];
     rounds
         .iter()

@@ -16,6 +16,8 @@ pub(crate) struct Counts {
     pub(crate) loose: usize,
     pub(crate) load: usize,
     pub(crate) equal: usize,
+    pub(crate) grids: usize,
+    pub(crate) lifted: usize,
     pub(crate) none: usize,
     pub(crate) one: usize,
     pub(crate) many: usize,
@@ -81,7 +83,7 @@ fn write_rows<W: fmt::Write>(f: &mut fmt::Formatter<W>, rows: &[Row]) -> fmt::Re
 }
 
 impl Counts {
-    fn kind_rows(&self) -> [Row; 11] {
+    fn kind_rows(&self) -> [Row; 13] {
         [
             ("pairs that close a ring", self.ring, "\t"),
             ("pairs that rule out an order", self.pairs, "\n"),
@@ -89,6 +91,8 @@ impl Counts {
             ("loose hours", self.loose, "\n"),
             ("a load that rules out an order", self.load, "\t"),
             ("two orders of the least cost", self.equal, "\n"),
+            ("a grid above 1", self.grids, "\t"),
+            ("a grid that rules out an order", self.lifted, "\n"),
             ("rounds with no allowed order", self.none, "\t"),
             ("with one", self.one, "\t"),
             ("with more", self.many, "\n"),

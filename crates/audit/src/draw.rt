@@ -85,6 +85,19 @@ fn add_pair(text: &mut String, dice: &mut Dice, kind: Kind) -> Result<(), AllocE
     write!(text, "first\t{i}\t{j}\n")
 }
 
+/// The grid, if the round line names one: half of them do, most often one that tells at the round's minutes.
+fn draw_grid(dice: &mut Dice, kind: Kind) -> Option<u16> {
+    if dice.roll(2) == 0 {
+        return None;
+    }
+    let grids = if kind.large {
+        [1, 2, 7, 15, 15, 15, 30, 45, 60, 60, 60, 60]
+    } else {
+        [1, 2, 2, 2, 3, 3, 4, 4, 5, 6, 15, 60]
+    };
+    Some(grids[dice.roll(12)])
+}
+
 /// The round of a text.
 pub(crate) fn round_of(text: &[u8]) -> anyhow::Result<Round> {
     let mut round = Round::fresh();
@@ -105,7 +118,11 @@ pub(crate) fn draw(alloc: Global, dice: &mut Dice, n: usize) -> Result<String, A
     };
     let load = dice.roll(2).saturating_add(kind.load);
     let cap = load.saturating_add(kind.load).saturating_add(dice.roll(2));
-    let mut text = format!(in alloc; "round\t{n}\t{load}\t{cap}\n")?;
+    let mut text = format!(in alloc; "round\t{n}\t{load}\t{cap}")?;
+    if let Some(grid) = draw_grid(dice, kind) {
+        write!(text, "\t{grid}")?;
+    }
+    text.push('\n')?;
     for j in 1..=n {
         add_door(&mut text, dice, kind, j)?;
     }

@@ -28,25 +28,41 @@ fn after(heap: Global, ahead: &[&[u8]], text: &[u8]) -> Result<(u8, usize, usize
     Ok(outcome(whole.as_slice()))
 }
 
+/// What follows the round line of one door.
+const ONE: &[u8] = b"door\t1\t2\t90\t80\t7\t-1\ndrive\t0\t33\ndrive\t1\t-\n";
+
 #[test]
-fn the_example_is_read(rt: HostRuntime) {
-    let mut round = Round::fresh();
-    let text = b"round\t1\t4\t5\ndoor\t1\t2\t90\t80\t7\t-1\ndrive\t0\t33\ndrive\t1\t-\n";
-    assert!(rt; read_bounded(&mut round, text).is_ok());
-    assert_eq!(rt; (round.n, round.load, round.cap), (1, 4, 5));
-    let door = round.door(1);
-    assert_eq!(rt;
-        (door.opens, door.closes, door.due, door.work),
-        (2, 90, 80, 7)
-    );
-    assert_eq!(rt; (door.change, round.drive(0, 1)), (-1, 33));
+fn the_example_is_read_on_each_grid(rt: HostRuntime) -> Result<(), Fail> {
+    for (head, grid) in [
+        (b"round\t1\t4\t5\n".as_slice(), 1),
+        (b"round\t1\t4\t5\t1\n", 1),
+        (b"round\t1\t4\t5\t60\n", 60),
+    ] {
+        let text = [head, ONE].concat(rt.alloc())?;
+        let mut round = Round::fresh();
+        round.grid = 7;
+        read_bounded(&mut round, text.as_slice())?;
+        assert_eq!(rt;
+            (round.n, round.load, round.cap, round.grid),
+            (1, 4, 5, grid)
+        );
+        let door = round.door(1);
+        assert_eq!(rt;
+            (door.opens, door.closes, door.due, door.work),
+            (2, 90, 80, 7)
+        );
+        assert_eq!(rt; (door.change, round.drive(0, 1)), (-1, 33));
+    }
+    Ok(())
 }
 
 #[test]
 fn a_refusal_leaves_the_round(rt: HostRuntime) {
     let mut round = Round::fresh();
-    assert!(rt; read_bounded(&mut round, b"round\t2\t7\t8\nx").is_err());
-    assert_eq!(rt; (round.n, round.load, round.cap), (1, 0, 0));
+    assert_eq!(rt; round.grid, 1);
+    round.grid = 7;
+    assert!(rt; read_bounded(&mut round, b"round\t2\t7\t8\t15\nx").is_err());
+    assert_eq!(rt; (round.n, round.load, round.cap, round.grid), (1, 0, 0, 7));
 }
 
 /// Three doors, the third of which opens at no number.
@@ -80,9 +96,11 @@ const LINES: Cases<'static> = &[
     (b"\xffound\t1\t0\t0\n", (1, 1, 1), "a byte above 127"),
     (b"door\t1\n", (1, 1, 1), "1 ahead of 2"),
     (b"round\n", (2, 1, 1), "kind alone"),
-    (b"round\t1\t0\t0\t0\n", (2, 1, 1), "a field too many"),
+    (b"round\t1\t0\t0\t1\t1\n", (2, 1, 1), "a field too many"),
     (b"round\tx\t0\n", (2, 1, 1), "2 ahead of 3"),
     (b"round\t1\t0\t0\n", (1, 2, 1), "text ends early"),
+    (b"round\t1\t0\t0\t1\n", (1, 2, 1), "the least grid"),
+    (b"round\t1\t0\t0\t60\n", (1, 2, 1), "the greatest grid"),
 ];
 
 const NUMBERS: Cases<'static> = &[
@@ -96,6 +114,11 @@ const NUMBERS: Cases<'static> = &[
     (b"round\t17\t0\t0\n", (4, 1, 2), "too many doors"),
     (b"round\t1\t1000\tx\n", (4, 1, 3), "from the left"),
     (b"round\t1\t5\t4\n", (4, 1, 4), "cap below start load"),
+    (b"round\t1\t0\t0\t0\n", (4, 1, 5), "a grid of 0"),
+    (b"round\t1\t0\t0\t61\n", (4, 1, 5), "too wide a grid"),
+    (b"round\t1\t0\t0\t01\n", (3, 1, 5), "leading zero of a grid"),
+    (b"round\t1\t0\t0\t\n", (3, 1, 5), "an empty grid"),
+    (b"round\t1\t5\t4\t0\n", (4, 1, 4), "cap ahead of grid"),
     (
         b"round\t1111111111222222222233333333334444444444\t0\t0\n",
         (4, 1, 2),

@@ -1,5 +1,5 @@
 //! Reports of orders as they are printed, worked out by hand and by a second calculation, and orders that are refused.
-use crate::rounds::{THREE, round_of, text_of};
+use crate::rounds::{QUARTER, THREE, round_of, text_of};
 use order_report::named::doors_named;
 use order_report::report::{NoOrder, Report};
 use std::alloc::{AllocError, Global};
@@ -23,6 +23,10 @@ const FAR_REPORT: &str =
 /// With 1, 2, 3 the third of the three doors is done after it closes.
 const CLOSES_REPORT: &str =
     "finish\t1\t2\nfinish\t2\t6\nfinish\t3\t9\nallowed\tno\tcloses\t3\ndriving\t0\nlate\t1\t3\n";
+
+/// On a grid of 1 door 4 would be done in time, at 180.
+const QUARTER_REPORT: &str =
+    "finish\t2\t60\nfinish\t1\t130\nfinish\t4\t185\nfinish\t3\t220\nallowed\tno\tcloses\t4\ndriving\t115\nlate\t2\t95\n";
 
 /// The words of a line, as a program is given them.
 fn words_of(heap: Global, line: &str) -> Result<Vec<String>, AllocError> {
@@ -51,6 +55,7 @@ fn a_report_is_shown_in_lines(rt: HostRuntime) -> Result<(), Fail> {
         (THREE, "1 2 3", CLOSES_REPORT),
         (THREE, "1 3", "refused\torder"),
         (LOAD, "1 3 2", LOAD_REPORT),
+        (QUARTER, "2 1 4 3", QUARTER_REPORT),
         (FAR, "16 15 14 13 12 11 10 9 8 7 6 5 4 3 2 1", FAR_REPORT),
     ] {
         let words = words_of(rt.alloc(), words)?;

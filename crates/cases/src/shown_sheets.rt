@@ -1,5 +1,5 @@
 //! Sheets as they are printed, worked out by other programs.
-use crate::rounds::{THREE, round_of, text_of};
+use crate::rounds::{QUARTER, THREE, round_of, text_of};
 use layers::refusal::Refusal;
 use round_sheet::sheet::{EMPTY, RECORDS, Sheet};
 use std::alloc::Global;
@@ -20,6 +20,17 @@ const DECIDED: &[u8] =
 
 const DECIDED_SHEET: &str =
     "bound\t2\t36\nrefine\twhole\nmust\t1\t5\nmust\t2\t1\nmust\t2\t5\nmust\t3\t1\nmust\t3\t2\nmust\t3\t4\nmust\t3\t5\nmust\t4\t1\nmust\t4\t2\nmust\t4\t5\n";
+
+/// On a grid of 1 the bound is 0 and 0, and the fourth must is missing.
+const QUARTER_SHEET: &str =
+    "bound\t1\t5\nrefine\twhole\nmust\t2\t1\nmust\t2\t3\nmust\t2\t4\nmust\t4\t1\nmust\t4\t3\n";
+
+/// Five doors, where pairs, load, hours and the grid of 15 each decide: without any one of them the sheet is another.
+const LIFTED: &[u8] =
+    b"round\t5\t0\t3\t15\ndoor\t1\t87\t147\t133\t10\t-1\ndoor\t2\t36\t95\t73\t20\t2\ndoor\t3\t104\t202\t140\t10\t2\ndoor\t4\t0\t85\t59\t22\t0\ndoor\t5\t69\t183\t131\t9\t0\ndrive\t0\t9\t2\t22\t2\t19\ndrive\t1\t-\t3\t26\t4\t20\ndrive\t2\t13\t-\t15\t5\t10\ndrive\t3\t17\t28\t-\t22\t8\ndrive\t4\t13\t5\t15\t-\t24\ndrive\t5\t22\t6\t9\t12\t-\nfirst\t5\t3\nfirst\t4\t5\n";
+
+const LIFTED_SHEET: &str =
+    "bound\t1\t20\nrefine\twhole\nmust\t1\t3\nmust\t2\t1\nmust\t2\t3\nmust\t2\t5\nmust\t4\t1\nmust\t4\t2\nmust\t4\t3\nmust\t4\t5\nmust\t5\t3\n";
 
 /// Sixteen doors, of which layer 9 gets full.
 const FULL: &[u8] =
@@ -49,6 +60,8 @@ fn a_sheet_is_shown_in_lines(rt: HostRuntime) -> Result<(), Fail> {
         (THREE, THREE_SHEET),
         (NONE, NONE_SHEET),
         (DECIDED, DECIDED_SHEET),
+        (QUARTER, QUARTER_SHEET),
+        (LIFTED, LIFTED_SHEET),
         (FULL, FULL_SHEET),
         (FREE, FREE_SHEET),
     ] {

@@ -3,7 +3,7 @@
 use Rattle.std.specs.Prelude.{◌≡◌, ℕ, ◌*◌, Bool, true, if◌then◌else◌, List, length, take, Option, ◌==◌, nat_le}
 use Rattle.std.specs.List.{list_all}
 use Rattle.round.specs.declared.table.Round.{Round}
-use Rattle.round.specs.Clock.{finish, latest_finish}
+use Rattle.round.specs.Clock.{latest_finish}
 use Rattle.rules.specs.Rules.{RuleSense}
 use Rattle.layers.specs.declared.node.Node.{Node}
 use Rattle.layers.specs.declared.node.Down.{Down}
@@ -61,19 +61,19 @@ module _ {S V : Type 0} (by : Setting S V) where
   filter_labelled_steps goes xs = if none_goes goes by.round.n by.width xs then xs else relabelled_used by (thinned goes xs)
 
   unfoldable pub sweep_steps : List (Node S V) → List (Node S V)
-  unfolding filter_steps leg finish
+  unfolding filter_steps leg
   sweep_steps = filter_steps (is_barred by.round by.rule)
 
   unfoldable pub sweep_labelled_steps : List (Node S V) → List (Node S V)
-  unfolding filter_labelled_steps leg finish
+  unfolding filter_labelled_steps leg
   sweep_labelled_steps = filter_labelled_steps (is_barred by.round by.rule)
 
   unfoldable pub cut_steps : V → List (Node S V) → List (Node S V)
-  unfolding filter_steps leg finish
+  unfolding filter_steps leg
   cut_steps c = filter_steps (is_above_ceiling by.round by.tally c)
 
   unfoldable pub backsweep_steps : List (Node S V) → List (Node S V)
-  unfolding filter_steps leg finish
+  unfolding filter_steps leg
   backsweep_steps = filter_steps (is_past_late by.round)
 
   -- the labels are those that this setting gives
@@ -112,7 +112,7 @@ module _ {S V : Type 0} (by : Setting S V) where
 module _ {S V : Type 0} (r : Round) (rule : RuleSense S) (W : ℕ) where
   -- no arc would be taken out
   unfoldable pub quiet_steps : List (Node S V) → Bool
-  unfolding none_goes leg finish
+  unfolding none_goes leg
   quiet_steps = none_goes (is_barred r rule) r.n W
 
   -- on the records of a diagram: no arc is one that a sweep takes out

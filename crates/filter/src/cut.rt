@@ -11,13 +11,11 @@ use crate::test::{Arc, Test};
 use labels::room::has_room;
 use layers::node::{Down, Node, Up};
 use layers::setting::Setting;
+use round::clock::LATEST_DEPARTURE;
 use round::table::Round;
 use rules::rule::Rule;
 use std::marker::PhantomData;
 use tallies::tally::Tally;
-
-/// The latest finish after 15 doors: 9,999 + 15 * 1,998.
-const LATEST: u32 = 39_969;
 
 /// The ceiling. A rule has no say in it: its states stand for themselves.
 #[derive(Drop)]
@@ -50,7 +48,9 @@ fn all_timely<S: Copy, V: Copy>(nodes: &[Node<S, V>], end: usize) -> bool
     requires { end ≤ length nodes.now }
     ensures { result ≡ timely (take end nodes.now) }
 {
-    nodes[..end].iter().all(|x| x.label.down.finish <= LATEST)
+    nodes[..end]
+        .iter()
+        .all(|x| x.label.down.finish <= LATEST_DEPARTURE)
 }
 
 /// Takes out each arc whose arrival has a value above the ceiling, by the labels that stand, tidies and labels anew, and answers

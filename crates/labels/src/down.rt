@@ -10,6 +10,7 @@ use crate::leg::legs;
 use crate::outs::list_doors;
 use layers::node::{Down, Node};
 use layers::setting::Setting;
+use round::clock::LATEST_DEPARTURE;
 use rules::rule::Rule;
 use tallies::tally::Tally;
 
@@ -150,14 +151,11 @@ fn clear<R: Rule, T: Tally>(rule: &R, tally: &T, vs: &mut [Node<R::State, T::Val
     }
 }
 
-/// The latest finish that the clock allows before the end.
-const LATEST: u32 = 39_969;
-
 /// Whether the record is in use, with a finish that the clock allows before the end.
 fn is_source<S: Copy, V: Copy>(u: &Node<S, V>) -> bool
     ensures { result ≡ is_source u.now }
 {
-    u.label.down.lasts != 0 && u.label.down.finish <= LATEST
+    u.label.down.lasts != 0 && u.label.down.finish <= LATEST_DEPARTURE
 }
 
 /// Over all arcs of the nodes of the layer us, which stand first.

@@ -7,7 +7,6 @@ use Rattle.layers.specs.Net.{Net, width, Layer}
 use Rattle.layers.specs.Flow.{end_label}
 use Rattle.layers.specs.Tidy.{tidied_arcs}
 use Rattle.layers.specs.Calls.{LayerLabels, kept_arcs, keeps_all_arcs, arrivals, parted_arcs, in_arcs_agree}
-use Rattle.round.specs.Clock.{finish}
 use Rattle.layers.specs.Labels.{leg, is_barred, is_above_ceiling, is_past_late, ups, no_up, first_labels, blank_label, arrival_over, merge, labels_next, all_agree, first_arrival, differs_from_first}
 use Rattle.layers.specs.Settings.{Setting}
 use Rattle.layers.specs.declared.node.Down.{Down}
@@ -39,21 +38,21 @@ module _ {S V : Type 0} (by : Setting S V) where
   sweeps = kept (is_barred by.round by.rule)
 
   unfoldable pub sweep : Net → Net
-  unfolding kept_arcs leg finish tidied_arcs
+  unfolding kept_arcs leg tidied_arcs
   sweep Ls = tidied_arcs (sweeps 0 (first_labels by.rule by.tally) Ls)
 
   abbrev pub cuts : V → ℕ → List (Option (Down S V)) → Net → Net
   cuts c = kept (is_above_ceiling by.round by.tally c)
 
   unfoldable pub cut : V → Net → Net
-  unfolding kept_arcs leg finish tidied_arcs
+  unfolding kept_arcs leg tidied_arcs
   cut c Ls = tidied_arcs (cuts c 0 (first_labels by.rule by.tally) Ls)
 
   abbrev pub backsweeps : ℕ → List (Option (Down S V)) → Net → Net
   backsweeps = kept (is_past_late by.round)
 
   unfoldable pub backsweep : Net → Net
-  unfolding kept_arcs leg finish tidied_arcs
+  unfolding kept_arcs leg tidied_arcs
   backsweep Ls = tidied_arcs (backsweeps 0 (first_labels by.rule by.tally) Ls)
 
   -- d is the layer less one, a the place of the node
@@ -84,7 +83,7 @@ module _ {S V : Type 0} (by : Setting S V) where
   quiet i labs Ls = keeps_all_arcs (is_barred by.round by.rule) i Ls (labels_from labs Ls)
 
   unfoldable pub settles : ℕ → List (Option (Down S V)) → Net → Bool
-  unfolding in_arcs_agree keeps_all_arcs leg finish
+  unfolding in_arcs_agree keeps_all_arcs leg
   settles i labs Ls = agrees labs Ls && quiet i labs Ls
 
   unfoldable pub settled : Net → Bool

@@ -18,7 +18,6 @@ use Rattle.layers.specs.Tidy.{tidied_arcs}
 use Rattle.layers.specs.Join.{clash, joined_arcs}
 use Rattle.layers.specs.Settings.{Setting}
 use Rattle.std.specs.Int.Count.{ones}
-use Rattle.round.specs.Clock.{finish}
 use Rattle.layers.specs.Labels.{leg, arrival_over, opening_arcs, is_barred, is_above_ceiling, is_past_late, agree, all_agree, first_arrival, differs_from_first}
 use Rattle.layers.specs.Records.{layers, arcs_in, downs_in, ups_in, arcs_of_layers, labelled_records}
 
@@ -166,7 +165,7 @@ module _ {S V : Type 0} (by : Setting S V) where
 
   -- sweep
   unfoldable pub after_sweep : Recs → Recs
-  unfolding records_with tidied_arcs kept_arcs ones leg finish
+  unfolding records_with tidied_arcs kept_arcs ones leg
   after_sweep xs = records_with xs (tidied_arcs (kept_arcs (is_barred by.round by.rule) 0 (arcs by.round.n by.width xs) (labels by.round.n by.width xs)))
 
   -- how many arcs it took out
@@ -175,7 +174,7 @@ module _ {S V : Type 0} (by : Setting S V) where
 
   -- cut at the ceiling c
   unfoldable pub after_cut : V → Recs → Recs
-  unfolding records_with tidied_arcs kept_arcs ones leg finish
+  unfolding records_with tidied_arcs kept_arcs ones leg
   after_cut c xs = records_with xs (tidied_arcs (kept_arcs (is_above_ceiling by.round by.tally c) 0 (arcs by.round.n by.width xs) (labels by.round.n by.width xs)))
 
   -- how many arcs it took out
@@ -184,7 +183,7 @@ module _ {S V : Type 0} (by : Setting S V) where
 
   -- backsweep
   unfoldable pub after_backsweep : Recs → Recs
-  unfolding records_with tidied_arcs kept_arcs leg finish
+  unfolding records_with tidied_arcs kept_arcs leg
   after_backsweep xs = records_with xs (tidied_arcs (kept_arcs (is_past_late by.round) 0 (arcs by.round.n by.width xs) (labels by.round.n by.width xs)))
 
   -- how many arcs it took out
@@ -321,7 +320,7 @@ module _ {S V : Type 0} (by : Setting S V) where
 
   -- settled: the in-arcs of each node agree, and no arc is one that a sweep takes out
   unfoldable pub is_settled : Recs → Bool
-  unfolding in_arcs_agree keeps_all_arcs ones leg finish
+  unfolding in_arcs_agree keeps_all_arcs ones leg
   is_settled xs =
       in_arcs_agree by (arcs by.round.n by.width xs) (labels by.round.n by.width xs)
       && keeps_all_arcs (is_barred by.round by.rule) 0 (arcs by.round.n by.width xs) (labels by.round.n by.width xs)

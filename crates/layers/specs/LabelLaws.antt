@@ -67,7 +67,7 @@ pub record Labelled {S V : Type 0} (r : Round) (Allows : ℕ → V → Type 0) (
   -- the doors on every path from it to the end, and on at least one
   pub allup : Exactly x.label.up.allup (OnEvery (LeadsOn D i a))
   pub someup : Exactly x.label.up.someup (OnOne (LeadsOn D i a))
-  -- the finish is at most 9999 + i * 1998, and the value is allowed after i doors
+  -- the finish is not above the clock's bound after i steps, and the value is allowed after i doors
   pub finish : x.label.down.finish ≤ latest_finish i
   -- the last minute to leave it is not below that of any order that runs through the node
   pub late : IsLastMinute r D i a x.label.up.late

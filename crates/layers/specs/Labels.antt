@@ -91,7 +91,7 @@ arrival_value r tally l j = tally.step l.value j (leg r l.lasts j) (arrival_fini
 
 -- what it brings to its target
 unfoldable pub arrival_over : {S V : Type 0} → Setting S V → Down S V → ℕ → Down S V
-unfolding leg finish
+unfolding leg
 arrival_over by l j = record {
   all = bit_or l.all (bit_of j);
   some = bit_or l.some (bit_of j);

@@ -1,5 +1,6 @@
 -- The clock of a round. What is built on it uses the laws below, and not the text of `finish`.
-use Rattle.std.specs.Prelude.{ℕ, suc, ◌+◌, ◌*◌, ◌≤◌, max}
+use Rattle.std.specs.Prelude.{◌≡◌, ℕ, suc, ◌+◌, ◌*◌, ◌%◌, ◌≤◌, max}
+use Rattle.std.specs.Int.{next_multiple_of}
 use Rattle.round.specs.declared.door.Door.{Door}
 use Rattle.round.specs.declared.table.Round.{Round}
 use Rattle.round.specs.Tables.{at, minutes_between}
@@ -12,14 +13,24 @@ door r j = at r.doors j
 abbrev pub drive : Round → ℕ → ℕ → ℕ
 drive r i j = minutes_between r.drives i j
 
--- the minute at which the work at door j ends, for a van that left its last place at minute f and drove g minutes:
--- work starts at the later of the door's opening and the arrival
+-- s is the least whole multiple of g that is not below m
+pub record IsLeastMultiple (g m s : ℕ) : Type 0 where
+  pub multiple : s % g ≡ 0
+  pub not_below : m ≤ s
+  pub least : (k : ℕ) → m ≤ k * g → s ≤ k * g
+
+-- the minute at which the work at door j starts, for a van that left its last place at minute f and drove g minutes:
+-- the later of the door's opening and the arrival, lifted to the grid (IsLeastMultiple)
+abbrev pub start : Round → ℕ → ℕ → ℕ → ℕ
+start r f g j = next_multiple_of (max (door r j).opens (f + g)) r.grid
+
+-- the minute at which that work ends
 unfoldable pub finish : Round → ℕ → ℕ → ℕ → ℕ
-finish r f g j = max (door r j).opens (f + g) + (door r j).work
+finish r f g j = start r f g j + (door r j).work
 
 -- no finish passes this after k steps
 abbrev pub latest_finish : ℕ → ℕ
-latest_finish k = 9999 + k * 1998
+latest_finish k = 9999 + k * 2057
 
 -- What the clock promises.
 pub record ClockLaws (r : Round) : Type 0 where

@@ -1,18 +1,23 @@
 //! Reading a round's tables, and its clock.
-ghost use Rattle.std.specs.Prelude.{◌≡◌, ◌+◌, ◌≤◌, max, replicate, slice_index, slice_set};
+ghost use Rattle.std.specs.Prelude.{◌≡◌, ◌+◌, ◌^◌, ◌<◌, ◌≤◌, max, replicate, slice_index, slice_set};
+ghost use Rattle.std.specs.Int.{next_multiple_of};
 ghost use Rattle.doors.specs.Orders.{is_door};
 ghost use Rattle.round.specs.Tables.{blank, new_door};
-ghost use Rattle.round.specs.Clock.{door, drive, finish, ClockLaws};
+ghost use Rattle.round.specs.Clock.{door, drive, start, finish, IsLeastMultiple, ClockLaws};
 
 use crate::door::{BLANK, Door};
 use crate::table::Round;
 
+/// No van leaves for its next door after this minute: it has been to 15 doors at most.
+pub const LATEST_DEPARTURE: u32 = 40_854;
+
 impl Round {
-    /// One door with one minute of work, and all else 0.
+    /// One door with one minute of work, starts at any minute, and all else 0.
     pub fn fresh() -> Round
         ensures n { result.n ≡ 1 }
         ensures load { result.load ≡ 0 }
         ensures cap { result.cap ≡ 0 }
+        ensures grid { result.grid ≡ 1 }
         ensures doors { result.doors ≡ slice_set (replicate 17 blank) 1 new_door }
         ensures drives { result.drives ≡ replicate 17 (replicate 17 0) }
         ensures ahead { result.ahead ≡ replicate 17 0 }
@@ -29,6 +34,7 @@ impl Round {
             n: 1,
             load: 0,
             cap: 0,
+            grid: 1,
             doors,
             drives: [[0; 17]; 17],
             ahead: [0; 17],
@@ -58,14 +64,28 @@ impl Round {
         minutes.map_or(0, |minutes| u32::from(*minutes))
     }
 
-    /// The minute at which the work at door j ends, for a van that left its last place at minute `from` and drove `leg` minutes.
+    /// The first multiple of the grid from that minute on. Where every minute is one, nothing is divided.
+    fn lifted(&self, minute: u64) -> u64
+        requires { minute < 2 ^ 33 }
+        ensures { result ≡ next_multiple_of minute self.now.grid }
+    {
+        match u64::from(self.grid) {
+            1 => minute,
+            grid => minute.next_multiple_of(grid),
+        }
+    }
+
+    /// The minute at which the work at door j ends, for a van that left its last place at minute `from` and drove `leg` minutes:
+    /// work starts at the first multiple of the grid from the door's opening and the arrival on.
     #[tactic(auto, unfolding(crate::specs::Clock::finish))]
     pub fn finish(&self, from: u32, leg: u32, j: usize) -> u64
         ensures value { result ≡ finish self.now from leg j }
+        ensures start { IsLeastMultiple self.now.grid (max (door self.now j).opens (from + leg))
+            (start self.now from leg j) }
         ensures laws { ClockLaws self.now }
     {
         let door = self.door(j);
         let arrives = u64::from(from) + u64::from(leg);
-        arrives.max(u64::from(door.opens)) + u64::from(door.work)
+        self.lifted(arrives.max(u64::from(door.opens))) + u64::from(door.work)
     }
 }

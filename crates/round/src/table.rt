@@ -13,6 +13,8 @@ pub struct Round {
     /// the key boxes in the van at the start, and the most that it holds
     pub load: u16,
     pub cap: u16,
+    /// work starts only at whole multiples of so many minutes
+    pub grid: u16,
     pub doors: [Door; 17],
     pub drives: [[u16; 17]; 17],
     pub ahead: [DoorSet; 17],
@@ -20,6 +22,8 @@ pub struct Round {
     ghost most: { n ≤ 16 },
     ghost within: { load ≤ cap },
     ghost small: { cap ≤ 999 },
+    ghost grid_one: { 1 ≤ grid },
+    ghost grid_most: { grid ≤ 60 },
     ghost opens: { (j : ℕ) → (at doors j).opens ≤ 9999 },
     ghost closes: { (j : ℕ) → (at doors j).closes ≤ 9999 },
     ghost due: { (j : ℕ) → (at doors j).due ≤ 9999 },

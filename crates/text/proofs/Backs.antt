@@ -1,8 +1,9 @@
 -- A text of the form is accepted.
-use Rattle.std.proofs.Common.{◌≡◌, ℕ, suc, ◌+◌, ◌-◌, ◌<◌, ◌≤◌, Bool, true, false, nat_eq, nat_lt, List, [], ◌∷◌, ◌++◌, map, fold, length, slice_index_or, drop, slice_set, replicate, ℤ, pos, negsuc, ◌≤ℤ◌, Ok, Err, decimal, sym, refl, ap, ◌∙◌, arith, le-ltb, lt-ltb, eq-eqb}
+use Rattle.std.proofs.Common.{◌≡◌, ℕ, suc, ◌+◌, ◌-◌, ◌<◌, ◌≤◌, Bool, true, false, nat_eq, nat_lt, List, [], ◌∷◌, ◌++◌, map, fold, length, slice_index_or, drop, slice_set, replicate, ℤ, pos, negsuc, ◌≤ℤ◌, Option, Some, None, Ok, Err, decimal, sym, refl, ap, ◌∙◌, arith, le-ltb, lt-ltb, eq-eqb}
 use borrow.Author.Differences.{ints}
 use Rattle.std.specs.Fmt.{signed_decimal}
 use Rattle.std.specs.List.{All, list_all, join_with_byte}
+use Rattle.std.specs.Option.{IfSome}
 use Rattle.std.specs.Str.{all_ascii_digits}
 use Rattle.std.proofs.lemmas.Bool.{and_parts}
 use Rattle.std.proofs.lemmas.Bool.Decides.{nat_tests}
@@ -16,6 +17,7 @@ use Rattle.text.specs.declared.stage.Stage.{Stage}
 use Rattle.text.specs.declared.stage.Stage.TheVariants.{Head, Doors, Drives, Pairs}
 use Rattle.text.specs.declared.draft.Draft.{Draft}
 use Rattle.round.specs.declared.door.Door as door
+use Rattle.text.specs.declared.line.Head as head
 use Rattle.text.specs.declared.line.Pair as pair
 use Rattle.text.specs.Pieces.{pieces, fields_in, lines_in}
 use Rattle.text.specs.Lines.{leg_in, row_from}
@@ -89,6 +91,13 @@ line-gives fs fss line s t d u e c h g =
     let j = joined fs c in
     let w = join_with_byte 9 fs in
     rw (read_step (w ++ 10 ∷ written fss) w (written fss) line s d (pieces_more 10 w (written fss) j.1), j.0, h) g
+
+-- the round line is taken as it is written
+head-back : (n load cap : ℕ) (g : Option ℕ) → 1 ≤ n → n ≤ 16 → load ≤ cap → cap ≤ 999 → IfSome g (λ v. (1 ≤ v) × (v ≤ 60)) → let h : head.Head = record { n = n; load = load; cap = cap; grid = g } in Clean (head_fields h) × (line_step Head unread 1 (head_fields h) ≡ Ok (Doors 1, with_head unread h))
+head-back n load cap None a b c d e =
+    ((omega arith, grind (arith, clear-decimal)), grind (arith, nat_tests, number-back 1 16 n 1 2, number-back 0 999 load 1 3, number-back load 999 cap 1 4))
+head-back n load cap (Some g) a b c d e =
+    ((omega arith, grind (arith, clear-decimal, e)), grind (arith, nat_tests, number-back 1 16 n 1 2, number-back 0 999 load 1 3, number-back load 999 cap 1 4, number-back 1 60 g 1 5, e))
 
 -- the line of door k is taken as it is written
 door-back : (k : ℕ) (d : Draft) (x : door.Door) (line : ℕ) → 1 ≤ k → k ≤ d.n → d.n ≤ 16 → DoorFits x → line_step (Doors k) d line (door_fields k x) ≡ Ok (doors_from d.n (k + 1), with_door d k x)
@@ -167,10 +176,8 @@ gives-all c f =
     let ps = map pair_fields c.pairs in
     let u : Draft = record d { doors = fill 1 c.doors unread.doors } in
     let v : Draft = record u { drives = fill 0 (map row_of c.rows) unread.drives } in
-    let clean : Clean (head_fields h) = (omega arith, grind (arith, clear-decimal)) in
-    let step : line_step Head unread 1 (head_fields h) ≡ Ok (Doors 1, d) =
-    grind (arith, nat_tests, number-back 1 16 h.n 1 2, number-back 0 999 h.load 1 3, number-back h.load 999 h.cap 1 4) in
-    line-gives (head_fields h) _ 1 Head (Doors 1) unread d _ clean step
+    let taken = head-back h.n h.load h.cap h.grid f.one f.most f.load f.cap f.grid in
+    line-gives (head_fields h) _ 1 Head (Doors 1) unread d _ taken.0 taken.1
     (rw (le-ltb h.n 1 f.one) at (gives-doors c.doors (map_from row_fields 0 c.rows ++ ps) 1 2 d e f.most (omega arith) (omega (arith, f.many)) f.doors
     (λ m. rw (le-ltb h.n 0 (omega arith)) at (gives-rows c.rows ps 0 m u e f.most (omega (arith, f.places)) f.rows
     (λ n. gives-pairs c.pairs n v f.most f.pairs)))))

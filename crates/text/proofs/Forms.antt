@@ -1,5 +1,7 @@
 -- An accepted text has the form of a round's text.
-use Rattle.std.proofs.Common.{◌≡◌, ◌≢◌, ℕ, zero, suc, ◌+◌, ◌-◌, ◌<◌, ◌≤◌, List, [], ◌∷◌, ◌++◌, map, fold, length, slice_index_or, drop, slice_set, replicate, Ok, Err, codes, Result, sym, refl, ap, ◌∙◌, subst, arith, le-ltb, lt-ltb}
+use Rattle.std.proofs.Common.{◌≡◌, ◌≢◌, ℕ, zero, suc, ◌+◌, ◌-◌, ◌<◌, ◌≤◌, List, [], ◌∷◌, ◌++◌, map, fold, length, slice_index_or, drop, slice_set, replicate, Option, Some, None, Ok, Err, codes, Result, sym, refl, ap, ◌∙◌, subst, arith, le-ltb, lt-ltb}
+use Rattle.std.specs.Bool.{if◌then◌else◌, ◌==◌}
+use Rattle.std.specs.Option.{IfSome}
 use Rattle.std.specs.List.{All, join_with_byte, range_with_len}
 use Rattle.std.proofs.lemmas.Bool.Decides.{nat_tests}
 use Rattle.std.proofs.lemmas.List.{drop_more, drop_all, nil_from_length}
@@ -17,11 +19,11 @@ use Rattle.text.specs.declared.line.Head as head
 use Rattle.text.specs.declared.line.Pair as pair
 use Rattle.text.specs.Fields.{number_in, change_in}
 use Rattle.text.specs.Pieces.{fields_in, lines_in}
-use Rattle.text.specs.Lines.{and_then, counted, in_turn, leg_in, row_from}
+use Rattle.text.specs.Lines.{and_then, counted, number_at, grid_of, in_turn, leg_in, row_from}
 use Rattle.text.specs.Steps.{line_step, kind_step}
 use Rattle.text.specs.Reading.{read_lines, read_text, at_end}
 use Rattle.text.specs.Drafts.{unread, with_head, with_door, with_row, with_ahead, with_pair}
-use Rattle.text.specs.Form.{map_from, head_fields, door_fields, leg_field, row_fields, pair_fields, written, AllFrom, DoorFits, LegFits, RowFits, PairFits, fill, row_of, HasForm}
+use Rattle.text.specs.Form.{map_from, grid_fields, head_fields, door_fields, leg_field, row_fields, pair_fields, written, AllFrom, DoorFits, LegFits, RowFits, PairFits, fill, row_of, HasForm}
 use Rattle.text.proofs.Texts.{some-piece, doors_from, drives_from, after}
 use Rattle.text.proofs.Numbers.{Says, number-says, change-says}
 
@@ -51,12 +53,18 @@ line-due (Doors k) d line fs t e = grind (arith, bytes_eq-Decides (slice_index_o
 line-due (Drives k) d line fs t e = grind (arith, bytes_eq-Decides (slice_index_or fs 0 []))
 line-due Pairs d line fs t e = grind (arith, bytes_eq-Decides (slice_index_or fs 0 []))
 
--- the fields of a line that has so many, where what they say went on
-fields-are : {A B : Type 0} (n line : ℕ) (fs : List (List ℕ)) (r : Result A Refusal) (k : A → Result B Refusal) (b : B) → and_then (counted n line fs r) k ≡ Ok b → (length fs ≡ n) × (fs ≡ map (λ k. slice_index_or fs k []) (range_with_len 0 n)) × (a : A) × (r ≡ Ok a) × (k a ≡ Ok b)
-fields-are n line fs r k b e =
+-- a line that has so many fields, where what they say went on
+counted-ok : {A B : Type 0} (n line : ℕ) (fs : List (List ℕ)) (r : Result A Refusal) (k : A → Result B Refusal) (b : B) → and_then (counted n line fs r) k ≡ Ok b → (length fs ≡ n) × (a : A) × (r ≡ Ok a) × (k a ≡ Ok b)
+counted-ok n line fs r k b e =
     let o = then_ok (counted n line fs r) k b e in
     let c : (length fs ≡ n) × (r ≡ Ok o.0) = grind (arith, nat_tests, o.1) in
-    (c.0, fill_by_all (λ k. slice_index_or fs k []) fs n [] c.0 (λ k m. refl), o.0, c.1, o.2)
+    (c.0, o.0, c.1, o.2)
+
+-- and these fields
+fields-are : {A B : Type 0} (n line : ℕ) (fs : List (List ℕ)) (r : Result A Refusal) (k : A → Result B Refusal) (b : B) → and_then (counted n line fs r) k ≡ Ok b → (length fs ≡ n) × (fs ≡ map (λ k. slice_index_or fs k []) (range_with_len 0 n)) × (a : A) × (r ≡ Ok a) × (k a ≡ Ok b)
+fields-are n line fs r k b e =
+    let c = counted-ok n line fs r k b e in
+    (c.0, fill_by_all (λ k. slice_index_or fs k []) fs n [] c.0 (λ k m. refl), c.1, c.2, c.3)
 
 -- ---- a line of each kind
 
@@ -71,15 +79,32 @@ pair-form d line fs t l e =
     let r : (a.0 ≢ b.0) × (p ≡ c.2) = grind (arith, nat_tests, b.2) in
     (p, cc, record { first = a.1.from; most = a.1.to; second = b.1.from; last = b.1.to; apart = r.0 }, cc)
 
--- so is a round line
-head-form : (line : ℕ) (fs : List (List ℕ)) (t : Stage × Draft) → line_step Head unread line fs ≡ Ok t → (h : head.Head) × (head_fields h ≡ fs) × Says 1 16 (slice_index_or fs 1 []) h.n × Says h.load 999 (slice_index_or fs 3 []) h.cap × ((Doors 1, with_head unread h) ≡ t)
+-- the grid that is read is the one that is written, in range, where one is
+grid-form : (line : ℕ) (fs : List (List ℕ)) (g : Option ℕ) → length fs ≤ 5 → grid_of line fs ≡ Ok g → (grid_fields g ≡ drop 4 fs) × IfSome g (λ v. (1 ≤ v) × (v ≤ 60))
+grid-form line fs None l e =
+    let n : length fs ≤ 4 = grind (arith, nat_tests) in
+    (sym (drop_all 4 fs n), tt)
+grid-form line fs (Some v) l e =
+    let n : (length fs ≡ 5) × (number_at line fs 5 1 60 ≡ Ok v) = grind (arith, nat_tests) in
+    let w = number-says 1 60 (slice_index_or fs 4 []) line 5 v (omega arith) n.1 in
+    (rw (drop_more fs 4 [] (omega (arith, n.0)), drop_all 5 fs (omega (arith, n.0)), w.text) refl, (w.from, w.to))
+
+-- a round line that is taken is one that is written, in range
+head-form : (line : ℕ) (fs : List (List ℕ)) (t : Stage × Draft) → line_step Head unread line fs ≡ Ok t → (h : head.Head) × (head_fields h ≡ fs) × Says 1 16 (slice_index_or fs 1 []) h.n × Says h.load 999 (slice_index_or fs 3 []) h.cap × IfSome h.grid (λ g. (1 ≤ g) × (g ≤ 60)) × ((Doors 1, with_head unread h) ≡ t)
 head-form line fs t e =
     let q = line-due Head unread line fs t e in
-    let c = fields-are 4 line fs _ _ t q.1 in
-    let a = then-number 1 16 (slice_index_or fs 1 []) line 2 _ c.2 (omega arith) c.3 in
-    let b = then-number 0 999 (slice_index_or fs 2 []) line 3 _ c.2 (omega arith) a.2 in
-    let f = then-number b.0 999 (slice_index_or fs 3 []) line 4 _ c.2 (omega arith) b.2 in
-    (record { n = a.0; load = b.0; cap = f.0 }, cc, a.1, f.1, cc)
+    let c = counted-ok (if length fs == 5 then 5 else 4) line fs _ _ t q.1 in
+    let l : (4 ≤ length fs) × (length fs ≤ 5) = grind (arith, nat_tests, c.0) in
+    let a = then-number 1 16 (slice_index_or fs 1 []) line 2 _ c.1 (omega arith) c.2 in
+    let b = then-number 0 999 (slice_index_or fs 2 []) line 3 _ c.1 (omega arith) a.2 in
+    let f = then-number b.0 999 (slice_index_or fs 3 []) line 4 _ c.1 (omega arith) b.2 in
+    let g = then_ok (grid_of line fs) _ c.1 f.2 in
+    let i = grid-form line fs g.0 l.1 g.1 in
+    let r = drop_more fs 0 [] (omega (arith, l.0)) in
+    let s = drop_more fs 1 [] (omega (arith, l.0)) in
+    let u = drop_more fs 2 [] (omega (arith, l.0)) in
+    let w = drop_more fs 3 [] (omega (arith, l.0)) in
+    (record { n = a.0; load = b.0; cap = f.0; grid = g.0 }, cc, a.1, f.1, i.1, cc)
 
 -- where a line goes on after its number, that is the one that is due
 turn-says : {A : Type 0} (low high due line : ℕ) (fs : List (List ℕ)) (r : Result A Refusal) (b : A) → high ≤ 9999 → and_then (in_turn low high due line fs) (λ _. r) ≡ Ok b → Says low high (slice_index_or fs 1 []) due × (r ≡ Ok b)
@@ -188,7 +213,7 @@ run-form [] e r = absurd cc
 run-form (fs ∷ fss) e r =
     let h = head-form r.0 fs r.1 r.2 in
     let n = h.0.n in
-    let x = doors-form n fss 1 (with_head unread h.0) e h.2.to (omega arith) (rw (le-ltb n 1 h.2.from) (subst (λ (z : Stage × Draft). Run fss z.0 z.1 e) (sym h.4) r.3)) in
+    let x = doors-form n fss 1 (with_head unread h.0) e h.2.to (omega arith) (rw (le-ltb n 1 h.2.from) (subst (λ (z : Stage × Draft). Run fss z.0 z.1 e) (sym h.5) r.3)) in
     let w = rows-form (n + 1) x.1 0 (record (with_head unread h.0) { doors = fill 1 x.0 unread.doors }) e h.2.to (omega arith) (rw (le-ltb n 0 (omega arith)) x.5) in
     let p = pairs-form w.1 (record (with_head unread h.0) { doors = fill 1 x.0 unread.doors; drives = fill 0 (map row_of w.0) unread.drives }) e h.2.to w.5 in
     record {
@@ -198,6 +223,7 @@ run-form (fs ∷ fss) e r =
         most = h.2.to;
         load = h.3.from;
         cap = h.3.to;
+        grid = h.4;
         many = x.3;
         doors = x.4;
         places = w.3;

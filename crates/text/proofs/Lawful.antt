@@ -1,7 +1,8 @@
 -- The round of contents in range is lawful.
-use Rattle.std.proofs.Common.{◌⊎◌, ℕ, zero, suc, ◌+◌, ◌<◌, ◌≤◌, List, [], ◌∷◌, map, length, slice_index_or, slice_set, replicate, pos, negsuc, ◌≤ℤ◌, refl, ⊎_elim, arith, length-set}
+use Rattle.std.proofs.Common.{◌⊎◌, ℕ, zero, suc, ◌+◌, ◌<◌, ◌≤◌, List, [], ◌∷◌, map, length, slice_index_or, slice_set, replicate, pos, negsuc, ◌≤ℤ◌, Option, Some, None, refl, ⊎_elim, arith, length-set}
 use borrow.Author.Differences.{ints}
 use Rattle.std.specs.List.{All}
+use Rattle.std.specs.Option.{IfSome, unwrap_or}
 use Rattle.std.proofs.lemmas.Bool.{cases_eq}
 use Rattle.std.proofs.lemmas.Grind.{get_or-set_at}
 use Rattle.std.proofs.lemmas.List.{get_or-set_other, length-map, length-replicate}
@@ -50,6 +51,11 @@ doors-fair c f =
     let n = c.head.n in
     fill-each (Fair n) blank c.doors 1 (replicate 17 blank) (omega (arith, f.many, f.most, length-replicate 17 blank)) (fair-doors n c.doors 1 f.doors)
     (λ k o. let b = fair-blank n k (grind (arith, f.many)) in replicated (Fair n k) 17 blank blank b b k)
+
+-- the grid, or 1
+pub grid-fair : (g : Option ℕ) → IfSome g (λ v. (1 ≤ v) × (v ≤ 60)) → (1 ≤ unwrap_or g 1) × (unwrap_or g 1 ≤ 60)
+grid-fair None f = (omega arith, omega arith)
+grid-fair (Some v) f = f
 
 -- a row of drives from i
 abbrev FairRow : ℕ → List ℕ → Type 0

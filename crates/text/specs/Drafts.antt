@@ -2,6 +2,7 @@
 use Rattle.std.specs.Prelude.{ℕ, ◌^◌, List, replicate, bit_or, slice_index, slice_set}
 use Rattle.round.specs.Tables.{blank}
 use Rattle.round.specs.declared.door.Door.{Door}
+use Rattle.std.specs.Option.{unwrap_or}
 use Rattle.text.specs.declared.draft.Draft.{Draft}
 use Rattle.text.specs.declared.line.Head.{Head}
 use Rattle.text.specs.declared.line.Pair.{Pair}
@@ -12,14 +13,15 @@ unread = record {
   n = 0;
   load = 0;
   cap = 0;
+  grid = 0;
   doors = replicate 17 blank;
   drives = replicate 17 (replicate 17 0);
   ahead = replicate 17 0;
 }
 
--- the round line
+-- the round line; the grid is 1 where it names none
 abbrev pub with_head : Draft → Head → Draft
-with_head d h = record d { n = h.n; load = h.load; cap = h.cap }
+with_head d h = record d { n = h.n; load = h.load; cap = h.cap; grid = unwrap_or h.grid 1 }
 
 -- the line of door k
 abbrev pub with_door : Draft → ℕ → Door → Draft

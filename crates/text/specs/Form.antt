@@ -1,6 +1,7 @@
 -- The form of a round's text: how contents are written, which contents are in range, and the round that they make.
-use Rattle.std.specs.Prelude.{◌≡◌, ◌≢◌, ⊤, ℕ, ◌+◌, ◌≤◌, List, [], ◌∷◌, ◌++◌, map, fold, length, replicate, pos, negsuc, ◌≤ℤ◌, codes, decimal, ◌==◌, slice_set, All, if◌then◌else◌}
+use Rattle.std.specs.Prelude.{◌≡◌, ◌≢◌, ⊤, ℕ, ◌+◌, ◌≤◌, List, [], ◌∷◌, ◌++◌, map, fold, length, replicate, pos, negsuc, ◌≤ℤ◌, codes, decimal, ◌==◌, slice_set, All, Option, Some, None, IfSome, if◌then◌else◌}
 use Rattle.std.specs.List.{join_with_byte}
+use Rattle.std.specs.Option.{unwrap_or}
 use Rattle.std.specs.Str.{byte}
 use Rattle.std.specs.Fmt.{signed_decimal}
 use Rattle.round.specs.Tables.{blank}
@@ -22,9 +23,14 @@ abbrev pub map_from : {A B : Type 0} → (ℕ → A → B) → ℕ → List A �
 map_from f i [] = []
 map_from f i (x ∷ xs) = f i x ∷ map_from f (i + 1) xs
 
+-- the field of the grid, where the round line has one
+abbrev pub grid_fields : Option ℕ → List (List ℕ)
+grid_fields None = []
+grid_fields (Some g) = decimal g ∷ []
+
 -- the fields of the round line
 abbrev pub head_fields : Head → List (List ℕ)
-head_fields h = codes "round" ∷ decimal h.n ∷ decimal h.load ∷ decimal h.cap ∷ []
+head_fields h = codes "round" ∷ decimal h.n ∷ decimal h.load ∷ decimal h.cap ∷ grid_fields h.grid
 
 -- the fields of the line of door k
 abbrev pub door_fields : ℕ → Door → List (List ℕ)
@@ -96,6 +102,7 @@ pub record Fits (c : Content) : Type 0 where
   pub most : c.head.n ≤ 16
   pub load : c.head.load ≤ c.head.cap
   pub cap : c.head.cap ≤ 999
+  pub grid : IfSome c.head.grid (λ g. (1 ≤ g) × (g ≤ 60))
   pub many : length c.doors ≡ c.head.n
   pub doors : All DoorFits c.doors
   pub places : length c.rows ≡ c.head.n + 1
@@ -111,12 +118,13 @@ fill i (x ∷ xs) table = fill (i + 1) xs (slice_set table i x)
 abbrev pub row_of : List ℕ → List ℕ
 row_of vs = fill 1 vs (replicate 17 0)
 
--- the round that it makes; what no line fills is 0
+-- the round that it makes; the grid is 1 where none is written, and what no line fills is 0
 abbrev pub round_of : Content → Draft
 round_of c = record {
   n = c.head.n;
   load = c.head.load;
   cap = c.head.cap;
+  grid = unwrap_or c.head.grid 1;
   doors = fill 1 c.doors (replicate 17 blank);
   drives = fill 0 (map row_of c.rows) (replicate 17 (replicate 17 0));
   ahead = fold with_ahead (replicate 17 0) c.pairs;

@@ -1,5 +1,5 @@
 -- What a line says, by its number and its fields, which count from 1; the kind is field 1.
-use Rattle.std.specs.Prelude.{ℕ, ℤ, zero, suc, ◌+◌, ◌-◌, List, [], length, replicate, Ok, Err, Result, ◌==◌, slice_index_or, slice_set, if◌then◌else◌}
+use Rattle.std.specs.Prelude.{ℕ, ℤ, zero, suc, ◌+◌, ◌-◌, List, [], length, replicate, Option, Some, None, Ok, Err, Result, ◌==◌, slice_index_or, slice_set, if◌then◌else◌}
 use Rattle.text.specs.declared.fields.Line.{Line}
 use Rattle.round.specs.declared.door.Door.{Door}
 use Rattle.text.specs.declared.refusal.Refusal.{Refusal}
@@ -41,14 +41,20 @@ in_turn low high due line fs =
     and_then (number_at line fs 2 low high) (λ number.
     if number == due then Ok tt else Err (OutOfTurn line 2))
 
--- the round line: how many doors, the start load and the cap
+-- the grid in field 5 of a round line that has as many
+abbrev pub grid_of : ℕ → List (List ℕ) → Result (Option ℕ) Refusal
+grid_of line fs =
+    if length fs == 5 then and_then (number_at line fs 5 1 60) (λ grid. Ok (Some grid)) else Ok None
+
+-- the round line: how many doors, the start load and the cap, and in a line of five fields the grid
 abbrev pub head_of : ℕ → List (List ℕ) → Result Head Refusal
 head_of line fs =
-    counted 4 line fs
+    counted (if length fs == 5 then 5 else 4) line fs
     (and_then (number_at line fs 2 1 16) (λ n.
     and_then (number_at line fs 3 0 999) (λ load.
     and_then (number_at line fs 4 load 999) (λ cap.
-    Ok (record { n = n; load = load; cap = cap })))))
+    and_then (grid_of line fs) (λ grid.
+    Ok (record { n = n; load = load; cap = cap; grid = grid }))))))
 
 -- the fields of a door line after the door's number
 abbrev pub door_of : ℕ → List (List ℕ) → Result Door Refusal

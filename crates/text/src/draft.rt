@@ -12,6 +12,7 @@ pub(crate) struct Draft {
     pub(crate) n: u16,
     pub(crate) load: u16,
     pub(crate) cap: u16,
+    pub(crate) grid: u16,
     pub(crate) doors: [Door; 17],
     pub(crate) drives: [[u16; 17]; 17],
     pub(crate) ahead: [DoorSet; 17],
@@ -25,6 +26,7 @@ impl Draft {
             n: 0,
             load: 0,
             cap: 0,
+            grid: 0,
             doors: [BLANK; 17],
             drives: [[0; 17]; 17],
             ahead: [0; 17],
@@ -37,6 +39,7 @@ impl Draft {
         self.n = head.n;
         self.load = head.load;
         self.cap = head.cap;
+        self.grid = head.grid.unwrap_or(1);
     }
 
     pub(crate) fn set_door(&mut self, number: u16, door: Door)

@@ -1,5 +1,5 @@
 //! Reads the text of a round. A line feed ends each line, tabs stand between its fields, and its first field is its kind:
-//!   round  the number n of doors, the start load, the cap
+//!   round  the number n of doors, the start load, the cap, and the grid, 1 where it is left out
 //!   door   its number, opens, closes, due, work, change    (each door in turn)
 //!   drive  a place, the minutes to each door, "-" to itself    (each place in turn, from the yard, 0)
 //!   first  two doors, the first ahead of the second    (as often as wanted)

@@ -1,7 +1,7 @@
 //! What a line says, by its fields.
 ghost use Rattle.std.specs.Prelude.{◌≡◌, ◌<◌, ◌≤◌, replicate, IfOk};
 ghost use Rattle.text.specs.Lines.{fields_of, number_at, change_at, dash_at, counted, in_turn};
-ghost use Rattle.text.specs.Lines.{door_of, door_due, head_of, pair_of, leg_in, row_from, row_due};
+ghost use Rattle.text.specs.Lines.{door_of, door_due, grid_of, head_of, pair_of, leg_in, row_from, row_due};
 
 use crate::fields::Line;
 use crate::number::{change, within};
@@ -83,12 +83,24 @@ pub(crate) fn door_due(line: &Line<'_>, n: u16, due: u16) -> Result<Door, Refusa
     door_of(line)
 }
 
-/// What the round line says: how many doors there are, the start load and the cap.
+/// What the round line says: how many doors there are, the start load, the cap, and the grid where it has one.
 #[derive(Clone, Copy)]
 pub(crate) struct Head {
     pub(crate) n: u16,
     pub(crate) load: u16,
     pub(crate) cap: u16,
+    pub(crate) grid: Option<u16>,
+}
+
+/// The grid in the last field of a round line that has five.
+fn grid_of(line: &Line<'_>) -> Result<Option<u16>, Refusal>
+    ensures { result ≡ grid_of line.now.number (fields_of line.now) }
+{
+    if line.count() == 5 {
+        Ok(Some(number_at(line, 5, 1, 60)?))
+    } else {
+        Ok(None)
+    }
 }
 
 /// The round line.
@@ -96,11 +108,12 @@ pub(crate) fn head_of(line: &Line<'_>) -> Result<Head, Refusal>
     ensures value { result ≡ head_of line.now.number (fields_of line.now) }
     ensures bound { IfOk result (λ h. (1 ≤ h.n) × (h.n ≤ 16)) }
 {
-    expect_fields(line, 4)?;
+    expect_fields(line, if line.count() == 5 { 5 } else { 4 })?;
     let n = number_at(line, 2, 1, 16)?;
     let load = number_at(line, 3, 0, 999)?;
     let cap = number_at(line, 4, load, 999)?;
-    Ok(Head { n, load, cap })
+    let grid = grid_of(line)?;
+    Ok(Head { n, load, cap, grid })
 }
 
 /// Two doors, of which `first` has to come ahead of `then`.

@@ -33,12 +33,14 @@ worked a b c x y z (suc (suc zero)) p q = y.some
 worked a b c x y z (suc (suc (suc zero))) p q = z.some
 worked a b c x y z (suc (suc (suc (suc j)))) p q = absurd (omega arith)
 
--- the round of these doors, an empty van with room for `cap`, and for each door the set of those that have to come ahead of it
+-- the round of these doors: an empty van with room for `cap`, for each door the set of those that have to come ahead of it, and starts
+-- at any minute
 abbrev pub round_of : (cap : ℕ) → cap ≤ 999 → List ℕ → (a b c : Door) → Fine a → Fine b → Fine c → Round
 round_of cap h ahead a b c x y z = record {
   n = 3;
   load = 0;
   cap = cap;
+  grid = 1;
   doors = three a b c;
   drives = replicate 17 (replicate 17 0);
   ahead = ahead;
@@ -46,6 +48,8 @@ round_of cap h ahead a b c x y z = record {
   most = omega arith;
   within = omega arith;
   small = h;
+  grid_one = omega arith;
+  grid_most = omega arith;
   opens = each (λ d. d.opens ≤ 9999) a b c (omega arith) x.opens y.opens z.opens;
   closes = each (λ d. d.closes ≤ 9999) a b c (omega arith) x.closes y.closes z.closes;
   due = each (λ d. d.due ≤ 9999) a b c (omega arith) x.due y.due z.due;

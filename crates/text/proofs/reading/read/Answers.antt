@@ -1,6 +1,6 @@
 use Rattle.std.proofs.Common.{sym, refl}
 use Rattle.std.proofs.lemmas.Result.{err_from_is_err_and}
-use Rattle.text.proofs.Lawful.{doors-fair, rows-fair}
+use Rattle.text.proofs.Lawful.{doors-fair, grid-fair, rows-fair}
 use Rattle.text.proofs.Forms.{accepted_form}
 use Rattle.text.proofs.Backs.{refused_form}
 use Rattle.text.proofs.reading.read.Goals as goal
@@ -10,11 +10,14 @@ invariant_of-round c =
     let w = accepted_form c.args.text.now c.in_ok-n.field-0 (sym c.in_ok-n.ensures) in
     let doors = doors-fair w.content w.fits in
     let rows = rows-fair w.content w.fits in
+    let grid = grid-fair w.content.head.grid w.fits.grid in
     rw (← w.round) (record {
       one = w.fits.one;
       most = w.fits.most;
       within = w.fits.load;
       small = w.fits.cap;
+      grid_one = grid.0;
+      grid_most = grid.1;
       opens = λ k. (doors k).opens;
       closes = λ k. (doors k).closes;
       due = λ k. (doors k).due;
