@@ -23,14 +23,17 @@ fn round(c: &mut Chance, k: usize, grid: u32, n: usize) -> Round {
     if k % 5 == 4 { Round::wild(c, grid, n) } else { Round::around(c, grid, n, AROUND[k % AROUND.len()]) }
 }
 
+fn musts(sheet: &str) -> impl Iterator<Item = &str> {
+    sheet.lines().filter(|line| line.starts_with("must"))
+}
+
 /// A round on a grid of 15 that has an allowed order, and whose bound and musts would be others on a grid of 1.
 fn decided(c: &mut Chance, n: usize) -> Round {
     loop {
         let round = Round::around(c, 15, n, Drawn { slack: 60, pairs: 10, change: 1 });
         let (here, there) = (sheet(&round), sheet(&Round { grid: 1, ..round }));
-        let (mut lines, mut others) = (here.lines(), there.lines());
-        let bound = lines.next();
-        if bound != Some("bound\tnone") && bound != others.next() && lines.ne(others) {
+        let bound = here.lines().next();
+        if bound != Some("bound\tnone") && bound != there.lines().next() && musts(&here).ne(musts(&there)) {
             return round;
         }
     }

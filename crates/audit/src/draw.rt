@@ -85,7 +85,7 @@ fn add_pair(text: &mut String, dice: &mut Dice, kind: Kind) -> Result<(), AllocE
     write!(text, "first\t{i}\t{j}\n")
 }
 
-/// The grid, if the round line names one: half of them do, most often one that tells at the round's minutes.
+/// The grid, if the round line names one: half of them do, mostly one that is coarse enough to matter at the round's minutes.
 fn draw_grid(dice: &mut Dice, kind: Kind) -> Option<u16> {
     if dice.roll(2) == 0 {
         return None;

@@ -51,8 +51,8 @@ fn is_tight<R: Rule>(round: &Round, rule: &R) -> bool {
     false
 }
 
-/// The round on a grid of 1.
-fn off_grid(round: &Round) -> Round {
+/// The round with starts at any minute.
+fn at_any_minute(round: &Round) -> Round {
     let mut free = *round;
     free.grid = 1;
     free
@@ -84,7 +84,7 @@ impl<'a, R: Rule, T: Tally> Case<'a, R, T, T::Value> {
         let allowed = self.orders.len();
         let by_load = list(alloc, round, &Load::of(round), self.tally)?.len();
         let by_pairs = list(alloc, round, &Pairs::of(round), self.tally)?.len();
-        let off_grid = list(alloc, &off_grid(round), self.rule, self.tally)?.len();
+        let unlifted = list(alloc, &at_any_minute(round), self.rule, self.tally)?.len();
         let is_tight = is_tight(round, self.rule);
         if let Some(rounds) = counts.doors.get_mut(round.n) {
             note(rounds, true);
@@ -96,7 +96,7 @@ impl<'a, R: Rule, T: Tally> Case<'a, R, T, T::Value> {
         note(&mut counts.loose, !is_tight);
         note(&mut counts.equal, self.has_equal());
         note(&mut counts.grids, round.grid > 1);
-        note(&mut counts.lifted, off_grid > allowed);
+        note(&mut counts.by_grid, unlifted > allowed);
         Ok(())
     }
 }

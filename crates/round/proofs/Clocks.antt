@@ -8,8 +8,8 @@ use Rattle.round.specs.declared.table.Round.{Round}
 use Rattle.round.specs.Clock.{door, finish, IsLeastMultiple, ClockLaws}
 
 -- a minute is lifted to a multiple of the grid, by less than a step of it
-lifted : (m g : ℕ) → 0 < g → (q : ℕ) × (next_multiple_of m g ≡ q * g) × (m ≤ q * g) × (q * g < m + g)
-lifted m g p =
+next_multiple_of-bounds : (m g : ℕ) → 0 < g → (q : ℕ) × (next_multiple_of m g ≡ q * g) × (m ≤ q * g) × (q * g < m + g)
+next_multiple_of-bounds m g p =
     let whole = div-add-mod' m g in
     let rest = mod_below m g p in
     ⊎_elim
@@ -19,7 +19,7 @@ lifted m g p =
 
 pub least-multiple : (m g : ℕ) → 0 < g → IsLeastMultiple g m (next_multiple_of m g)
 least-multiple m g p =
-    let q = lifted m g p in
+    let q = next_multiple_of-bounds m g p in
     record {
       multiple = rw q.1 (mul-mod_left q.0 g);
       not_below = omega (arith, q.1);
@@ -27,16 +27,16 @@ least-multiple m g p =
     }
 
 -- a later minute is not lifted to an earlier one
-lift-rises : (m m' g : ℕ) → 0 < g → m ≤ m' → next_multiple_of m g ≤ next_multiple_of m' g
-lift-rises m m' g p l =
-    let q = lifted m' g p in
+next_multiple_of-rises : (m m' g : ℕ) → 0 < g → m ≤ m' → next_multiple_of m g ≤ next_multiple_of m' g
+next_multiple_of-rises m m' g p l =
+    let q = next_multiple_of-bounds m' g p in
     rw q.1 ((least-multiple m g p).least q.0 (omega arith))
 
 pub clock-laws : (r : Round) → ClockLaws r
 unfolding finish
 clock-laws r =
     record {
-      later = λ f f' g g' j p q. omega (arith, lift-rises (max (door r j).opens (f + g)) (max (door r j).opens (f' + g')) r.grid r.grid_one (omega arith));
+      later = λ f f' g g' j p q. omega (arith, next_multiple_of-rises (max (door r j).opens (f + g)) (max (door r j).opens (f' + g')) r.grid r.grid_one (omega arith));
       after = λ f g j. omega arith;
-      bound = λ k f g j p q. let u = lifted (max (door r j).opens (f + g)) r.grid r.grid_one in omega (arith, u.1, suc-mul k 2057, r.opens j, r.work j, r.grid_most);
+      bound = λ k f g j p q. let u = next_multiple_of-bounds (max (door r j).opens (f + g)) r.grid r.grid_one in omega (arith, u.1, suc-mul k 2057, r.opens j, r.work j, r.grid_most);
     }

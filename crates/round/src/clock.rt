@@ -8,7 +8,7 @@ ghost use Rattle.round.specs.Clock.{door, drive, start, finish, IsLeastMultiple,
 use crate::door::{BLANK, Door};
 use crate::table::Round;
 
-/// No van leaves for its next door after this minute: it has been to 15 doors at most.
+/// No van leaves for its next door after this minute, 9,999 + 15 * 2,057: it has been to 15 doors at most.
 pub const LATEST_DEPARTURE: u32 = 40_854;
 
 impl Round {
@@ -64,8 +64,8 @@ impl Round {
         minutes.map_or(0, |minutes| u32::from(*minutes))
     }
 
-    /// The first multiple of the grid from that minute on. Where every minute is one, nothing is divided.
-    fn lifted(&self, minute: u64) -> u64
+    /// The least multiple of the grid that is not below the minute. Where every minute is one, nothing is divided.
+    fn next_start(&self, minute: u64) -> u64
         requires { minute < 2 ^ 33 }
         ensures { result ≡ next_multiple_of minute self.now.grid }
     {
@@ -76,7 +76,7 @@ impl Round {
     }
 
     /// The minute at which the work at door j ends, for a van that left its last place at minute `from` and drove `leg` minutes:
-    /// work starts at the first multiple of the grid from the door's opening and the arrival on.
+    /// work starts at the least multiple of the grid that is not below the later of the door's opening and the arrival.
     #[tactic(auto, unfolding(crate::specs::Clock::finish))]
     pub fn finish(&self, from: u32, leg: u32, j: usize) -> u64
         ensures value { result ≡ finish self.now from leg j }
@@ -86,6 +86,6 @@ impl Round {
     {
         let door = self.door(j);
         let arrives = u64::from(from) + u64::from(leg);
-        self.lifted(arrives.max(u64::from(door.opens))) + u64::from(door.work)
+        self.next_start(arrives.max(u64::from(door.opens))) + u64::from(door.work)
     }
 }

@@ -3,7 +3,6 @@ use Rattle.std.proofs.Common.{◌≡◌, ℕ, suc, ◌+◌, ◌-◌, ◌<◌, �
 use borrow.Author.Differences.{ints}
 use Rattle.std.specs.Fmt.{signed_decimal}
 use Rattle.std.specs.List.{All, list_all, join_with_byte}
-use Rattle.std.specs.Option.{IfSome}
 use Rattle.std.specs.Str.{all_ascii_digits}
 use Rattle.std.proofs.lemmas.Bool.{and_parts}
 use Rattle.std.proofs.lemmas.Bool.Decides.{nat_tests}
@@ -24,7 +23,7 @@ use Rattle.text.specs.Lines.{leg_in, row_from}
 use Rattle.text.specs.Steps.{line_step}
 use Rattle.text.specs.Reading.{read_lines, read_text}
 use Rattle.text.specs.Drafts.{unread, with_head, with_door, with_row, with_ahead, with_pair}
-use Rattle.text.specs.Form.{Content, Fits, map_from, head_fields, door_fields, leg_field, row_fields, pair_fields, records, written, AllFrom, DoorFits, LegFits, RowFits, PairFits, fill, row_of, round_of, HasForm}
+use Rattle.text.specs.Form.{Content, Fits, map_from, head_fields, door_fields, leg_field, row_fields, pair_fields, records, written, AllFrom, DoorFits, GridFits, LegFits, RowFits, PairFits, fill, row_of, round_of, HasForm}
 use Rattle.text.proofs.Numbers.{own, number-back, change-back}
 use Rattle.text.proofs.Texts.{read_step, doors_from, drives_from, after}
 
@@ -93,7 +92,7 @@ line-gives fs fss line s t d u e c h g =
     rw (read_step (w ++ 10 ∷ written fss) w (written fss) line s d (pieces_more 10 w (written fss) j.1), j.0, h) g
 
 -- the round line is taken as it is written
-head-back : (n load cap : ℕ) (g : Option ℕ) → 1 ≤ n → n ≤ 16 → load ≤ cap → cap ≤ 999 → IfSome g (λ v. (1 ≤ v) × (v ≤ 60)) → let h : head.Head = record { n = n; load = load; cap = cap; grid = g } in Clean (head_fields h) × (line_step Head unread 1 (head_fields h) ≡ Ok (Doors 1, with_head unread h))
+head-back : (n load cap : ℕ) (g : Option ℕ) → 1 ≤ n → n ≤ 16 → load ≤ cap → cap ≤ 999 → GridFits g → let h : head.Head = record { n = n; load = load; cap = cap; grid = g } in Clean (head_fields h) × (line_step Head unread 1 (head_fields h) ≡ Ok (Doors 1, with_head unread h))
 head-back n load cap None a b c d e =
     ((omega arith, grind (arith, clear-decimal)), grind (arith, nat_tests, number-back 1 16 n 1 2, number-back 0 999 load 1 3, number-back load 999 cap 1 4))
 head-back n load cap (Some g) a b c d e =

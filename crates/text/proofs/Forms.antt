@@ -1,7 +1,6 @@
 -- An accepted text has the form of a round's text.
 use Rattle.std.proofs.Common.{◌≡◌, ◌≢◌, ℕ, zero, suc, ◌+◌, ◌-◌, ◌<◌, ◌≤◌, List, [], ◌∷◌, ◌++◌, map, fold, length, slice_index_or, drop, slice_set, replicate, Option, Some, None, Ok, Err, codes, Result, sym, refl, ap, ◌∙◌, subst, arith, le-ltb, lt-ltb}
 use Rattle.std.specs.Bool.{if◌then◌else◌, ◌==◌}
-use Rattle.std.specs.Option.{IfSome}
 use Rattle.std.specs.List.{All, join_with_byte, range_with_len}
 use Rattle.std.proofs.lemmas.Bool.Decides.{nat_tests}
 use Rattle.std.proofs.lemmas.List.{drop_more, drop_all, nil_from_length}
@@ -23,7 +22,7 @@ use Rattle.text.specs.Lines.{and_then, counted, number_at, grid_of, in_turn, leg
 use Rattle.text.specs.Steps.{line_step, kind_step}
 use Rattle.text.specs.Reading.{read_lines, read_text, at_end}
 use Rattle.text.specs.Drafts.{unread, with_head, with_door, with_row, with_ahead, with_pair}
-use Rattle.text.specs.Form.{map_from, grid_fields, head_fields, door_fields, leg_field, row_fields, pair_fields, written, AllFrom, DoorFits, LegFits, RowFits, PairFits, fill, row_of, HasForm}
+use Rattle.text.specs.Form.{map_from, grid_fields, head_fields, door_fields, leg_field, row_fields, pair_fields, written, AllFrom, DoorFits, GridFits, LegFits, RowFits, PairFits, fill, row_of, HasForm}
 use Rattle.text.proofs.Texts.{some-piece, doors_from, drives_from, after}
 use Rattle.text.proofs.Numbers.{Says, number-says, change-says}
 
@@ -60,7 +59,7 @@ counted-ok n line fs r k b e =
     let c : (length fs ≡ n) × (r ≡ Ok o.0) = grind (arith, nat_tests, o.1) in
     (c.0, o.0, c.1, o.2)
 
--- and these fields
+-- and its fields, at the places from 0 on
 fields-are : {A B : Type 0} (n line : ℕ) (fs : List (List ℕ)) (r : Result A Refusal) (k : A → Result B Refusal) (b : B) → and_then (counted n line fs r) k ≡ Ok b → (length fs ≡ n) × (fs ≡ map (λ k. slice_index_or fs k []) (range_with_len 0 n)) × (a : A) × (r ≡ Ok a) × (k a ≡ Ok b)
 fields-are n line fs r k b e =
     let c = counted-ok n line fs r k b e in
@@ -80,7 +79,7 @@ pair-form d line fs t l e =
     (p, cc, record { first = a.1.from; most = a.1.to; second = b.1.from; last = b.1.to; apart = r.0 }, cc)
 
 -- the grid that is read is the one that is written, in range, where one is
-grid-form : (line : ℕ) (fs : List (List ℕ)) (g : Option ℕ) → length fs ≤ 5 → grid_of line fs ≡ Ok g → (grid_fields g ≡ drop 4 fs) × IfSome g (λ v. (1 ≤ v) × (v ≤ 60))
+grid-form : (line : ℕ) (fs : List (List ℕ)) (g : Option ℕ) → length fs ≤ 5 → grid_of line fs ≡ Ok g → (grid_fields g ≡ drop 4 fs) × GridFits g
 grid-form line fs None l e =
     let n : length fs ≤ 4 = grind (arith, nat_tests) in
     (sym (drop_all 4 fs n), tt)
@@ -90,7 +89,7 @@ grid-form line fs (Some v) l e =
     (rw (drop_more fs 4 [] (omega (arith, n.0)), drop_all 5 fs (omega (arith, n.0)), w.text) refl, (w.from, w.to))
 
 -- a round line that is taken is one that is written, in range
-head-form : (line : ℕ) (fs : List (List ℕ)) (t : Stage × Draft) → line_step Head unread line fs ≡ Ok t → (h : head.Head) × (head_fields h ≡ fs) × Says 1 16 (slice_index_or fs 1 []) h.n × Says h.load 999 (slice_index_or fs 3 []) h.cap × IfSome h.grid (λ g. (1 ≤ g) × (g ≤ 60)) × ((Doors 1, with_head unread h) ≡ t)
+head-form : (line : ℕ) (fs : List (List ℕ)) (t : Stage × Draft) → line_step Head unread line fs ≡ Ok t → (h : head.Head) × (head_fields h ≡ fs) × Says 1 16 (slice_index_or fs 1 []) h.n × Says h.load 999 (slice_index_or fs 3 []) h.cap × GridFits h.grid × ((Doors 1, with_head unread h) ≡ t)
 head-form line fs t e =
     let q = line-due Head unread line fs t e in
     let c = counted-ok (if length fs == 5 then 5 else 4) line fs _ _ t q.1 in

@@ -2,14 +2,14 @@
 use Rattle.std.proofs.Common.{◌⊎◌, ℕ, zero, suc, ◌+◌, ◌<◌, ◌≤◌, List, [], ◌∷◌, map, length, slice_index_or, slice_set, replicate, pos, negsuc, ◌≤ℤ◌, Option, Some, None, refl, ⊎_elim, arith, length-set}
 use borrow.Author.Differences.{ints}
 use Rattle.std.specs.List.{All}
-use Rattle.std.specs.Option.{IfSome, unwrap_or}
+use Rattle.std.specs.Option.{unwrap_or}
 use Rattle.std.proofs.lemmas.Bool.{cases_eq}
 use Rattle.std.proofs.lemmas.Grind.{get_or-set_at}
 use Rattle.std.proofs.lemmas.List.{get_or-set_other, length-map, length-replicate}
 use Rattle.std.proofs.lemmas.List.Elements.{All-head, All-tail}
 use Rattle.round.specs.Tables.{blank, at}
 use Rattle.round.specs.declared.door.Door as door
-use Rattle.text.specs.Form.{AllFrom, DoorFits, LegFits, RowFits, Fits, Content, fill, row_of, round_of}
+use Rattle.text.specs.Form.{AllFrom, DoorFits, GridFits, LegFits, RowFits, Fits, Content, fill, row_of, round_of}
 
 -- what holds of each element at its place, and of the other places of a table, holds of the table that they fill
 fill-each : {A : Type 0} (P : ℕ → A → Type 0) (d : A) (xs : List A) (i : ℕ) (t : List A) → i + length xs ≤ length t → AllFrom P i xs → ((k : ℕ) → (k < i) ⊎ (i + length xs ≤ k) → P k (slice_index_or t k d)) → (k : ℕ) → P k (slice_index_or (fill i xs t) k d)
@@ -53,7 +53,7 @@ doors-fair c f =
     (λ k o. let b = fair-blank n k (grind (arith, f.many)) in replicated (Fair n k) 17 blank blank b b k)
 
 -- the grid, or 1
-pub grid-fair : (g : Option ℕ) → IfSome g (λ v. (1 ≤ v) × (v ≤ 60)) → (1 ≤ unwrap_or g 1) × (unwrap_or g 1 ≤ 60)
+pub grid-fair : (g : Option ℕ) → GridFits g → (1 ≤ unwrap_or g 1) × (unwrap_or g 1 ≤ 60)
 grid-fair None f = (omega arith, omega arith)
 grid-fair (Some v) f = f
 

@@ -70,6 +70,10 @@ abbrev pub AllFrom : {A : Type 0} → (ℕ → A → Type 0) → ℕ → List A 
 AllFrom P i [] = ⊤
 AllFrom P i (x ∷ xs) = P i x × AllFrom P (i + 1) xs
 
+-- a grid that is written is in range
+abbrev pub GridFits : Option ℕ → Type 0
+GridFits grid = IfSome grid (λ g. (1 ≤ g) × (g ≤ 60))
+
 -- the numbers of a door are in range
 pub record DoorFits (x : Door) : Type 0 where
   pub opens : x.opens ≤ 9999
@@ -102,7 +106,7 @@ pub record Fits (c : Content) : Type 0 where
   pub most : c.head.n ≤ 16
   pub load : c.head.load ≤ c.head.cap
   pub cap : c.head.cap ≤ 999
-  pub grid : IfSome c.head.grid (λ g. (1 ≤ g) × (g ≤ 60))
+  pub grid : GridFits c.head.grid
   pub many : length c.doors ≡ c.head.n
   pub doors : All DoorFits c.doors
   pub places : length c.rows ≡ c.head.n + 1

@@ -1,7 +1,7 @@
 //! What a line says, by its fields.
 ghost use Rattle.std.specs.Prelude.{◌≡◌, ◌<◌, ◌≤◌, replicate, IfOk};
-ghost use Rattle.text.specs.Lines.{fields_of, number_at, change_at, dash_at, counted, in_turn};
-ghost use Rattle.text.specs.Lines.{door_of, door_due, grid_of, head_of, pair_of, leg_in, row_from, row_due};
+ghost use Rattle.text.specs.Lines.{fields_of, number_at, change_at, dash_at, counted, in_turn, door_of};
+ghost use Rattle.text.specs.Lines.{door_due, grid_of, head_of, pair_of, leg_in, row_from, row_due};
 
 use crate::fields::Line;
 use crate::number::{change, within};

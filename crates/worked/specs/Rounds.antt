@@ -33,8 +33,8 @@ worked a b c x y z (suc (suc zero)) p q = y.some
 worked a b c x y z (suc (suc (suc zero))) p q = z.some
 worked a b c x y z (suc (suc (suc (suc j)))) p q = absurd (omega arith)
 
--- the round of these doors: an empty van with room for `cap`, for each door the set of those that have to come ahead of it, and starts
--- at any minute
+-- the round of these doors: an empty van with room for `cap`, for each door the set of those that have to come ahead of it,
+-- and starts at any minute
 abbrev pub round_of : (cap : ℕ) → cap ≤ 999 → List ℕ → (a b c : Door) → Fine a → Fine b → Fine c → Round
 round_of cap h ahead a b c x y z = record {
   n = 3;
