@@ -1,4 +1,5 @@
 //! How often what happened, over all rounds.
+use doors::{contains, with};
 use layers::call::{Answer, Call};
 use layers::refined::Refined;
 use layers::refusal::Refusal;
@@ -32,7 +33,11 @@ pub(crate) struct Counts {
     pub(crate) joined: usize,
     pub(crate) whole: usize,
     pub(crate) full: usize,
-    /// by number: those to open, of a must and on a short list too
+    pub(crate) paths: usize,
+    pub(crate) paths_twice: usize,
+    pub(crate) others: usize,
+    pub(crate) others_twice: usize,
+    /// by number: those to open, of a must, on a short list, of a list of doors and of a layer that is read too
     pub(crate) refusals: [usize; 32],
     pub(crate) calls: usize,
     pub(crate) refused: usize,
@@ -46,11 +51,32 @@ pub(crate) fn note(count: &mut usize, is_so: bool) {
     *count = count.saturating_add(usize::from(is_so));
 }
 
+/// Whether some door comes twice.
+fn has_repeat(doors: &[usize]) -> bool {
+    let mut met = 0;
+    for door in doors {
+        if contains(met, *door) {
+            return true;
+        }
+        met = with(met, *door);
+    }
+    false
+}
+
 impl Counts {
     pub(crate) fn refuse(&mut self, refusal: Refusal) {
         if let Some(count) = self.refusals.get_mut(usize::from(refusal.number())) {
             note(count, true);
         }
+    }
+
+    /// One more list of doors, which is a path or none.
+    pub(crate) fn note_list(&mut self, doors: &[usize], is_path: bool) {
+        let is_twice = has_repeat(doors);
+        note(&mut self.paths, is_path);
+        note(&mut self.paths_twice, is_path && is_twice);
+        note(&mut self.others, !is_path);
+        note(&mut self.others_twice, !is_path && is_twice);
     }
 
     /// One more call, with its answer.
@@ -114,6 +140,15 @@ impl Counts {
             ("refined full", self.full, "\n"),
         ]
     }
+
+    fn list_rows(&self) -> [Row; 4] {
+        [
+            ("drawn lists that are paths", self.paths, "\t"),
+            ("with a door twice", self.paths_twice, "\n"),
+            ("drawn lists that are none", self.others, "\t"),
+            ("with a door twice", self.others_twice, "\n"),
+        ]
+    }
 }
 
 impl fmt::Display for Counts {
@@ -123,6 +158,7 @@ impl fmt::Display for Counts {
         }
         write_rows(f, &self.kind_rows())?;
         write_rows(f, &self.call_rows())?;
+        write_rows(f, &self.list_rows())?;
         for (number, count) in self.refusals.iter().enumerate() {
             if *count > 0 {
                 write!(f, "refusal\t{number}\t{count}\n")?;

@@ -13,6 +13,9 @@ pub(crate) enum Fault {
     MorePaths,
     BoundNotLeast,
     MustNotExact,
+    HoldsWrong,
+    LayerCount,
+    LayerRecords,
 }
 
 impl fmt::Display for Fault {
@@ -28,6 +31,9 @@ impl fmt::Display for Fault {
             Fault::MorePaths => "settled: there are more paths than allowed orders",
             Fault::BoundNotLeast => "settled: the bound is not the least cost of a path",
             Fault::MustNotExact => "settled: a must is not exact",
+            Fault::HoldsWrong => "holds does not say of a list what its arcs say",
+            Fault::LayerCount => "a layer is handed out with more or fewer nodes than arcs lead to",
+            Fault::LayerRecords => "a layer is handed out with other records than it has",
         })
     }
 }

@@ -13,6 +13,7 @@ mod fault;
 mod kinds;
 mod outcome;
 mod paths;
+mod reads;
 mod run;
 mod seen;
 mod spoilt;

@@ -26,6 +26,8 @@ use tallies::tally::Tally;
 struct Log<V> {
     last: Call<V>,
     wanted: Vec<Listed<V>>,
+    /// draws the lists of doors that the diagram is asked of
+    lists: Dice,
 }
 
 /// A list to lend, of records that look as if in use: no diagram looks at them.
@@ -116,6 +118,18 @@ impl<'a, R: Rule, T: Tally> Case<'a, R, T, T::Value> {
         wanted.retain(|order| self.tally.not_above(order.cost, ceiling));
     }
 
+    /// Looks at the diagram, and checks what is seen and what it is read as.
+    fn check_now(
+        &self,
+        diagram: &Diagram<'_, '_, R::State, T::Value>,
+        log: &mut Log<T::Value>,
+        counts: &mut Counts,
+    ) -> Result<(), Fault> {
+        let seen = look(diagram, self.rule, counts);
+        self.check(&seen, &log.wanted)?;
+        self.check_reading(&diagram.reading_form(), &seen, &mut log.lists, counts)
+    }
+
     fn one_call(
         &self,
         diagram: &mut Diagram<'_, '_, R::State, T::Value>,
@@ -129,7 +143,7 @@ impl<'a, R: Rule, T: Tally> Case<'a, R, T, T::Value> {
         self.ask_short(call, counts);
         let answer = diagram.call(self.rule, self.tally, call);
         counts.note_call(call, answer);
-        self.check(&look(diagram, self.rule, counts), &log.wanted)
+        self.check_now(diagram, log, counts)
     }
 
     fn some_calls(
@@ -139,7 +153,7 @@ impl<'a, R: Rule, T: Tally> Case<'a, R, T, T::Value> {
         dice: &mut Dice,
         counts: &mut Counts,
     ) -> Result<(), Fault> {
-        self.check(&look(diagram, self.rule, counts), &log.wanted)?;
+        self.check_now(diagram, log, counts)?;
         for _ in 0..dice.roll(5).saturating_add(6) {
             self.one_call(diagram, log, dice, counts)?;
         }
@@ -160,17 +174,19 @@ impl<'a, R: Rule, T: Tally> Case<'a, R, T, T::Value> {
         let mut log = Log {
             last: Call::Sweep,
             wanted: self.orders.to_vec(alloc)?,
+            lists: Dice::of(counts.rounds as u64),
         };
         let refused = counts.refused;
         let mut nodes = lent(alloc, self.rule, self.tally)?;
         let mut diagram = Diagram::open(room, self.rule, self.tally, &mut nodes);
         let ended = self.some_calls(&mut diagram, &mut log, dice, counts);
+        let form = diagram.close();
         let outcome = Outcome {
             allowed: self.orders.len(),
             wanted: log.wanted.len(),
             refused: counts.refused.saturating_sub(refused),
-            bound: diagram.bound(),
-            settled: diagram.settled(self.rule),
+            bound: form.bound(),
+            settled: form.settled(self.rule),
             fault: ended.err(),
         };
         outcome.note(counts);

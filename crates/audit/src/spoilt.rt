@@ -10,6 +10,7 @@ use crate::run::lent;
 use crate::seen::{Seen, look};
 use anyhow::anyhow;
 use diagram::diagram::Diagram;
+use diagram::reading::ReadingForm;
 use diagram::room::Room;
 use layers::node::Arcs;
 use lister::list::Listed;
@@ -36,19 +37,6 @@ fn listed(second: usize, third: usize) -> Listed<(u32, u32)> {
     }
 }
 
-impl<'a, R: Rule, T: Tally> Case<'a, R, T, T::Value> {
-    /// What is seen of the diagram once it is refined.
-    fn refined(&self, alloc: Global) -> anyhow::Result<Seen<T::Value>> {
-        let Ok(room) = Room::check(self.round, self.width, LENT) else {
-            return Err(anyhow!("no room for a diagram to spoil"));
-        };
-        let mut nodes = lent(alloc, self.rule, self.tally)?;
-        let mut diagram = Diagram::open(room, self.rule, self.tally, &mut nodes);
-        diagram.refine(self.rule, self.tally);
-        Ok(look(&diagram, self.rule, &mut Counts::default()))
-    }
-}
-
 /// Another arc by a door from a place.
 fn with_arc<V: Copy>(seen: &Seen<V>, place: usize, door: usize, to: u8) -> Seen<V> {
     let mut spoilt = *seen;
@@ -67,18 +55,74 @@ fn with_less_time<V: Copy>(seen: &Seen<V>, place: usize) -> Seen<V> {
     spoilt
 }
 
-impl<'a, R: Rule, T: Tally> Case<'a, R, T, T::Value> {
-    /// The check finds this fault where each order of the list is wanted.
-    fn find(&self, seen: &Seen<T::Value>, fault: Fault) -> anyhow::Result<()> {
-        if self.check(seen, self.orders) == Err(fault) {
-            Ok(())
-        } else {
-            Err(anyhow!("not found: {fault}"))
-        }
+/// An error unless a check found this fault.
+fn want(found: Option<Fault>, fault: Fault) -> anyhow::Result<()> {
+    if found == Some(fault) {
+        Ok(())
+    } else {
+        Err(anyhow!("not found: {fault}"))
     }
 }
 
-/// Each way to spoil the refined diagram of the three doors.
+impl<'a, R: Rule, T: Tally> Case<'a, R, T, T::Value> {
+    /// The check finds this fault where each order of the list is wanted.
+    fn find(&self, seen: &Seen<T::Value>, fault: Fault) -> anyhow::Result<()> {
+        want(self.check(seen, self.orders).err(), fault)
+    }
+
+    /// The form of the three doors holds 1, 3, 2 alone: other arcs and minutes than it has are found.
+    fn find_in_form(
+        &self,
+        form: &ReadingForm<'_, '_, R::State, T::Value>,
+        seen: &Seen<T::Value>,
+    ) -> anyhow::Result<()> {
+        for (place, door, to) in [(0, 1, 0), (4, 3, 0), (8, 2, 0), (8, 2, 2)] {
+            let spoilt = with_arc(seen, place, door, to);
+            let held = self.check_holds(form, &spoilt, &[1, 3, 2]);
+            want(held.err(), Fault::HoldsWrong)?;
+            want(self.check_layers(form, &spoilt).err(), Fault::LayerCount)?;
+        }
+        let spoilt = with_arc(seen, 0, 3, 1);
+        let held = self.check_holds(form, &spoilt, &[3, 3, 2]);
+        want(held.err(), Fault::HoldsWrong)?;
+        want(self.check_layers(form, &spoilt).err(), Fault::LayerRecords)?;
+        for place in [0, 4, 8, 12] {
+            let spoilt = with_less_time(seen, place);
+            want(self.check_layers(form, &spoilt).err(), Fault::LayerRecords)?;
+        }
+        Ok(())
+    }
+}
+
+impl<'a, R: Rule, T: Tally<Value = (u32, u32)>> Case<'a, R, T, (u32, u32)> {
+    /// Each way to spoil what is seen of the refined diagram of the three doors.
+    fn find_in_seen(&self, seen: &Seen<(u32, u32)>) -> anyhow::Result<()> {
+        if self.check(seen, self.orders).is_err() {
+            return Err(anyhow!("a fault where none is"));
+        }
+        for (place, door) in [(0, 1), (4, 3), (8, 2)] {
+            self.find(&with_arc(seen, place, door, 0), Fault::OrderLost)?;
+        }
+        self.find(&with_arc(seen, 0, 3, 1), Fault::PathNotAllowed)?;
+        for place in [0, 4, 8, 12] {
+            self.find(&with_less_time(seen, place), Fault::LateBelow)?;
+        }
+        for (bound, fault) in [
+            (None, Fault::BoundMissing),
+            (Some((1, 2)), Fault::BoundAbove),
+            (Some((1, 0)), Fault::BoundNotLeast),
+        ] {
+            self.find(&Seen { bound, ..*seen }, fault)?;
+        }
+        let mut musts = seen.musts;
+        musts.add(2, 3);
+        self.find(&Seen { musts, ..*seen }, Fault::MustBroken)?;
+        let musts = Ahead::of(&[1, 3]);
+        self.find(&Seen { musts, ..*seen }, Fault::MustNotExact)
+    }
+}
+
+/// The refined diagram of the three doors, spoilt, and held against a list without its order.
 fn find_in_three(alloc: Global, round: &Round) -> anyhow::Result<()> {
     let rule = Both::of(round);
     let tally = LateDoors::of(round);
@@ -89,29 +133,15 @@ fn find_in_three(alloc: Global, round: &Round) -> anyhow::Result<()> {
         width: WIDTH,
         orders: &[listed(3, 2)],
     };
-    let seen = case.refined(alloc)?;
-    if case.check(&seen, case.orders).is_err() {
-        return Err(anyhow!("a fault where none is"));
-    }
-    for (place, door) in [(0, 1), (4, 3), (8, 2)] {
-        case.find(&with_arc(&seen, place, door, 0), Fault::OrderLost)?;
-    }
-    case.find(&with_arc(&seen, 0, 3, 1), Fault::PathNotAllowed)?;
-    for place in [0, 4, 8, 12] {
-        case.find(&with_less_time(&seen, place), Fault::LateBelow)?;
-    }
-    for (bound, fault) in [
-        (None, Fault::BoundMissing),
-        (Some((1, 2)), Fault::BoundAbove),
-        (Some((1, 0)), Fault::BoundNotLeast),
-    ] {
-        case.find(&Seen { bound, ..seen }, fault)?;
-    }
-    let mut musts = seen.musts;
-    musts.add(2, 3);
-    case.find(&Seen { musts, ..seen }, Fault::MustBroken)?;
-    let musts = Ahead::of(&[1, 3]);
-    case.find(&Seen { musts, ..seen }, Fault::MustNotExact)?;
+    let Ok(room) = Room::check(round, WIDTH, LENT) else {
+        return Err(anyhow!("no room for a diagram to spoil"));
+    };
+    let mut nodes = lent(alloc, &rule, &tally)?;
+    let mut diagram = Diagram::open(room, &rule, &tally, &mut nodes);
+    diagram.refine(&rule, &tally);
+    let seen = look(&diagram, &rule, &mut Counts::default());
+    case.find_in_seen(&seen)?;
+    case.find_in_form(&diagram.close(), &seen)?;
     let none = Case {
         orders: &[],
         ..case

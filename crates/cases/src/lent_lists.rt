@@ -1,6 +1,6 @@
 //! What no clause can say: that a refusal shows itself, and that calls end as they should.
 use crate::rounds::text_of;
-use diagram::lent::{opened_or_left, worked_on};
+use diagram::lent::{bound_after, opened_or_left, worked_on};
 use labels::blank::blank_node;
 use layers::call::Call;
 use layers::refusal::Refusal;
@@ -11,7 +11,7 @@ use rules::both::Both;
 use std::test::Fail;
 use tallies::late::LateDoors;
 
-const LINES: [(Refusal, &str); 10] = [
+const LINES: [(Refusal, &str); 11] = [
     (Refusal::Width, "refused\t10\t0\t0"),
     (Refusal::Short, "refused\t11\t0\t0"),
     (Refusal::NoLayer, "refused\t20\t0\t0"),
@@ -22,6 +22,7 @@ const LINES: [(Refusal, &str); 10] = [
     (Refusal::SameNode, "refused\t25\t0\t0"),
     (Refusal::Clash, "refused\t26\t0\t0"),
     (Refusal::SameDoor, "refused\t27\t0\t0"),
+    (Refusal::WrongLength, "refused\t28\t0\t0"),
 ];
 
 #[test]
@@ -100,5 +101,6 @@ fn calls_are_done_on_it(rt: HostRuntime) {
             Err(refusal) => Err(refusal),
         };
         assert_eq!(rt; left, *want);
+        assert_eq!(rt; bound_after(&setting, &mut records, calls), *want);
     }
 }

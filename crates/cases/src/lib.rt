@@ -10,6 +10,8 @@ mod outside;
 #[cfg(test)]
 mod reading;
 #[cfg(test)]
+mod reading_forms;
+#[cfg(test)]
 mod reports;
 #[cfg(test)]
 mod rounds;

@@ -6,3 +6,5 @@ pub mod input;
 pub mod order;
 pub mod output;
 pub mod sheet;
+pub mod usage;
+pub mod view;

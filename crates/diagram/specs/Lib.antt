@@ -1,4 +1,5 @@
 pub mod Answers
 pub mod Words
+pub mod Reading
 pub mod Musts
 pub mod Opening

@@ -8,6 +8,7 @@ use layers::node::Node;
 
 pub mod asks;
 pub mod calls;
+pub mod closing;
 pub mod musts;
 pub mod opening;
 

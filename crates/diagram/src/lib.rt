@@ -4,4 +4,5 @@
 pub mod diagram;
 mod lay;
 pub mod lent;
+pub mod reading;
 pub mod room;

@@ -1,6 +1,7 @@
 pub mod Bridge
 pub mod Counts
 pub mod Flows
+pub mod Held
 pub mod Lates
 pub mod Main
 pub mod Model

@@ -36,6 +36,14 @@ module _ {S V : Type 0} (W : ℕ) where
   end-at zero xs = ap (λ (q : ℕ). nodes_in (take 1 (drop q xs))) (sym (zero-mul W))
   end-at (suc n) xs = end-at n (drop W xs) ∙ ap (λ (z : List (Node S V)). nodes_in (take 1 z)) (drop-drop (n * W) W xs ∙ ap (λ (q : ℕ). drop q xs) (omega (arith, suc-mul n W)))
 
+-- the arcs of a layer are those of its nodes
+pub drawn-at : {S V : Type 0} (n W k d : ℕ) (xs : List (Node S V)) → d < k → get_or (arcs_of_layers n (layers W k xs)) d [] ≡ arcs_in n (get_or (layers W k xs) d [])
+drawn-at n W zero d xs lt = absurd (omega arith)
+drawn-at n W (suc zero) zero xs lt = refl
+drawn-at n W (suc zero) (suc d) xs lt = absurd (omega arith)
+drawn-at n W (suc (suc k)) zero xs lt = refl
+drawn-at n W (suc (suc k)) (suc d) xs lt = drawn-at n W (suc k) d (drop W xs) (omega arith)
+
 -- the bound is read at the end's place
 pub bound_at : {S V : Type 0} (n W : ℕ) (xs : List (Node S V)) (d : Node S V) → n * W < length xs
     → bound n W xs ≡ cond (eqb (get_or xs (n * W) d).label.down.lasts 0) None (Some (get_or xs (n * W) d).label.down.value)

@@ -11,8 +11,10 @@ use Rattle.layers.specs.declared.node.Up.{Up}
 use Rattle.layers.specs.declared.refined.Refined.{Refined}
 use Rattle.layers.specs.declared.refined.Refined.TheVariants.{Whole, Full}
 use Rattle.layers.specs.declared.refusal.Refusal.{Refusal}
-use Rattle.layers.specs.declared.refusal.Refusal.TheVariants.{Width, Short, NoLayer, NoNode, NoDoor, OneGroup, LayerFull, SameNode, Clash, SameDoor}
-use Rattle.layers.specs.Net.{Layer, Net, node, redirect, count_arcs, every_arc, has_path_with}
+use Rattle.layers.specs.declared.refusal.Refusal.TheVariants.{Width, Short, NoLayer, NoNode, NoDoor, OneGroup, LayerFull, SameNode, Clash, SameDoor, WrongLength}
+use Rattle.std.specs.List.{list_all}
+use Rattle.doors.specs.Orders.{is_door}
+use Rattle.layers.specs.Net.{Layer, Net, node, is_path_from, redirect, count_arcs, every_arc, has_path_with}
 use Rattle.layers.specs.Flow.{arrivals_at}
 use Rattle.layers.specs.Tidy.{tidied_arcs}
 use Rattle.layers.specs.Join.{clash, joined_arcs}
@@ -94,6 +96,22 @@ module _ {S V : Type 0} (n W : ℕ) where
   -- what must(i, j) answers: refused if either is no door, and if they are one
   abbrev pub must_answer : ℕ → ℕ → List (Node S V) → Result Bool Refusal
   must_answer i j xs = if bad_door n i j then Err NoDoor else if i == j then Err SameDoor else Ok (must i j xs)
+
+  -- holds w: yes if the doors w, in this order, are read along a path
+  unfoldable pub holds : List ℕ → List (Node S V) → Bool
+  unfolding is_path_from
+  holds w xs = is_path_from (arcs xs) 0 w
+
+  -- what holds(w) answers: refused if w is not n long, and else if one of its numbers is no door of the round
+  abbrev pub holds_answer : List ℕ → List (Node S V) → Result Bool Refusal
+  holds_answer w xs =
+      if not (length w == n) then Err WrongLength
+      else if not (list_all (is_door n) w) then Err NoDoor
+      else Ok (holds w xs)
+
+  -- what the reading form hands out as layer i: the records of its nodes; refused if i is above n
+  abbrev pub layer_answer : ℕ → List (Node S V) → Result (List (Node S V)) Refusal
+  layer_answer i xs = if nat_lt n i then Err NoLayer else Ok (layer i xs)
 
 -- ---- a filter, with the labels that are given: `goes` says which arcs go. It is told the layer, how many layers of arcs there are from
 -- it to the end, the door, the label of the source and the upward label of the target

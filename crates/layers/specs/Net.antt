@@ -1,7 +1,7 @@
 -- Layers of arcs, and the paths along them.
 -- A node is the list of its targets by door, 0 for none, suc b for the node at place b of the next layer: doors count from 1, places from 0.
 -- Two doors, one node to a layer: ((1 ∷ 1 ∷ []) ∷ []) ∷ ((1 ∷ 1 ∷ []) ∷ []) ∷ [] is the net of the four paths 1 1, 1 2, 2 1 and 2 2.
-use Rattle.std.specs.Prelude.{◌≡◌, ℕ, zero, suc, ◌+◌, Bool, true, false, if◌then◌else◌, ◌&&◌, ◌||◌, List, [], ◌∷◌, length, ◌==◌, slice_index, slice_index_or}
+use Rattle.std.specs.Prelude.{◌≡◌, ℕ, zero, suc, ◌+◌, ◌-◌, Bool, true, false, if◌then◌else◌, not, ◌&&◌, ◌||◌, List, [], ◌∷◌, length, ◌==◌, slice_index, slice_index_or}
 
 -- f 0, f 1, .. , n of them
 abbrev pub table : {A : Type 0} → ℕ → (ℕ → A) → List A
@@ -40,6 +40,14 @@ PathFrom [] a [] = a ≡ 0
 PathFrom [] a (j ∷ w) = ⊥
 PathFrom (L ∷ Ls) a [] = ⊥
 PathFrom (L ∷ Ls) a (j ∷ w) = (b : ℕ) × (target (node L a) j ≡ suc b) × PathFrom Ls b w
+
+-- whether it is, worked out arc by arc. Nobody has to believe it: by the contract of `Diagram::holds` it is yes exactly for
+-- `PathFrom`
+unfoldable pub is_path_from : Net → ℕ → List ℕ → Bool
+is_path_from [] a [] = a == 0
+is_path_from [] a (j ∷ w) = false
+is_path_from (L ∷ Ls) a [] = false
+is_path_from (L ∷ Ls) a (j ∷ w) = let t = target (node L a) j in not (t == 0) && is_path_from Ls (t - 1) w
 
 -- each arc by door j from the node at place a to place b becomes f a j b
 unfoldable pub each_door : (ℕ → ℕ → ℕ) → ℕ → Outs → Outs

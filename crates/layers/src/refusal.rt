@@ -11,7 +11,7 @@ pub enum Refusal {
     Width,
     /// the lent list has too few records
     Short,
-    /// the layer is not 1 to n - 1
+    /// the layer is not 1 to n - 1, or, where it is read, not 0 to n
     NoLayer,
     /// the layer has no such node
     NoNode,
@@ -27,6 +27,8 @@ pub enum Refusal {
     Clash,
     /// the same door twice
     SameDoor,
+    /// the list of doors is not as long as the round has doors
+    WrongLength,
 }
 
 impl Refusal {
@@ -45,6 +47,7 @@ impl Refusal {
             Refusal::SameNode => 25,
             Refusal::Clash => 26,
             Refusal::SameDoor => 27,
+            Refusal::WrongLength => 28,
         }
     }
 }

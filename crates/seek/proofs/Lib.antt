@@ -1,3 +1,4 @@
+pub mod Along
 pub mod DoorsBehind
 pub mod Paths
 pub mod Places

@@ -10,7 +10,7 @@ use doors::{DoorSet, contains, with};
 use layers::node::Node;
 
 /// Whether a list of that length has room for a diagram of n doors and that width.
-fn fits(n: usize, width: usize, len: usize) -> bool
+pub(crate) fn fits(n: usize, width: usize, len: usize) -> bool
     ensures value { result ≡ fits n width len }
     ensures few { result ≡ true → n ≤ 16 }
     ensures narrow { result ≡ true → width ≤ 128 }

@@ -49,7 +49,7 @@ fn row_of<S: Copy, V: Copy>(
 }
 
 /// The places of layer k.
-pub(crate) fn layer<'a, S: Copy, V: Copy>(
+pub(crate) fn places_of<'a, S: Copy, V: Copy>(
     nodes: &'a [Node<S, V>],
     width: usize,
     k: usize,
@@ -78,7 +78,7 @@ pub(crate) fn first_row<S: Copy, V: Copy>(
     let mut row = [NONE; 256];
     row[1].ends = true;
     for k in (0..n).rev() {
-        row = row_of(i, j, &row, layer(nodes, width, k), n);
+        row = row_of(i, j, &row, places_of(nodes, width, k), n);
     }
     row
 }

@@ -4,7 +4,7 @@ ghost use Rattle.layers.specs.Calls.{arcs};
 ghost use Rattle.seek.specs.Rows.{by_first, none, row_of, seen_from, view, views};
 
 use crate::onward::{NOTHING, Onward};
-use crate::row::layer;
+use crate::row::places_of;
 use layers::node::Node;
 
 /// Over the arcs of u by the first n doors.
@@ -54,7 +54,7 @@ pub(crate) fn top_row<S: Copy, V: Copy>(
     let mut row = [NOTHING; 128];
     row[0].ends = true;
     for k in (0..n).rev() {
-        row = row_above(&row, layer(nodes, width, k), n);
+        row = row_above(&row, places_of(nodes, width, k), n);
     }
     row
 }

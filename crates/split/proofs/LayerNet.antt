@@ -6,7 +6,7 @@ use Rattle.layers.specs.declared.node.Node.{Node}
 use Rattle.layers.specs.Net.{table, Outs, Layer, Net, node}
 use Rattle.layers.specs.Flow.{arrivals_by_door, arrivals_at}
 use Rattle.layers.specs.Labels.{arrival_over, agree, all_agree, first_arrival, differs_from_first}
-use Rattle.layers.specs.Records.{nodes_in, arcs_in, downs_in, padded_targets, arcs_at, layers, arcs_of_layers}
+use Rattle.layers.specs.Records.{nodes_in, arcs_in, downs_in, padded_targets, arcs_at}
 use Rattle.layers.specs.Calls.{arrivals as arrivalsIn, parted_arcs, arcs, layer}
 use Rattle.layers.proofs.Flows.{table_at}
 use Rattle.labels.specs.Passes.{by_door, from_node, arrivals, part, blank_node}
@@ -20,7 +20,7 @@ use Rattle.layers.specs.declared.node.Down.{Down}
 use Rattle.layers.specs.declared.node.Label.{Label}
 use Rattle.layers.specs.Lawful.{IsEven, IsLawful}
 use Rattle.layers.proofs.Bridge.{table-long}
-use Rattle.layers.proofs.Shaped.{standing-at, layer-at, shaped-proper}
+use Rattle.layers.proofs.Shaped.{standing-at, layer-at, drawn-at, shaped-proper}
 use Rattle.labels.proofs.RedirectNet.{arcs-arranged}
 use Rattle.labels.proofs.Shaped_arranged.{proper-good, shaped-arranged}
 use Rattle.split.specs.Steps.{alike, kept_first, parted_one, node_count}
@@ -198,13 +198,6 @@ module _ {S V : Type 0} (by : Setting S V) (d : ℕ) (Ls : Net) (xs : List (Node
   pub known-length : (a m : ℕ) → length (parted_one by (d * by.width) a m xs) ≡ length xs
   unfolding parted_one
   known-length a m = part_length (kept_first by (first_arrival (arrivals by (suc a) us))) by.width d a m (blank_node by.rule by.tally) xs
-
-drawn-at : {S V : Type 0} (n W k d : ℕ) (xs : List (Node S V)) → d < k → get_or (arcs_of_layers n (layers W k xs)) d [] ≡ arcs_in n (get_or (layers W k xs) d [])
-drawn-at n W zero d xs lt = absurd (omega arith)
-drawn-at n W (suc zero) zero xs lt = refl
-drawn-at n W (suc zero) (suc d) xs lt = absurd (omega arith)
-drawn-at n W (suc (suc k)) zero xs lt = refl
-drawn-at n W (suc (suc k)) (suc d) xs lt = drawn-at n W (suc k) d (drop W xs) (omega arith)
 
 module _ {S V : Type 0} (n W : ℕ) (xs : List (Node S V)) where
   -- a layer of the net has the nodes that stand

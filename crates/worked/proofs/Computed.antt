@@ -1,9 +1,9 @@
 -- The worked cases, by computing; which orders are allowed, or keep the load, by their definitions (Kept).
 use Rattle.std.proofs.Common.{◌≤◌, List, refl, arith}
 use Rattle.round.specs.Clock.{finish}
-use Rattle.layers.specs.Calls.{after_open, after_sweep, arcs_lost, after_cut, after_backsweep, part_answer, after_part, refinement, bound, must, is_settled}
+use Rattle.layers.specs.Calls.{after_open, after_sweep, arcs_lost, after_cut, after_backsweep, part_answer, after_part, refinement, bound, must, is_settled, holds}
 use Rattle.worked.specs.Rounds.{trio, loose}
-use Rattle.worked.specs.Cases.{Place, Sheet, AsPrinted, ClosedEarly, Paired, LastMinutes, WorkedCases}
+use Rattle.worked.specs.Cases.{Place, Sheet, AsPrinted, ClosedEarly, Paired, LastMinutes, HeldLists, HandedLayers, WorkedCases}
 use Rattle.worked.proofs.Kept.{allowed, not_allowed, two-keep}
 
 module _ (lent : List Place) where
@@ -52,8 +52,8 @@ module _ (lent : List Place) where
   }
 
   closed-7 : (h : 7 ≤ 9999) → ClosedEarly (trio 7 h) lent
-  unfolding refinement after_open bound finish
-  closed-7 h = record { whole = refl; none = refl }
+  unfolding refinement after_open bound holds finish
+  closed-7 h = record { whole = refl; none = refl; none_of_six = refl; first_node = refl }
 
   paired : Paired loose lent
   unfolding after_sweep arcs_lost after_part part_answer after_open refinement is_settled must finish
@@ -63,6 +63,14 @@ module _ (lent : List Place) where
   unfolding refinement after_backsweep arcs_lost after_open finish
   last-minutes h i k = record { opened_at_9 = refl; goes_at_9 = refl; left_at_9 = refl; again_at_9 = refl; none_at_9 = refl; opened_at_8 = refl; left_at_8 = refl; none_at_7 = refl }
 
+  held-lists : (h : 9 ≤ 9999) → HeldLists (trio 9 h) lent
+  unfolding refinement after_open holds finish
+  held-lists h = record { any_list = refl; one_of_six = refl; no_repeat = refl; length_first = refl; then_doors = refl }
+
+  handed-layers : HandedLayers loose lent
+  unfolding refinement after_open holds finish
+  handed-layers = record { three_of_six = refl; how_many = refl; which = refl }
+
 pub computed : WorkedCases
 unfolding finish
 computed lent = record {
@@ -71,6 +79,8 @@ computed lent = record {
   closed_at_7 = closed-7 lent (omega arith);
   paired = paired lent;
   last_minutes = last-minutes lent (omega arith) (omega arith) (omega arith);
+  held_lists = held-lists lent (omega arith);
+  handed_layers = handed-layers lent;
   loads = two-keep;
   says = refl;
 }

@@ -1,5 +1,5 @@
 -- The worked cases, in one statement on the definitions: the rule is pairs and load together, the tally late doors.
-use Rattle.std.specs.Prelude.{◌≡◌, ℕ, zero, suc, ◌*◌, Bool, true, false, ◌⊎◌, List, [], ◌∷◌, length, map, replicate, Some, None, Ok, slice_index_or, ℤ, pos, negsuc}
+use Rattle.std.specs.Prelude.{◌≡◌, ℕ, zero, suc, ◌*◌, Bool, true, false, ◌⊎◌, List, [], ◌∷◌, length, map, replicate, take, drop, Some, None, Ok, Err, Result, slice_index_or, ℤ, pos, negsuc}
 use Rattle.std.proofs.Common.{arith}
 use Rattle.doors.specs.Orders.{IsPartOrder}
 use Rattle.round.specs.declared.table.Round.{Round}
@@ -19,8 +19,10 @@ use Rattle.orders.specs.declared.verdict.Verdict.TheVariants as is
 use Rattle.layers.specs.declared.node.Node.{Node}
 use Rattle.layers.specs.declared.refined.Refined.{Refined}
 use Rattle.layers.specs.declared.refined.Refined.TheVariants.{Whole, Full}
+use Rattle.layers.specs.declared.refusal.Refusal.{Refusal}
+use Rattle.layers.specs.declared.refusal.Refusal.TheVariants.{NoLayer, NoDoor, WrongLength}
 use Rattle.layers.specs.Settings.{Setting, setting}
-use Rattle.layers.specs.Calls.{after_open, arcs, after_sweep, sweep_answer, after_cut, cut_answer, after_backsweep, backsweep_answer, part_answer, after_part, refinement, bound, must, is_settled}
+use Rattle.layers.specs.Calls.{after_open, arcs, after_sweep, sweep_answer, after_cut, cut_answer, after_backsweep, backsweep_answer, part_answer, after_part, refinement, bound, must, is_settled, holds, holds_answer, layer_answer}
 use Rattle.worked.specs.Rounds.{trio, loose, boxes}
 
 abbrev pub rule : Round → RuleSense (ℕ × Interval)
@@ -59,6 +61,23 @@ fine r W lent = refinement (by r W) (after_open (by r W) lent)
 abbrev pub asked : Round → ℕ → ℕ → ℕ → List Place → Bool
 asked r W i j lent = must 3 W i j (fine r W lent).1
 
+-- the six orders of three doors
+abbrev pub six : List (List ℕ)
+six = (1 ∷ 2 ∷ 3 ∷ []) ∷ (2 ∷ 1 ∷ 3 ∷ []) ∷ (1 ∷ 3 ∷ 2 ∷ []) ∷ (2 ∷ 3 ∷ 1 ∷ []) ∷ (3 ∷ 1 ∷ 2 ∷ []) ∷ (3 ∷ 2 ∷ 1 ∷ []) ∷ []
+
+-- what holds answers of each of these lists of doors, at width W
+abbrev pub told : ℕ → List (List ℕ) → List Place → List (Result Bool Refusal)
+told W ws xs = map (λ w. holds_answer 3 W w xs) ws
+
+-- of the records of a layer, how many
+abbrev pub counted : Result (List Place) Refusal → Result ℕ Refusal
+counted (Ok xs) = Ok (length xs)
+counted (Err r) = Err r
+
+-- so of layers 0 to 4, at width W
+abbrev pub counts : ℕ → List Place → List (Result ℕ Refusal)
+counts W xs = map (λ i. counted (layer_answer 3 W i xs)) (0 ∷ 1 ∷ 2 ∷ 3 ∷ 4 ∷ [])
+
 -- refine is whole, the bound (1, 1), must yes at (1, 2), (1, 3) and (3, 2) alone, and 1, 3, 2 the one path
 pub record Sheet (r : Round) (lent : List Place) : Type 0 where
   pub whole : (fine r 16 lent).0 ≡ Whole
@@ -93,6 +112,9 @@ pub record AsPrinted (r : Round) (lent : List Place) : Type 0 where
 pub record ClosedEarly (r : Round) (lent : List Place) : Type 0 where
   pub whole : (fine r 16 lent).0 ≡ Whole
   pub none : bound 3 16 (fine r 16 lent).1 ≡ None
+  -- it holds no order, and has the first node alone
+  pub none_of_six : map (λ w. holds 3 16 w (fine r 16 lent).1) six ≡ replicate 6 false
+  pub first_node : counts 16 (fine r 16 lent).1 ≡ Ok 1 ∷ Ok 0 ∷ Ok 0 ∷ Ok 0 ∷ Err NoLayer ∷ []
 
 -- three doors open 0 to 9,999, due 9,999, work 1, no drive minutes, where 2 has to come ahead of 1
 pub record Paired (r : Round) (lent : List Place) : Type 0 where
@@ -132,16 +154,31 @@ pub record LastMinutes (at9 at8 at7 : Round) (lent : List Place) : Type 0 where
   -- at 7 refine leaves no path, and so no minute
   pub none_at_7 : minutes 16 (fine at7 16 lent).1 ≡ replicate 4 (negsuc 39999)
 
+-- which lists of doors the diagram of r holds, opened and refined at width 16
+pub record HeldLists (r : Round) (lent : List Place) : Type 0 where
+  -- opened, it holds even 1, 1, 1
+  pub any_list : told 16 ((1 ∷ 1 ∷ 1 ∷ []) ∷ []) (sweeps r 16 0 lent) ≡ Ok true ∷ []
+  -- refined, of the six orders 1, 3, 2 alone, and no list in which a door comes twice
+  pub one_of_six : map (λ w. holds 3 16 w (fine r 16 lent).1) six ≡ false ∷ false ∷ true ∷ false ∷ false ∷ false ∷ []
+  pub no_repeat : told 16 ((1 ∷ 1 ∷ 2 ∷ []) ∷ []) (fine r 16 lent).1 ≡ Ok false ∷ []
+  -- a list of two or four is refused for its length, whatever numbers it has, and one of three for a number that is no door
+  pub length_first : told 16 ((1 ∷ 4 ∷ []) ∷ (1 ∷ 4 ∷ 0 ∷ 0 ∷ []) ∷ []) (fine r 16 lent).1 ≡ Err WrongLength ∷ Err WrongLength ∷ []
+  pub then_doors : told 16 ((1 ∷ 4 ∷ 2 ∷ []) ∷ (0 ∷ 3 ∷ 2 ∷ []) ∷ []) (fine r 16 lent).1 ≡ Err NoDoor ∷ Err NoDoor ∷ []
+
+-- which orders the diagram of r holds, and what its layers are, refined at width 3, where 2 has to come ahead of 1
+pub record HandedLayers (r : Round) (lent : List Place) : Type 0 where
+  -- of the six orders it holds those in which 2 comes ahead of 1
+  pub three_of_six : map (λ w. holds 3 3 w (fine r 3 lent).1) six ≡ false ∷ true ∷ false ∷ true ∷ false ∷ true ∷ []
+  -- layers 0 to 3 have 1, 2, 3 and 1 nodes, and there is no layer 4; the nodes of layer 1 stand at places 3 and 4
+  pub how_many : counts 3 (fine r 3 lent).1 ≡ Ok 1 ∷ Ok 2 ∷ Ok 3 ∷ Ok 1 ∷ Err NoLayer ∷ []
+  pub which : layer_answer 3 3 1 (fine r 3 lent).1 ≡ Ok (take 2 (drop 3 (fine r 3 lent).1))
+
 -- of all orders of three doors exactly 1, 2, 3 and 2, 1, 3 keep the load
 pub record TwoKeep (r : Round) : Type 0 where
   -- these two keep it
   pub these : Loaded r (1 ∷ 2 ∷ 3 ∷ []) × Loaded r (2 ∷ 1 ∷ 3 ∷ [])
   -- and whatever order of the doors 1 to 3 keeps it is one of these two
   pub only : (w : List ℕ) → IsPartOrder 3 w → length w ≡ 3 → Loaded r w → (w ≡ 1 ∷ 2 ∷ 3 ∷ []) ⊎ (w ≡ 2 ∷ 1 ∷ 3 ∷ [])
-
--- the six orders of three doors
-abbrev pub six : List (List ℕ)
-six = (1 ∷ 2 ∷ 3 ∷ []) ∷ (2 ∷ 1 ∷ 3 ∷ []) ∷ (1 ∷ 3 ∷ 2 ∷ []) ∷ (2 ∷ 3 ∷ 1 ∷ []) ∷ (3 ∷ 1 ∷ 2 ∷ []) ∷ (3 ∷ 2 ∷ 1 ∷ []) ∷ []
 
 pub record WorkedOut (lent : List Place) : Type 0 where
   pub printed_at_9 : AsPrinted (trio 9 (omega arith)) lent
@@ -150,6 +187,8 @@ pub record WorkedOut (lent : List Place) : Type 0 where
   pub closed_at_7 : ClosedEarly (trio 7 (omega arith)) lent
   pub paired : Paired loose lent
   pub last_minutes : LastMinutes (trio 9 (omega arith)) (trio 8 (omega arith)) (trio 7 (omega arith)) lent
+  pub held_lists : HeldLists (trio 9 (omega arith)) lent
+  pub handed_layers : HandedLayers loose lent
   -- an empty van that holds 2, changes 1, 1 and −2: exactly 1, 2, 3 and 2, 1, 3 keep the load
   pub loads : TwoKeep boxes
   -- the verdicts of the six say so: all but these two break the rule, with door 3 as their first fault

@@ -1,32 +1,14 @@
 //! What a diagram is asked.
-ghost use Rattle.std.specs.Prelude.{◌≡◌, ◌+◌, ◌*◌, ◌<◌, ◌≤◌, length, IfOk};
+ghost use Rattle.std.specs.Prelude.{◌≡◌, ◌↔◌, true, IfOk};
 ghost use Rattle.tallies.specs.Tallies.{TallySense};
-ghost use Rattle.layers.specs.Calls.{bound, must_answer, is_settled};
+ghost use Rattle.layers.specs.Calls.{bound, must_answer, is_settled, holds_answer};
 ghost use Rattle.diagram.specs.Words.{round_of, width_of, records_of, setting_of};
-ghost use Rattle.layers.specs.Claim.{MustMeans};
+ghost use Rattle.layers.specs.Claim.{IsPath, MustMeans};
 
 use super::Diagram;
-use crate::room::Room;
 use layers::node::Node;
 use layers::refusal::Refusal;
-use refine::settled::settled;
 use rules::rule::Rule;
-use seek::must::must;
-
-/// The value of the end, at place n * width.
-fn end_value<S: Copy, V: Copy>(nodes: &[Node<S, V>], n: usize, width: usize) -> Option<V>
-    requires n_bound { n ≤ 16 }
-    requires width_bound { width ≤ 128 }
-    requires width_in_bounds { n * width < length nodes.now }
-    ensures { result ≡ bound n width nodes.now }
-{
-    let end = nodes[n * width];
-    if end.label.down.lasts == 0 {
-        None
-    } else {
-        Some(end.label.down.value)
-    }
-}
 
 impl<'a, 'n, S: Copy, V: Copy> Diagram<'a, 'n, S, V> {
     /// The records of the lent list as they stand, those after the end among them.
@@ -40,8 +22,7 @@ impl<'a, 'n, S: Copy, V: Copy> Diagram<'a, 'n, S, V> {
     pub fn bound(&self) -> Option<V>
         ensures { result ≡ bound (round_of self.now).n (width_of self.now) (records_of self.now) }
     {
-        let Room { round, width } = self.room;
-        end_value(self.nodes, round.n, width)
+        self.reading_form().bound()
     }
 
     /// Yes if no path has door j at an earlier place than door i, and so if i is ahead of j in every wanted order.
@@ -51,15 +32,17 @@ impl<'a, 'n, S: Copy, V: Copy> Diagram<'a, 'n, S, V> {
         ensures paths { let n = (round_of self.now).n in
             IfOk result (MustMeans n (width_of self.now) i j (records_of self.now)) }
     {
-        let Room { round, width } = self.room;
-        let n = round.n;
-        if i < 1 || i > n || j < 1 || j > n {
-            return Err(Refusal::NoDoor);
-        }
-        if i == j {
-            return Err(Refusal::SameDoor);
-        }
-        Ok(must(self.nodes, round.n, width, i, j))
+        self.reading_form().must(i, j)
+    }
+
+    /// Yes if these doors, in this order, are read along a path; a door may come twice, as on a path.
+    pub fn holds(&self, doors: &[usize]) -> Result<bool, Refusal>
+        ensures answer { let n = (round_of self.now).n in
+            result ≡ holds_answer n (width_of self.now) doors.now (records_of self.now) }
+        ensures path { let n = (round_of self.now).n in IfOk result
+            (λ yes. (yes ≡ true) ↔ IsPath n (width_of self.now) (records_of self.now) doors.now) }
+    {
+        self.reading_form().holds(doors)
     }
 
     /// Yes if the in-arcs of each node agree and a sweep would take out nothing: then every path is an allowed order. Whatever
@@ -68,7 +51,6 @@ impl<'a, 'n, S: Copy, V: Copy> Diagram<'a, 'n, S, V> {
         ensures { (t : TallySense V) → let by = setting_of self.now (R.sense rule.now) t in
             result ≡ is_settled by (records_of self.now) }
     {
-        let Room { round, width } = self.room;
-        settled(round, rule, self.nodes, width)
+        self.reading_form().settled(rule)
     }
 }

@@ -7,9 +7,7 @@ ghost use Rattle.diagram.specs.Musts.{must_of, musts};
 ghost use Rattle.diagram.specs.Words.{round_of, width_of, records_of};
 
 use super::Diagram;
-use crate::room::Room;
 use doors::DoorSet;
-use seek::must::musts;
 
 impl<'a, 'n, S: Copy, V: Copy> Diagram<'a, 'n, S, V> {
     /// All musts: element i is the set of the doors that come behind door i in every wanted order, and none where i is no door.
@@ -26,7 +24,6 @@ impl<'a, 'n, S: Copy, V: Copy> Diagram<'a, 'n, S, V> {
             → MustMeans n (width_of self.now) i j (records_of self.now)
             (has (slice_index result i) j) }
     {
-        let Room { round, width } = self.room;
-        musts(self.nodes, round.n, width)
+        self.reading_form().musts()
     }
 }

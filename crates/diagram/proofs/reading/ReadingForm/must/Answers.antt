@@ -5,7 +5,7 @@ use Rattle.layers.specs.Calls.{must, must_answer}
 use Rattle.layers.specs.Claim.{MustMeans}
 use Rattle.layers.proofs.Main.{must-means}
 use Rattle.diagram.proofs.Musts_each.{room-for}
-use Rattle.diagram.proofs.diagram.Diagram.must.Goals as goal
+use Rattle.diagram.proofs.reading.ReadingForm.must.Goals as goal
 
 no-refusal : {S V : Type 0} (n W i j : ℕ) (xs : List (Node S V)) → 1 ≤ i → i ≤ n → 1 ≤ j → j ≤ n → (i ≡ j → ⊥) → must_answer n W i j xs ≡ Ok (must n W i j xs)
 no-refusal n W i j xs a b c d e = rw (le-ltb i 1 a) (rw (le-ltb n i b) (rw (le-ltb j 1 c) (rw (le-ltb n j d) (rw (ne_eqb i j e) refl))))

@@ -1,5 +1,5 @@
 use Rattle.layers.proofs.Shaped.{bound-none, bound_some}
-use Rattle.diagram.proofs.diagram.asks.end_value.Goals as goal
+use Rattle.diagram.proofs.reading.asks.end_value.Goals as goal
 
 pub returns-then-end-eq0 : goal.returns-then-end-eq0
 returns-then-end-eq0 g c = bound-none c.args.n c.args.width c.args.nodes.now c.index-nodes-n.result c.requires.width_in_bounds c.index-nodes-n.is c.if-end-eq0.true

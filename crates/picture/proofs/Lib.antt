@@ -1,0 +1,3 @@
+mod Blank
+mod Layers
+mod Spaced

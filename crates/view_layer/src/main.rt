@@ -1,0 +1,10 @@
+//! The program `view` on a layer of the round of three doors.
+#![tactic(auto)]
+
+use round_sheet::sheet::EMPTY;
+use std::process::ExitCode;
+
+fn main(rt: HostRuntime) -> anyhow::Result<ExitCode> {
+    let mut records = [EMPTY; 257];
+    cli::view::view_program(&rt, &mut records)
+}
