@@ -3,7 +3,7 @@
 use crate::chance::Chance;
 use crate::diagram::Diagram;
 use crate::library;
-use crate::round::{Drawn, Round, grid_by_chance};
+use crate::round::{Drawn, Keepers, Round, grid_by_chance};
 use std::process::ExitCode;
 
 #[derive(Clone, Copy, Debug)]
@@ -76,7 +76,26 @@ fn words(bytes: &[u8]) -> Vec<u32> {
     bytes.chunks_exact(4).map(|w| u32::from_le_bytes([w[0], w[1], w[2], w[3]])).collect()
 }
 
-/// What the twin says of a round, with calls drawn while it is at work, as the header lays a sheet out.
+/// What the twin says of a diagram after calls that answered so, as the header lays a sheet out.
+fn sheet(d: &Diagram, n: usize, answers: &[u32]) -> Vec<u32> {
+    let (some, (doors, minutes)) = match d.bound() {
+        Some(cost) => (1, cost),
+        None => (0, (0, 0)),
+    };
+    let mut sheet = vec![n as u32, answers.len() as u32, d.settled() as u32, some, doors, minutes];
+    sheet.extend(&d.musts()[1..]);
+    sheet.extend(answers);
+    sheet
+}
+
+/// What it says of a round after these calls.
+fn sheet_after(round: &Round, width: usize, calls: &[Call]) -> Vec<u32> {
+    let mut d = Diagram::new(round, width);
+    let answers: Vec<u32> = calls.iter().map(|call| call.make(&mut d) as u32).collect();
+    sheet(&d, round.n, &answers)
+}
+
+/// The same with calls drawn while it is at work.
 fn by_chance(c: &mut Chance, round: &Round, width: usize) -> (Vec<Call>, Vec<u32>) {
     let mut d = Diagram::new(round, width);
     let many = if c.one_in(4) { 1 } else { c.within(0, 24) };
@@ -87,25 +106,26 @@ fn by_chance(c: &mut Chance, round: &Round, width: usize) -> (Vec<Call>, Vec<u32
         answers.push(call.make(&mut d) as u32);
         calls.push(call);
     }
-    let (some, (doors, minutes)) = match d.bound() {
-        Some(cost) => (1, cost),
-        None => (0, (0, 0)),
-    };
-    let mut sheet = vec![round.n as u32, calls.len() as u32, d.settled() as u32, some, doors, minutes];
-    sheet.extend(&d.musts()[1..]);
-    sheet.extend(answers);
+    let sheet = sheet(&d, round.n, &answers);
     (calls, sheet)
 }
 
+/// A round of n doors, in one of two cases with keepers.
 pub fn round_by_chance(c: &mut Chance, n: usize) -> Round {
     let grid = grid_by_chance(c);
+    let kept = c.one_in(2);
     if c.one_in(5) {
-        return Round::wild(c, grid, n);
+        return Round::wild(c, grid, n, if kept { Keepers::Wild } else { Keepers::None });
     }
     let slack = [5, 30, 80, 200, 1000][c.within(0, 4) as usize];
     let pairs = [3, 10, 30, 1000][c.within(0, 3) as usize];
     let change = [0, 1, 4][c.within(0, 2) as usize];
-    Round::around(c, grid, n, Drawn { slack, pairs, change })
+    let keepers = match kept {
+        true if c.one_in(4) => Keepers::Wild,
+        true => Keepers::Apart,
+        false => Keepers::None,
+    };
+    Round::around(c, grid, n, Drawn { slack, pairs, change, keepers })
 }
 
 fn width_by_chance(c: &mut Chance) -> usize {
@@ -117,6 +137,9 @@ fn width_by_chance(c: &mut Chance) -> usize {
 struct Seen {
     /// rounds on a grid above 1
     grids: usize,
+    /// rounds with keepers, and those of them whose sheet would be another without
+    kept: usize,
+    decided: usize,
     calls: [usize; 6],
     /// sweeps, cuts and backsweeps that took out arcs
     took: [usize; 3],
@@ -148,8 +171,18 @@ impl Seen {
         self.settled += sheet[2] as usize;
     }
 
+    /// Whether the keepers of a round alter what the twin says after these calls.
+    fn note_keepers(&mut self, round: &Round, width: usize, calls: &[Call], sheet: &[u32]) {
+        if round.keepers != [0; 17] {
+            let without = Round { keepers: [0; 17], ..*round };
+            self.kept += 1;
+            self.decided += usize::from(sheet_after(&without, width, calls) != sheet);
+        }
+    }
+
     fn print(&self) {
         println!("  on a grid above 1: {} rounds", self.grids);
+        println!("  with keepers: {} rounds, of which {} would have another sheet without", self.kept, self.decided);
         let [sweep, part, join, cut, refine, backsweep] = self.calls;
         println!("  calls: {sweep} sweep, {part} part, {join} join, {cut} cut, {refine} refine, {backsweep} backsweep");
         let [sweep, cut, backsweep] = self.took;
@@ -164,17 +197,38 @@ impl Seen {
     }
 }
 
+/// What the library is given under a name: a text, a width, calls, and room for so many bytes; and what it is to answer.
+type Given<'a> = (&'a str, &'a [u8], usize, &'a [u8], usize, i64);
+
+/// Whether it answers so, and writes nothing if it refuses.
+fn answers_so(&(what, text, width, calls, long, expected): &Given) -> bool {
+    let mut out = vec![0xee; long];
+    let answer = library::sheet(text, width, calls, &mut out);
+    let left = answer >= 0 || out.iter().all(|&b| b == 0xee);
+    if answer != expected || !left {
+        println!("refusals: {what}: {answer} for {expected}, out {}", if left { "left" } else { "written" });
+    }
+    answer == expected && left
+}
+
 /// What is refused, and that a refusal writes nothing.
 fn refusals() -> bool {
     let mut c = Chance::new(7);
-    let text = Round::around(&mut c, 1, 5, Drawn { slack: 80, pairs: 10, change: 1 }).text();
+    let text = Round::around(&mut c, 1, 5, Drawn { slack: 80, pairs: 10, change: 1, keepers: Keepers::None }).text();
     let call = bytes([5, 0, 0, 0]);
-    let long = text.clone() + &"first\t1\t2\n".repeat(1639);
-    let cases: [(&str, &[u8], usize, &[u8], usize, i64); 11] = [
+    let with = |lines: &str| text.clone() + lines;
+    let long = with(&"first\t1\t2\n".repeat(1639));
+    let (kept, twice) = (with("keeper\t1\t99\nkeeper\t5\t99\n"), with("keeper\t1\t7\nkeeper\t1\t7\n"));
+    let (above, behind) = (with("keeper\t1\t100\n"), with("keeper\t1\t7\nfirst\t1\t2\n"));
+    let cases: [Given; 15] = [
         ("fits", text.as_bytes(), 4, &call, 92, 92),
         ("no text", b"", 4, &call, 92, -1),
         ("text cut short", &text.as_bytes()[..text.len() - 1], 4, &call, 92, -6),
         ("long text", long.as_bytes(), 4, &call, 92, -7),
+        ("two doors of one keeper", kept.as_bytes(), 4, &call, 92, 92),
+        ("a second keeper of a door", twice.as_bytes(), 4, &call, 92, -29),
+        ("keeper 100", above.as_bytes(), 4, &call, 92, -4),
+        ("a pair behind a keeper", behind.as_bytes(), 4, &call, 92, -1),
         ("width 0", text.as_bytes(), 0, &call, 92, -10),
         ("width 129", text.as_bytes(), 129, &call, 92, -10),
         ("half a call", text.as_bytes(), 4, &call[..8], 92, -100),
@@ -183,15 +237,7 @@ fn refusals() -> bool {
         ("no such call, short out", text.as_bytes(), 4, &[9; 16], 91, -100),
         ("short out", text.as_bytes(), 4, &call, 91, -101),
     ];
-    cases.iter().fold(true, |good, &(what, text, width, calls, long, expected)| {
-        let mut out = vec![0xee; long];
-        let answer = library::sheet(text, width, calls, &mut out);
-        let left = answer >= 0 || out.iter().all(|&b| b == 0xee);
-        if answer != expected || !left {
-            println!("refusals: {what}: {answer} for {expected}, out {}", if left { "left" } else { "written" });
-        }
-        good && answer == expected && left
-    })
+    cases.iter().fold(true, |good, given| answers_so(given) && good)
 }
 
 pub fn compare(rounds: usize) -> ExitCode {
@@ -217,6 +263,7 @@ pub fn compare(rounds: usize) -> ExitCode {
             }
         }
         seen.note(&round, &calls, &expected);
+        seen.note_keepers(&round, width, &calls, &expected);
     }
     println!("compared {rounds} rounds, widths 1 to 128: {differ} differ");
     seen.print();

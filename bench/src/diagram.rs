@@ -1,5 +1,5 @@
 //! The twin: a diagram of limited width with its calls, written from docs/DIAGRAM.md. Nodes and layers count from 0 here; the
-//! calls take numbers as the document counts them. The rule is pairs and load together, the tally late doors.
+//! calls take numbers as the document counts them. The rule is pairs, load and keepers together, the tally late doors.
 
 use crate::round::Round;
 
@@ -10,10 +10,11 @@ struct Down {
     some: u32,
     finish: u32,
     lasts: u32,
-    /// the rule's state: a set of doors, the lowest and the highest load
+    /// the rule's state: a set of doors, the lowest and the highest load, the places that may be the last one
     set: u32,
     low: i32,
     high: i32,
+    previous: u32,
     value: (u32, u32),
 }
 
@@ -26,6 +27,7 @@ impl Down {
             && self.set == x.set
             && self.low == x.low
             && self.high == x.high
+            && self.previous == x.previous
     }
 
     fn merge(&mut self, x: &Down) {
@@ -36,6 +38,7 @@ impl Down {
         self.set |= x.set;
         self.low = self.low.min(x.low);
         self.high = self.high.max(x.high);
+        self.previous |= x.previous;
         self.value = self.value.min(x.value);
     }
 }
@@ -65,7 +68,7 @@ struct Node {
 const BLANK: Node = Node {
     outs: 0,
     to: [0; 16],
-    down: Down { all: 0, some: 0, finish: 0, lasts: 0, set: 0, low: 0, high: 0, value: (0, 0) },
+    down: Down { all: 0, some: 0, finish: 0, lasts: 0, set: 0, low: 0, high: 0, previous: 0, value: (0, 0) },
     up: NO_UP,
 };
 
@@ -74,9 +77,10 @@ impl Node {
     fn add_to(&self, sum: u64) -> u64 {
         let Node { outs, to, down, up } = self;
         let targets = (1..=16).map(|j| if outs >> j & 1 == 1 { u32::from(to[j - 1]) + 1 } else { 0 });
-        let ways = [down.all, down.some, down.finish, down.lasts, down.set, down.low as u32, down.high as u32];
+        let ways = [down.all, down.some, down.finish, down.lasts];
+        let state = [down.set, down.low as u32, down.high as u32, down.previous];
         let ends = [down.value.0, down.value.1, up.all, up.some, up.late as u32];
-        targets.chain(ways).chain(ends).fold(sum, |sum, x| sum.wrapping_mul(1_000_003).wrapping_add(u64::from(x)))
+        targets.chain(ways).chain(state).chain(ends).fold(sum, |sum, x| sum.wrapping_mul(1_000_003).wrapping_add(u64::from(x)))
     }
 }
 
@@ -111,9 +115,15 @@ impl Round {
         d.work + if self.grid == 1 { ready } else { ready.next_multiple_of(self.grid) }
     }
 
-    fn bars(&self, from: &Down, j: usize) -> bool {
-        let change = self.doors[j].change;
-        self.ahead[j] & !from.set != 0 || from.low + change > self.cap || from.high + change < 0
+    /// For each door the others of its keeper, as a mask.
+    fn same_keeper(&self) -> [u32; 17] {
+        let mut same_keeper = [0; 17];
+        for j in (1..=self.n).filter(|&j| self.keepers[j] != 0) {
+            for i in (1..=self.n).filter(|&i| i != j && self.keepers[i] == self.keepers[j]) {
+                same_keeper[j] |= 1 << i;
+            }
+        }
+        same_keeper
     }
 
     /// The last minute to leave a node with these lasts by door j, to a target that is to be left at `late` at the latest.
@@ -137,6 +147,7 @@ impl Round {
             set: from.set | 1 << j,
             low: (from.low + d.change).clamp(-9999, 9999),
             high: (from.high + d.change).clamp(-9999, 9999),
+            previous: 1 << j,
             value,
         }
     }
@@ -154,6 +165,8 @@ const NO_ARC: InArc = InArc { source: 0, door: 0, brings: BLANK.down };
 
 pub struct Diagram<'r> {
     round: &'r Round,
+    /// the round's `same_keeper`
+    same_keeper: [u32; 17],
     width: usize,
     /// whether the labels may be those of another rule and tally
     stale: bool,
@@ -171,6 +184,7 @@ impl<'r> Diagram<'r> {
     pub fn new(round: &'r Round, width: usize) -> Diagram<'r> {
         let mut d = Diagram {
             round,
+            same_keeper: round.same_keeper(),
             width,
             stale: false,
             late_due: false,
@@ -205,11 +219,13 @@ impl<'r> Diagram<'r> {
         first.lasts = 1;
         first.low = self.round.load;
         first.high = self.round.load;
+        first.previous = 1;
     }
 
     /// From here on calls are lent the rule and tally of this round, whose clock is that of the round before.
     pub fn lend(&mut self, round: &'r Round) {
         self.round = round;
+        self.same_keeper = round.same_keeper();
         self.stale = true;
     }
 
@@ -277,6 +293,19 @@ impl<'r> Diagram<'r> {
         }
     }
 
+    /// Whether the rule bars door `j`: a door that has to be ahead of it is missing, each load would be out of its range, or the
+    /// last place may be another than `j`, and every such place is a door of the same keeper.
+    #[inline]
+    fn bars(&self, from: &Down, j: usize) -> bool {
+        let r = self.round;
+        let change = r.doors[j].change;
+        let others = from.previous & !(1 << j);
+        r.ahead[j] & !from.set != 0
+            || from.low + change > r.cap
+            || from.high + change < 0
+            || others & !self.same_keeper[j] == 0 && others != 0
+    }
+
     /// The doors of the arcs from node `s` of layer `i` that one of the six tests takes out.
     #[inline]
     fn barred(&self, i: usize, s: &Node, targets: &[Node; 128]) -> u32 {
@@ -292,7 +321,7 @@ impl<'r> Diagram<'r> {
             let t = &targets[(s.to[j - 1] & 127) as usize].up;
             if t.all >> j & 1 == 1
                 || ((t.some | 1 << j).count_ones() as usize) < r.n - i
-                || r.bars(&s.down, j)
+                || self.bars(&s.down, j)
                 || r.finish(&s.down, j) > r.doors[j].closes
             {
                 out |= 1 << j;

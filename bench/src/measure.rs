@@ -5,7 +5,7 @@ use crate::clock;
 use crate::compare::{Call, bytes};
 use crate::diagram::Diagram;
 use crate::library;
-use crate::round::{Drawn, Round};
+use crate::round::{Drawn, Keepers, Round};
 use std::hint::black_box;
 use std::process::ExitCode;
 
@@ -14,12 +14,12 @@ const TRIES: usize = 5;
 const WIDTHS: [usize; 4] = [16, 32, 64, 128];
 
 /// Rounds of 16 doors on a grid of 1, with hours that leave the order open here and there.
-fn tight() -> Vec<Round> {
+fn tight(keepers: Keepers) -> Vec<Round> {
     let mut c = Chance::new(16);
     (0..ROUNDS)
         .map(|k| {
             let slack = [40, 80, 160][k % 3];
-            Round::around(&mut c, 1, 16, Drawn { slack, pairs: 20, change: 2 })
+            Round::around(&mut c, 1, 16, Drawn { slack, pairs: 20, change: 2, keepers })
         })
         .collect()
 }
@@ -192,20 +192,28 @@ fn asks(rounds: &[Round], width: usize, question: &Question) -> Option<Sums> {
     Some(sums)
 }
 
-pub fn measure() -> ExitCode {
-    let rounds = tight();
-    println!("16 doors, {ROUNDS} rounds, least of {TRIES} tries, microseconds of processor time each");
-    println!("width  full  rounds  library     twin  ratio (least to most)   open and refine");
+/// The table of open and refine; no if answers differ.
+fn print_refines(rounds: &[Round], what: &str) -> bool {
+    println!("width  full  rounds  library     twin  ratio (least to most)   {what}");
     let mut before: Option<f64> = None;
     for width in WIDTHS {
-        let Some((sums, full)) = refines(&rounds, width) else {
-            return ExitCode::FAILURE;
+        let Some((sums, full)) = refines(rounds, width) else {
+            return false;
         };
         sums.print(&format!("{width:5}  {full:4}"));
         if let Some(narrow) = before {
             println!("             the library's own time grows by {:.2}", sums.library() / narrow);
         }
         before = Some(sums.library());
+    }
+    true
+}
+
+pub fn measure() -> ExitCode {
+    let rounds = tight(Keepers::None);
+    println!("16 doors, {ROUNDS} rounds, least of {TRIES} tries, microseconds of processor time each");
+    if !print_refines(&rounds, "open and refine") {
+        return ExitCode::FAILURE;
     }
     for kind in ["sweep", "backsweep", "cut", "join, part"] {
         println!("width        rounds  library     twin  ratio (least to most)   {kind}, on a refined diagram");
@@ -222,11 +230,14 @@ pub fn measure() -> ExitCode {
             sums.print(&format!("{width:5}      "));
         }
     }
+    if !print_refines(&tight(Keepers::Apart), "open and refine, rounds with keepers") {
+        return ExitCode::FAILURE;
+    }
     ExitCode::SUCCESS
 }
 
 pub fn repeat(who: &str, width: usize, times: usize, rounds: usize) -> ExitCode {
-    for round in &tight()[..rounds] {
+    for round in &tight(Keepers::None)[..rounds] {
         let answer = match who {
             "library" => of_library(round.text().as_bytes(), width, times),
             "twin" => of_twin(round, width, times),

@@ -1,4 +1,4 @@
-//! A round, its text, and rounds and grids by chance.
+//! A round, its text, and rounds, grids and keepers by chance.
 
 use crate::chance::Chance;
 use std::fmt::Write;
@@ -24,6 +24,19 @@ pub struct Round {
     pub drive: [[u32; 17]; 17],
     /// the doors that have to come ahead of each door, as a mask
     pub ahead: [u32; 17],
+    /// the number of each door's keeper, 0 for none
+    pub keepers: [u32; 17],
+}
+
+/// How the keepers of a round are drawn.
+#[derive(Clone, Copy, PartialEq, Eq)]
+pub enum Keepers {
+    /// no door has one
+    None,
+    /// a few, and no two doors of one keeper directly follow each other in the order that a round is drawn around
+    Apart,
+    /// a few, as they come
+    Wild,
 }
 
 /// How a round around some order is drawn.
@@ -35,16 +48,37 @@ pub struct Drawn {
     pub pairs: u64,
     /// how far changes reach from 0
     pub change: i64,
+    pub keepers: Keepers,
+}
+
+impl Keepers {
+    /// Keepers for the doors of an order: one to four of them, so that doors share them, and doors without one in between.
+    fn draw(self, c: &mut Chance, order: &[usize]) -> [u32; 17] {
+        let mut keepers = [0; 17];
+        if self == Keepers::None {
+            return keepers;
+        }
+        let who: Vec<u32> = (0..c.within(1, 4)).map(|_| c.within(1, 99) as u32).collect();
+        let free = [3, 6, 1000][c.within(0, 2) as usize];
+        let mut last = 0;
+        for &j in order {
+            let keeper = if c.one_in(free) { 0 } else { who[c.within(0, who.len() as i64 - 1) as usize] };
+            last = if self == Keepers::Apart && keeper == last { 0 } else { keeper };
+            keepers[j] = last;
+        }
+        keepers
+    }
 }
 
 impl Round {
     fn blank(n: usize) -> Round {
-        Round { n, load: 0, cap: 0, grid: 1, doors: [Door::default(); 17], drive: [[0; 17]; 17], ahead: [0; 17] }
+        let (doors, drive) = ([Door::default(); 17], [[0; 17]; 17]);
+        Round { n, load: 0, cap: 0, grid: 1, doors, drive, ahead: [0; 17], keepers: [0; 17] }
     }
 
     /// The clock of this round with what side rule and tally look at in another of as many doors.
     pub fn under(&self, lent: &Round) -> Round {
-        let mut round = Round { load: lent.load, cap: lent.cap, ahead: lent.ahead, ..*self };
+        let mut round = Round { load: lent.load, cap: lent.cap, ahead: lent.ahead, keepers: lent.keepers, ..*self };
         for (door, other) in round.doors.iter_mut().zip(&lent.doors) {
             *door = Door { due: other.due, change: other.change, ..*door };
         }
@@ -73,6 +107,12 @@ impl Round {
             }
             s.push('\n');
         }
+        self.add_rules(&mut s);
+        s
+    }
+
+    /// The lines of the pairs and of the keepers.
+    fn add_rules(&self, s: &mut String) {
         for j in 1..=self.n {
             for i in 1..=self.n {
                 if self.ahead[j] >> i & 1 == 1 {
@@ -80,24 +120,28 @@ impl Round {
                 }
             }
         }
-        s
+        for j in (1..=self.n).filter(|&j| self.keepers[j] != 0) {
+            writeln!(s, "keeper\t{j}\t{}", self.keepers[j]).unwrap();
+        }
+    }
+
+    /// Each drive by chance, from `least` to `most` minutes.
+    fn draw_drives(&mut self, c: &mut Chance, least: i64, most: i64) {
+        for i in 0..=self.n {
+            for j in 1..=self.n {
+                if i != j {
+                    self.drive[i][j] = c.within(least, most) as u32;
+                }
+            }
+        }
     }
 
     /// A round of n doors with hours around the times of some order of them on the grid.
     pub fn around(c: &mut Chance, grid: u32, n: usize, drawn: Drawn) -> Round {
-        let Drawn { slack, pairs, change } = drawn;
+        let Drawn { slack, pairs, change, keepers } = drawn;
         let mut r = Round { grid, ..Round::blank(n) };
-        for i in 0..=n {
-            for j in 1..=n {
-                if i != j {
-                    r.drive[i][j] = c.within(3, 40) as u32;
-                }
-            }
-        }
-        let mut order: Vec<usize> = (1..=n).collect();
-        for k in (1..n).rev() {
-            order.swap(k, c.within(0, k as i64) as usize);
-        }
+        r.draw_drives(c, 3, 40);
+        let order = order_by_chance(c, n);
         let (mut time, mut at, mut load, mut least, mut most) = (0i64, 0, 0i64, 0i64, 0i64);
         for &j in &order {
             let work = c.within(5, 25);
@@ -121,11 +165,12 @@ impl Round {
                 }
             }
         }
+        r.keepers = keepers.draw(c, &order);
         r
     }
 
     /// A round of n doors of which nothing need fit: hours, changes and pairs as they come.
-    pub fn wild(c: &mut Chance, grid: u32, n: usize) -> Round {
+    pub fn wild(c: &mut Chance, grid: u32, n: usize, keepers: Keepers) -> Round {
         let mut r = Round { grid, ..Round::blank(n) };
         let day = [20, 100, 400, 2000, 9999][c.within(0, 4) as usize];
         let far = [0, 5, 40, 999][c.within(0, 3) as usize];
@@ -134,13 +179,7 @@ impl Round {
         let room = [3, 20, 999][c.within(0, 2) as usize];
         r.cap = c.within(0, room) as i32;
         r.load = c.within(0, r.cap as i64) as i32;
-        for i in 0..=n {
-            for j in 1..=n {
-                if i != j {
-                    r.drive[i][j] = c.within(0, far) as u32;
-                }
-            }
-        }
+        r.draw_drives(c, 0, far);
         for j in 1..=n {
             r.doors[j] = Door {
                 opens: c.within(0, day) as u32,
@@ -156,8 +195,18 @@ impl Round {
                 }
             }
         }
+        r.keepers = keepers.draw(c, &(1..=n).collect::<Vec<_>>());
         r
     }
+}
+
+/// The doors 1 to n in some order.
+fn order_by_chance(c: &mut Chance, n: usize) -> Vec<usize> {
+    let mut order: Vec<usize> = (1..=n).collect();
+    for k in (1..n).rev() {
+        order.swap(k, c.within(0, k as i64) as usize);
+    }
+    order
 }
 
 /// A grid of 1 in one of two cases, else one above it.

@@ -2,7 +2,7 @@
 
 use crate::chance::Chance;
 use crate::library;
-use crate::round::{Drawn, Round};
+use crate::round::{Drawn, Keepers, Round};
 use std::hint::black_box;
 use std::process::ExitCode;
 
@@ -41,7 +41,7 @@ fn measure() -> usize {
         .collect();
     let mut round = |k: usize| {
         let slack = [40, 160, 1000][k % 3];
-        Round::around(&mut c, [1, 15][k % 2], 16, Drawn { slack, pairs: 20, change: 2 })
+        Round::around(&mut c, [1, 15][k % 2], 16, Drawn { slack, pairs: 20, change: 2, keepers: Keepers::None })
     };
     let rounds: Vec<String> = (0..12).map(|k| round(k).text()).collect();
     let mut out = vec![0; 256];

@@ -2,8 +2,8 @@
  * The round sheet for C: a round's text in, the answers of a list of calls out.
  *
  * Link out/libcapi.a, which `rt lib` in this folder proves and writes. The functions keep nothing between calls, allocate
- * nothing and may be called from several threads at once. Each takes at most 300 KiB of stack. The side rule is pairs and load
- * together; the cost of an order is its late doors, then its late minutes.
+ * nothing and may be called from several threads at once. Each takes at most 300 KiB of stack. The side rule is pairs, load and
+ * keepers together; the cost of an order is its late doors, then its late minutes.
  *
  * A pointer with a length may be that of no bytes, but it is never null. `out` may not overlap `text` or `calls`.
  *
@@ -23,6 +23,7 @@ extern "C" {
  * A refusal is answered as a number below 0, and leaves `out` as it was. They are looked at in this order:
  *
  *   -1 to -7   the text is refused, with that number (docs/ROUND.md)
+ *   -29        the same: a door has a second keeper line
  *   -10        the width is not 1 to 128
  *   -100       the calls are no calls: not 16 bytes each, or of an unknown kind
  *   -101       `out` is too short

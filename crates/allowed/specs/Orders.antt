@@ -4,6 +4,8 @@ use Rattle.doors.specs.Orders.{IsPartOrder}
 use Rattle.round.specs.declared.table.Round.{Round}
 use Rattle.rules.specs.Pairs.{IsOrdered}
 use Rattle.rules.specs.Loads.{IsWithinCap}
+use Rattle.rules.specs.Keepers.{IsSpaced}
+use Rattle.rules.specs.Sides.{KeepsSides}
 use Rattle.tallies.specs.Driving.{driving_sense}
 use Rattle.tallies.specs.Late.{late_sense}
 use Rattle.orders.specs.Allowed.{IsAllowed}
@@ -23,14 +25,16 @@ pub record IsAllowedOrder (r : Round) (w : List ℕ) : Type 0 where
   pub ordered : IsOrdered r.ahead w
   -- the van holds 0 to cap key boxes after every door
   pub within : IsWithinCap r.load r.cap r.doors w
+  -- no two doors of one keeper directly follow each other
+  pub spaced : IsSpaced r.keepers w
   -- no door is finished after it closes
   pub timely : KeepsHours r w
 
--- the side rules of the round: its pairs, and its load
+-- the side rules of the round: its pairs, its load, and its keepers
 abbrev pub KeepsRules : Round → List ℕ → Type 0
-KeepsRules r w = IsOrdered r.ahead w × IsWithinCap r.load r.cap r.doors w
+KeepsRules r w = KeepsSides r r r w
 
--- allowed orders are those that the claim calls allowed, where the side rule is that of pairs and load
+-- allowed orders are those that the claim calls allowed, where the side rule is that of pairs, load and keepers
 abbrev pub AllowedMeans : Type 0
 AllowedMeans = (r : Round) (w : List ℕ) → IsAllowedOrder r w ↔ IsAllowed r (KeepsRules r) w
 

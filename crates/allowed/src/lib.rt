@@ -4,8 +4,8 @@
 
 ghost use Rattle.allowed.specs.Orders.{AllowedMeans};
 
-/// An order is allowed exactly if it is so under the rule of pairs and load together: the same orders as those of which
-/// the claim on a diagram with that rule speaks.
+/// An order is allowed exactly if it is so under the rule of pairs, load and keepers together: the same orders as those of
+/// which the claim on a diagram with that rule speaks.
 pub fn allowed_means()
     ensures { AllowedMeans }
 {}

@@ -19,6 +19,8 @@ pub(crate) struct Counts {
     pub(crate) equal: usize,
     pub(crate) grids: usize,
     pub(crate) by_grid: usize,
+    pub(crate) keepers: usize,
+    pub(crate) by_keepers: usize,
     pub(crate) none: usize,
     pub(crate) one: usize,
     pub(crate) many: usize,
@@ -109,7 +111,7 @@ fn write_rows<W: fmt::Write>(f: &mut fmt::Formatter<W>, rows: &[Row]) -> fmt::Re
 }
 
 impl Counts {
-    fn kind_rows(&self) -> [Row; 13] {
+    fn kind_rows(&self) -> [Row; 15] {
         [
             ("pairs that close a ring", self.ring, "\t"),
             ("pairs that rule out an order", self.pairs, "\n"),
@@ -119,6 +121,8 @@ impl Counts {
             ("two orders of the least cost", self.equal, "\n"),
             ("a grid above 1", self.grids, "\t"),
             ("a grid that rules out an order", self.by_grid, "\n"),
+            ("rounds with keepers", self.keepers, "\t"),
+            ("keepers that rule out an order", self.by_keepers, "\n"),
             ("rounds with no allowed order", self.none, "\t"),
             ("with one", self.one, "\t"),
             ("with more", self.many, "\n"),

@@ -17,6 +17,8 @@ struct Kind {
     load: usize,
     /// how it pairs doors
     pairs: usize,
+    /// how many keepers it has
+    keepers: usize,
 }
 
 impl Kind {
@@ -85,6 +87,17 @@ fn add_pair(text: &mut String, dice: &mut Dice, kind: Kind) -> Result<(), AllocE
     write!(text, "first\t{i}\t{j}\n")
 }
 
+/// A keeper for each door, or none: there are so few that doors share them.
+fn add_keepers(text: &mut String, dice: &mut Dice, kind: Kind) -> Result<(), AllocError> {
+    for j in 1..=kind.n {
+        let keeper = dice.roll(kind.keepers.saturating_add(1));
+        if keeper > 0 {
+            write!(text, "keeper\t{j}\t{keeper}\n")?;
+        }
+    }
+    Ok(())
+}
+
 /// The grid, if the round line names one: half of them do, mostly one that is coarse enough to matter at the round's minutes.
 fn draw_grid(dice: &mut Dice, kind: Kind) -> Option<u16> {
     if dice.roll(2) == 0 {
@@ -115,6 +128,7 @@ pub(crate) fn draw(alloc: Global, dice: &mut Dice, n: usize) -> Result<String, A
         large: dice.roll(8) == 0,
         load: dice.roll(3),
         pairs: dice.roll(6),
+        keepers: dice.roll(6).saturating_sub(2),
     };
     let load = dice.roll(2).saturating_add(kind.load);
     let cap = load.saturating_add(kind.load).saturating_add(dice.roll(2));
@@ -134,5 +148,6 @@ pub(crate) fn draw(alloc: Global, dice: &mut Dice, n: usize) -> Result<String, A
             add_pair(&mut text, dice, kind)?;
         }
     }
+    add_keepers(&mut text, dice, kind)?;
     Ok(text)
 }

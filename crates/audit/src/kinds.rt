@@ -7,6 +7,8 @@ use lister::next::next_order;
 use orders::order::Order;
 use orders::verdict::Verdict;
 use round::table::Round;
+use rules::both::Both;
+use rules::keepers::Keepers;
 use rules::load::Load;
 use rules::pairs::Pairs;
 use rules::rule::Rule;
@@ -51,6 +53,11 @@ fn is_tight<R: Rule>(round: &Round, rule: &R) -> bool {
     false
 }
 
+/// Whether some door has a keeper.
+fn has_keepers(round: &Round) -> bool {
+    round.keepers.iter().any(|keeper| *keeper > 0)
+}
+
 /// The round with starts at any minute.
 fn at_any_minute(round: &Round) -> Round {
     let mut free = *round;
@@ -78,25 +85,54 @@ impl<'a, R: Rule, T: Tally> Case<'a, R, T, T::Value> {
         count > 1
     }
 
+    /// How many orders keep the hours and this rule.
+    fn count_under<K: Rule>(&self, alloc: Global, rule: &K) -> Result<usize, AllocError> {
+        Ok(list(alloc, self.round, rule, self.tally)?.len())
+    }
+
+    /// Counts which rules of the round rule out an order that its other rules and its hours allow.
+    fn note_rules(&self, alloc: Global, counts: &mut Counts) -> Result<(), AllocError> {
+        let allowed = self.orders.len();
+        let pairs = Pairs::of(self.round);
+        let load = Load::of(self.round);
+        let keepers = Keepers::of(self.round);
+        let without_pairs = Both {
+            first: load,
+            second: keepers,
+        };
+        let without_load = Both {
+            first: pairs,
+            second: keepers,
+        };
+        let without_keepers = Both {
+            first: pairs,
+            second: load,
+        };
+        let unpaired = self.count_under(alloc, &without_pairs)?;
+        let unloaded = self.count_under(alloc, &without_load)?;
+        let unkept = self.count_under(alloc, &without_keepers)?;
+        note(&mut counts.pairs, unpaired > allowed);
+        note(&mut counts.load, unloaded > allowed);
+        note(&mut counts.by_keepers, unkept > allowed);
+        Ok(())
+    }
+
     /// Counts of what kinds the round is.
     pub(crate) fn note_kinds(&self, alloc: Global, counts: &mut Counts) -> Result<(), AllocError> {
         let round = self.round;
         let allowed = self.orders.len();
-        let by_load = list(alloc, round, &Load::of(round), self.tally)?.len();
-        let by_pairs = list(alloc, round, &Pairs::of(round), self.tally)?.len();
         let unlifted = list(alloc, &at_any_minute(round), self.rule, self.tally)?.len();
         let is_tight = is_tight(round, self.rule);
         if let Some(rounds) = counts.doors.get_mut(round.n) {
             note(rounds, true);
         }
         note(&mut counts.ring, has_ring(round));
-        note(&mut counts.pairs, by_load > allowed);
-        note(&mut counts.load, by_pairs > allowed);
         note(&mut counts.tight, is_tight);
         note(&mut counts.loose, !is_tight);
         note(&mut counts.equal, self.has_equal());
         note(&mut counts.grids, round.grid > 1);
         note(&mut counts.by_grid, unlifted > allowed);
-        Ok(())
+        note(&mut counts.keepers, has_keepers(round));
+        self.note_rules(alloc, counts)
     }
 }

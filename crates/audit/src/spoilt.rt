@@ -13,7 +13,7 @@ use diagram::diagram::Diagram;
 use diagram::reading::ReadingForm;
 use diagram::room::Room;
 use layers::node::Arcs;
-use lister::list::Listed;
+use lister::list::{Listed, list};
 use round::table::Round;
 use rules::both::Both;
 use rules::rule::Rule;
@@ -28,6 +28,13 @@ const THREE: &[u8] =
 /// The width of its diagram: layer i begins at place 4 i. Refined, the diagram has the places 0, 4, 8 and the end alone, with the
 /// path 1, 3, 2.
 const WIDTH: usize = 4;
+
+/// Three doors that are open all day, the last two of one keeper. The allowed orders are 2, 1, 3 and 3, 1, 2.
+const KEPT: &[u8] =
+    b"round\t3\t0\t0\ndoor\t1\t0\t9999\t9999\t1\t0\ndoor\t2\t0\t9999\t9999\t1\t0\ndoor\t3\t0\t9999\t9999\t1\t0\ndrive\t0\t0\t0\t0\ndrive\t1\t-\t0\t0\ndrive\t2\t0\t-\t0\ndrive\t3\t0\t0\t-\nkeeper\t2\t1\nkeeper\t3\t1\n";
+
+/// Wide enough for all orders of three doors.
+const WIDE: usize = 6;
 
 /// Doors 1, `second` and `third`, as a listed order.
 fn listed(second: usize, third: usize) -> Listed<(u32, u32)> {
@@ -149,6 +156,41 @@ fn find_in_three(alloc: Global, round: &Round) -> anyhow::Result<()> {
     none.find(&seen, Fault::MorePaths)
 }
 
+/// The three doors with the keeper, their diagram refined under the rule of a round of one door: the sets of last doors have lost 2
+/// and 3, so that nothing is barred after these. Refined under their own rule it has no fault, but where a third order is wanted.
+fn find_in_kept(alloc: Global, round: &Round) -> anyhow::Result<()> {
+    let one = Round::fresh();
+    let rule = Both::of(round);
+    let forgetful = Both::of(&one);
+    let tally = LateDoors::of(round);
+    let orders = list(alloc, round, &rule, &tally)?;
+    let case = Case {
+        round,
+        rule: &rule,
+        tally: &tally,
+        width: WIDE,
+        orders: orders.as_slice(),
+    };
+    let Ok(room) = Room::check(round, WIDE, LENT) else {
+        return Err(anyhow!("no room for a diagram with lost doors"));
+    };
+    let mut nodes = lent(alloc, &rule, &tally)?;
+    let mut diagram = Diagram::open(room, &forgetful, &tally, &mut nodes);
+    diagram.refine(&forgetful, &tally);
+    let seen = look(&diagram, &rule, &mut Counts::default());
+    case.find(&seen, Fault::PathNotAllowed)?;
+    diagram.refine(&rule, &tally);
+    let seen = look(&diagram, &rule, &mut Counts::default());
+    if case.check(&seen, case.orders).is_err() {
+        return Err(anyhow!("a fault where no door is lost"));
+    }
+    let more = Case {
+        orders: &[listed(2, 3)],
+        ..case
+    };
+    more.find(&seen, Fault::OrderLost)
+}
+
 /// Arcs for every door in all layers of a round of 8 doors but the last: more lists are on the way than are looked at.
 fn find_in_eight(round: &Round) -> anyhow::Result<()> {
     let case = Case {
@@ -192,8 +234,10 @@ fn show_in_three(alloc: Global, round: &Round) -> anyhow::Result<()> {
 /// Finds each fault.
 pub(crate) fn find_all(alloc: Global) -> anyhow::Result<()> {
     let three = round_of(THREE)?;
+    let kept = round_of(KEPT)?;
     let eight = round_of(draw(alloc, &mut Dice::of(1), 8)?.as_bytes())?;
     find_in_three(alloc, &three)?;
+    find_in_kept(alloc, &kept)?;
     find_in_eight(&eight)?;
     show_in_three(alloc, &three)
 }

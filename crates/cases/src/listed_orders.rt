@@ -2,6 +2,7 @@
 use crate::rounds::round_of;
 use lister::list::list;
 use lister::next::next_order;
+use rules::keepers::Keepers;
 use rules::pairs::Pairs;
 use std::test::Fail;
 use tallies::driving::Driving;
@@ -53,6 +54,37 @@ fn open_doors_have_all_orders_and_a_pair_halves_them(rt: HostRuntime) -> Result<
         let round = round_of(text)?;
         let orders = list(rt.alloc(), &round, &Pairs::of(&round), &Driving)?;
         assert_eq!(rt; orders.len(), count);
+    }
+    Ok(())
+}
+
+/// Four doors that are open all day, 1 and 3 of one keeper, 2 and 4 of none.
+const KEPT: &[u8] =
+    b"round\t4\t0\t0\ndoor\t1\t0\t9999\t0\t1\t0\ndoor\t2\t0\t9999\t0\t1\t0\ndoor\t3\t0\t9999\t0\t1\t0\ndoor\t4\t0\t9999\t0\t1\t0\ndrive\t0\t0\t0\t0\t0\ndrive\t1\t-\t0\t0\t0\ndrive\t2\t0\t-\t0\t0\ndrive\t3\t0\t0\t-\t0\ndrive\t4\t0\t0\t0\t-\nkeeper\t1\t99\nkeeper\t3\t99\n";
+
+/// The orders in which 1 and 3 do not stand side by side.
+static APART: [[usize; 4]; 12] = [
+    [1, 2, 3, 4],
+    [1, 2, 4, 3],
+    [1, 4, 2, 3],
+    [1, 4, 3, 2],
+    [2, 1, 4, 3],
+    [2, 3, 4, 1],
+    [3, 2, 1, 4],
+    [3, 2, 4, 1],
+    [3, 4, 1, 2],
+    [3, 4, 2, 1],
+    [4, 1, 2, 3],
+    [4, 3, 2, 1],
+];
+
+#[test]
+fn a_keeper_lets_in_with_another_door_between(rt: HostRuntime) -> Result<(), Fail> {
+    let round = round_of(KEPT)?;
+    let orders = list(rt.alloc(), &round, &Keepers::of(&round), &Driving)?;
+    assert_eq!(rt; orders.len(), APART.len());
+    for (order, doors) in orders.iter().zip(&APART) {
+        assert_eq!(rt; &order.doors[..4], doors.as_slice());
     }
     Ok(())
 }

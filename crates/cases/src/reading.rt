@@ -12,6 +12,8 @@ const DOORS: &[u8] = b"door\t1\t0\t9\t9\t1\t0\ndoor\t2\t0\t9\t9\t1\t-5\n";
 
 const DRIVES: &[u8] = b"drive\t0\t1\t1\ndrive\t1\t-\t10\ndrive\t2\t1\t-\n";
 
+const KEEPER: &[u8] = b"keeper\t1\t7\n";
+
 /// How a text is read: number, line and field of its refusal, or three zeros.
 fn outcome(text: &[u8]) -> (u8, usize, usize) {
     let mut round = Round::fresh();
@@ -29,7 +31,7 @@ fn after(heap: Global, ahead: &[&[u8]], text: &[u8]) -> Result<(u8, usize, usize
 }
 
 /// What follows the round line of one door.
-const ONE: &[u8] = b"door\t1\t2\t90\t80\t7\t-1\ndrive\t0\t33\ndrive\t1\t-\n";
+const ONE: &[u8] = b"door\t1\t2\t90\t80\t7\t-1\ndrive\t0\t33\ndrive\t1\t-\nkeeper\t1\t42\n";
 
 #[test]
 fn the_example_is_read_on_each_grid(rt: HostRuntime) -> Result<(), Fail> {
@@ -52,6 +54,10 @@ fn the_example_is_read_on_each_grid(rt: HostRuntime) -> Result<(), Fail> {
             (2, 90, 80, 7)
         );
         assert_eq!(rt; (door.change, round.drive(0, 1)), (-1, 33));
+        assert_eq!(rt;
+            (round.keepers[0], round.keepers[1], round.keepers[2]),
+            (0, 42, 0)
+        );
     }
     Ok(())
 }
@@ -69,11 +75,16 @@ fn a_refusal_leaves_the_round(rt: HostRuntime) {
 const NO_NUMBER: &[u8] =
     b"round\t3\t0\t0\ndoor\t1\t0\t3\t3\t2\t0\ndoor\t2\t4\t9\t7\t2\t0\ndoor\t3\tx\t8\t6\t3\t0\ndrive\t0\t0\t0\t0\ndrive\t1\t-\t0\t0\ndrive\t2\t0\t-\t0\ndrive\t3\t0\t0\t-\n";
 
+/// One door, with two keeper lines.
+const TWO_KEEPERS: &[u8] =
+    b"round\t1\t0\t0\ndoor\t1\t0\t9\t9\t1\t0\ndrive\t0\t1\ndrive\t1\t-\nkeeper\t1\t7\nkeeper\t1\t8\n";
+
 #[test]
 fn a_refusal_is_shown_with_tabs(rt: HostRuntime) -> Result<(), Fail> {
     for (text, line) in [
         (b"round\t1\t5\t4\n".as_slice(), "refused\t4\t1\t4"),
         (NO_NUMBER, "refused\t3\t4\t3"),
+        (TWO_KEEPERS, "refused\t29\t6\t2"),
     ] {
         let mut round = Round::fresh();
         let Err(refusal) = read_bounded(&mut round, text) else {
@@ -101,6 +112,7 @@ const LINES: Cases<'static> = &[
     (b"round\t1\t0\t0\n", (1, 2, 1), "text ends early"),
     (b"round\t1\t0\t0\t1\n", (1, 2, 1), "the least grid"),
     (b"round\t1\t0\t0\t60\n", (1, 2, 1), "the greatest grid"),
+    (b"keeper\t1\t7\n", (1, 1, 1), "a keeper ahead of the round"),
 ];
 
 const NUMBERS: Cases<'static> = &[
@@ -140,6 +152,7 @@ const DOOR_LINES: Cases<'static> = &[
     (b"door\t1\t0\t9\t9\t1000\t0\n", (4, 2, 6), "too much work"),
     (b"door\t1\t0\t9\t9\t1\t-0\n", (3, 2, 7), "minus before 0"),
     (b"door\t1\t0\t9\t9\t1\t-100\n", (4, 2, 7), "change"),
+    (b"keeper\t1\t7\n", (1, 2, 1), "a keeper ahead of the doors"),
 ];
 
 /// What may come where drives are due.
@@ -151,6 +164,13 @@ const DRIVE_LINES: Cases<'static> = &[
     (b"drive\t0\t-\t1\n", (3, 4, 3), "- where not due"),
     (b"drive\t0\t1\t1000\n", (4, 4, 4), "too far"),
     (b"drive\t0\t1\t1\ndrive\t1\t0\t1\n", (3, 5, 3), "- is due"),
+    (b"keeper\t1\t7\n", (1, 4, 1), "a keeper ahead of the drives"),
+    (b"keeper\t1\n", (1, 4, 1), "1 ahead of 2"),
+    (
+        b"drive\t0\t1\t1\ndrive\t1\t-\t10\nkeeper\t1\t7\n",
+        (1, 6, 1),
+        "a keeper ahead of the last drives",
+    ),
 ];
 
 /// What may come once all drives are there.
@@ -163,6 +183,96 @@ const PAIR_LINES: Cases<'static> = &[
     (b"first\t1\t2", (6, 7, 1), "no line feed"),
 ];
 
+/// The lines of keepers, which may come then too.
+const KEEPER_LINES: Cases<'static> = &[
+    (b"keeper\t1\t1\n", (0, 0, 0), "the least keeper"),
+    (b"keeper\t2\t99\n", (0, 0, 0), "the greatest keeper"),
+    (b"keeper\t2\t7\nkeeper\t1\t7\n", (0, 0, 0), "one for both"),
+    (b"first\t1\t2\nkeeper\t1\t7\n", (0, 0, 0), "after a pair"),
+    (
+        b"first\t1\t2\nkeeper\t2\t7\nfirst\t1\t2\n",
+        (1, 9, 1),
+        "a pair, a keeper, a pair",
+    ),
+    (b"keeper\t1\t7", (6, 7, 1), "no line feed"),
+    (b"keepers\t1\t7\n", (1, 7, 1), "another kind"),
+    (b"keeper\n", (2, 7, 1), "kind alone"),
+    (b"keeper\tx\n", (2, 7, 1), "a field too few, 2 ahead of 3"),
+    (b"keeper\t1\t7\t7\n", (2, 7, 1), "a field too many"),
+    (b"keeper\tx\t7\n", (3, 7, 2), "a door that is no number"),
+    (b"keeper\t-\t7\n", (3, 7, 2), "- for a door"),
+    (b"keeper\t\t7\n", (3, 7, 2), "no door"),
+    (
+        b"keeper\tx\t0\n",
+        (3, 7, 2),
+        "3 ahead of 4 in the next field",
+    ),
+    (
+        b"keeper\t0\tx\n",
+        (4, 7, 2),
+        "4 ahead of 3 in the next field",
+    ),
+    (b"keeper\t0\t7\n", (4, 7, 2), "the yard"),
+    (b"keeper\t3\t7\n", (4, 7, 2), "no such door"),
+    (b"keeper\t3\tx\n", (4, 7, 2), "the left field first"),
+    (b"keeper\t1\t\n", (3, 7, 3), "empty field"),
+    (b"keeper\t1\t-\n", (3, 7, 3), "- for a keeper"),
+    (b"keeper\t1\t07\n", (3, 7, 3), "leading zero"),
+    (b"keeper\t1\t-7\n", (3, 7, 3), "minus outside change"),
+    (b"keeper\t1\t7\r\n", (3, 7, 3), "carriage return"),
+    (b"keeper\t1\t0\n", (4, 7, 3), "keeper 0"),
+    (b"keeper\t1\t100\n", (4, 7, 3), "keeper 100"),
+    (
+        b"keeper\t1\t1000000000000000000000000000000000000000\n",
+        (4, 7, 3),
+        "forty digits",
+    ),
+];
+
+/// What may come after the keeper of door 1.
+const NEXT_LINES: Cases<'static> = &[
+    (b"keeper\t2\t7\n", (0, 0, 0), "the keeper of another door"),
+    (b"keeper\t1\t7\n", (29, 8, 2), "the same line again"),
+    (b"keeper\t1\t8\n", (29, 8, 2), "another keeper"),
+    (
+        b"keeper\t2\t8\nkeeper\t1\t7\n",
+        (29, 9, 2),
+        "a door between",
+    ),
+    (
+        b"keeper\t2\t8\nkeeper\t2\t8\n",
+        (29, 9, 2),
+        "the other door",
+    ),
+    (
+        b"keeper\t1\tx\n",
+        (29, 8, 2),
+        "29 ahead of 3 in the next field",
+    ),
+    (
+        b"keeper\t1\t0\n",
+        (29, 8, 2),
+        "29 ahead of 4 in the next field",
+    ),
+    (
+        b"keeper\t1\t100\n",
+        (29, 8, 2),
+        "29 ahead of 4 above the range",
+    ),
+    (b"keeper\t0\t7\n", (4, 8, 2), "the yard"),
+    (b"keeper\t3\t7\n", (4, 8, 2), "no such door"),
+    (b"keeper\tx\t7\n", (3, 8, 2), "no number"),
+    (b"keeper\t01\t7\n", (3, 8, 2), "3 ahead of 29"),
+    (b"keeper\t1\n", (2, 8, 1), "2 ahead of 29"),
+    (b"keeper\t1\t7\t7\n", (2, 8, 1), "a field too many"),
+    (b"keeper\t1\t7\njunk", (29, 8, 2), "29 ahead of 6 below"),
+    (b"keeper\t1\t7", (6, 8, 1), "6 ahead of 29"),
+    (b"first\t1\t2\n", (1, 8, 1), "the pairs have ended"),
+    (b"first\n", (1, 8, 1), "1 ahead of 2"),
+    (b"drive\t0\t1\t1\n", (1, 8, 1), "the drives have ended"),
+    (b"\n", (1, 8, 1), "blank line"),
+];
+
 /// The parts of the text ahead of the cases.
 const GROUPS: &[(&[&[u8]], Cases<'static>)] = &[
     (&[], LINES),
@@ -170,6 +280,8 @@ const GROUPS: &[(&[&[u8]], Cases<'static>)] = &[
     (&[HEAD], DOOR_LINES),
     (&[HEAD, DOORS], DRIVE_LINES),
     (&[HEAD, DOORS, DRIVES], PAIR_LINES),
+    (&[HEAD, DOORS, DRIVES], KEEPER_LINES),
+    (&[HEAD, DOORS, DRIVES, KEEPER], NEXT_LINES),
 ];
 
 #[test]

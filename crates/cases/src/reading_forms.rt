@@ -10,12 +10,12 @@ use layers::refusal::Refusal;
 use round::table::Round;
 use round_sheet::sheet::Place;
 use rules::both::Both;
-use rules::load::Interval;
+use rules::side::SideState;
 use std::test::Fail;
 use tallies::late::LateDoors;
 
-/// A form of pairs and load together, and of late doors.
-type Form<'a, 'n> = ReadingForm<'a, 'n, (DoorSet, Interval), (u32, u32)>;
+/// A form of the side rules together, and of late doors.
+type Form<'a, 'n> = ReadingForm<'a, 'n, SideState, (u32, u32)>;
 
 /// Three doors that are open all day and due at 0, with a minute of work at each and no drives, where 2 comes ahead of 1. Each
 /// order has three late doors, by 1, 2 and 3 minutes.

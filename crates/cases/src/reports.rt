@@ -28,6 +28,18 @@ const CLOSES_REPORT: &str =
 const QUARTER_REPORT: &str =
     "finish\t2\t60\nfinish\t1\t130\nfinish\t4\t185\nfinish\t3\t220\nallowed\tno\tcloses\t4\ndriving\t115\nlate\t2\t95\n";
 
+/// Four doors, ten minutes from each other, of which one keeper has 1 and 2.
+const KEPT: &[u8] =
+    b"round\t4\t0\t0\ndoor\t1\t0\t100\t30\t5\t0\ndoor\t2\t0\t100\t30\t5\t0\ndoor\t3\t0\t100\t30\t5\t0\ndoor\t4\t0\t100\t30\t5\t0\ndrive\t0\t10\t10\t10\t10\ndrive\t1\t-\t10\t10\t10\ndrive\t2\t10\t-\t10\t10\ndrive\t3\t10\t10\t-\t10\ndrive\t4\t10\t10\t10\t-\nkeeper\t1\t7\nkeeper\t2\t7\n";
+
+/// Doors without a keeper may follow each other, and the yard.
+const TWICE_REPORT: &str =
+    "finish\t3\t15\nfinish\t4\t30\nfinish\t1\t45\nfinish\t2\t60\nallowed\tno\trule\t2\ndriving\t40\nlate\t2\t45\n";
+
+/// The keeper may let in again once another door was visited.
+const BETWEEN_REPORT: &str =
+    "finish\t2\t15\nfinish\t3\t30\nfinish\t1\t45\nfinish\t4\t60\nallowed\tyes\ndriving\t40\nlate\t2\t45\n";
+
 /// The words of a line, as a program is given them.
 fn words_of(heap: Global, line: &str) -> Result<Vec<String>, AllocError> {
     let mut words = Vec::new(heap);
@@ -56,6 +68,8 @@ fn a_report_is_shown_in_lines(rt: HostRuntime) -> Result<(), Fail> {
         (THREE, "1 3", "refused\torder"),
         (LOAD, "1 3 2", LOAD_REPORT),
         (QUARTER, "2 1 4 3", QUARTER_REPORT),
+        (KEPT, "3 4 1 2", TWICE_REPORT),
+        (KEPT, "2 3 1 4", BETWEEN_REPORT),
         (FAR, "16 15 14 13 12 11 10 9 8 7 6 5 4 3 2 1", FAR_REPORT),
     ] {
         let words = words_of(rt.alloc(), words)?;

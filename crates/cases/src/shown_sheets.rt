@@ -1,4 +1,4 @@
-//! Sheets as they are printed, worked out by other programs.
+//! Sheets as they are printed, worked out by hand or by other programs.
 use crate::rounds::{QUARTER, THREE, round_of, text_of};
 use layers::refusal::Refusal;
 use round_sheet::sheet::{EMPTY, RECORDS, Sheet};
@@ -13,6 +13,13 @@ const NONE: &[u8] =
 
 const NONE_SHEET: &str =
     "bound\tnone\nrefine\twhole\nmust\t1\t2\nmust\t1\t3\nmust\t2\t1\nmust\t2\t3\nmust\t3\t1\nmust\t3\t2\n";
+
+/// Three doors with a minute of work at each, of which one keeper has 2 and 3. Door 2 closes at 1, so that 2, 1, 3 alone is allowed.
+const KEPT: &[u8] =
+    b"round\t3\t0\t0\ndoor\t1\t0\t9999\t1\t1\t0\ndoor\t2\t0\t1\t1\t1\t0\ndoor\t3\t0\t9999\t2\t1\t0\ndrive\t0\t0\t0\t0\ndrive\t1\t-\t0\t0\ndrive\t2\t0\t-\t0\ndrive\t3\t0\t0\t-\nkeeper\t2\t5\nkeeper\t3\t5\n";
+
+/// Without the keeper the bound is 1 and 2, and the first must is missing.
+const KEPT_SHEET: &str = "bound\t2\t2\nrefine\twhole\nmust\t1\t3\nmust\t2\t1\nmust\t2\t3\n";
 
 /// Five doors, where pairs, load and hours each decide: without any one of them the sheet is another.
 const DECIDED: &[u8] =
@@ -31,6 +38,20 @@ const LIFTED: &[u8] =
 
 const LIFTED_SHEET: &str =
     "bound\t1\t20\nrefine\twhole\nmust\t1\t3\nmust\t2\t1\nmust\t2\t3\nmust\t2\t5\nmust\t4\t1\nmust\t4\t2\nmust\t4\t3\nmust\t4\t5\nmust\t5\t3\n";
+
+/// The round of rounds/keepers.txt. Without its keepers the bound is 0 and 0, and the first must is missing.
+const TWO_KEEPERS: &[u8] =
+    b"round\t5\t0\t0\ndoor\t1\t30\t210\t105\t25\t0\ndoor\t2\t90\t270\t195\t30\t0\ndoor\t3\t0\t120\t105\t30\t0\ndoor\t4\t90\t270\t180\t15\t0\ndoor\t5\t30\t120\t120\t15\t0\ndrive\t0\t20\t20\t25\t15\t10\ndrive\t1\t-\t5\t20\t5\t5\ndrive\t2\t5\t-\t25\t10\t10\ndrive\t3\t20\t25\t-\t20\t25\ndrive\t4\t5\t10\t20\t-\t5\ndrive\t5\t5\t10\t25\t5\t-\nfirst\t1\t4\nkeeper\t1\t7\nkeeper\t2\t7\nkeeper\t4\t12\nkeeper\t5\t12\n";
+
+const TWO_KEEPERS_SHEET: &str =
+    "bound\t1\t5\nrefine\twhole\nmust\t1\t2\nmust\t1\t4\nmust\t3\t1\nmust\t3\t2\nmust\t3\t4\nmust\t5\t2\nmust\t5\t4\n";
+
+/// Five doors, where pairs, load, hours, the grid of 15 and the keepers each decide: without any one of them the sheet is another.
+const SPACED: &[u8] =
+    b"round\t5\t2\t4\t15\ndoor\t1\t71\t182\t160\t21\t1\ndoor\t2\t54\t150\t118\t14\t1\ndoor\t3\t10\t138\t43\t18\t-2\ndoor\t4\t33\t120\t79\t11\t2\ndoor\t5\t52\t167\t79\t11\t-2\ndrive\t0\t13\t24\t18\t11\t8\ndrive\t1\t-\t17\t5\t22\t8\ndrive\t2\t25\t-\t11\t13\t9\ndrive\t3\t13\t10\t-\t9\t10\ndrive\t4\t14\t16\t19\t-\t4\ndrive\t5\t4\t19\t11\t3\t-\nfirst\t5\t1\nfirst\t4\t5\nkeeper\t2\t12\nkeeper\t4\t7\nkeeper\t5\t12\n";
+
+const SPACED_SHEET: &str =
+    "bound\t2\t111\nrefine\twhole\nmust\t3\t2\nmust\t4\t1\nmust\t4\t5\nmust\t5\t1\n";
 
 /// Sixteen doors, of which layer 9 gets full.
 const FULL: &[u8] =
@@ -59,9 +80,12 @@ fn a_sheet_is_shown_in_lines(rt: HostRuntime) -> Result<(), Fail> {
     for (text, sheet) in [
         (THREE, THREE_SHEET),
         (NONE, NONE_SHEET),
+        (KEPT, KEPT_SHEET),
+        (TWO_KEEPERS, TWO_KEEPERS_SHEET),
         (DECIDED, DECIDED_SHEET),
         (QUARTER, QUARTER_SHEET),
         (LIFTED, LIFTED_SHEET),
+        (SPACED, SPACED_SHEET),
         (FULL, FULL_SHEET),
         (FREE, FREE_SHEET),
     ] {

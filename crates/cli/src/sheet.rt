@@ -1,4 +1,4 @@
-//! The program `sheet`: what a round's diagram of pairs, load and late doors says once it is refined.
+//! The program `sheet`: what a round's diagram of its side rules and late doors says once it is refined.
 use crate::input::read_round;
 use crate::output::{answered, refused};
 use round_sheet::sheet::{Place, Sheet};

@@ -20,7 +20,7 @@ use std::io;
 use std::process::ExitCode;
 use tallies::late::LateDoors;
 
-/// The reading form of the diagram of pairs, load and late doors that is opened and refined on the list, and closed for good.
+/// The reading form of the diagram of side rules and late doors that is opened and refined on the list, and closed for good.
 fn refined<'a, 'n>(room: Room<'a>, records: &'n mut [Place]) -> Form<'a, 'n>
     requires fits { room.round.now.n * room.width + 1 ≤ length records.old }
     requires width { room.width ≡ 16 }

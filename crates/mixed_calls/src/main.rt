@@ -14,12 +14,12 @@ use layers::refined::Refined;
 use round::table::Round;
 use round_sheet::sheet::{EMPTY, Place, RECORDS};
 use rules::both::Both;
-use rules::load::Interval;
+use rules::side::SideState;
 use tallies::late::LateDoors;
 use text::reading::read_bounded;
 
-/// A diagram under pairs, load and late doors.
-type Work<'a, 'n> = Diagram<'a, 'n, (u32, Interval), (u32, u32)>;
+/// A diagram under pairs, load, keepers and late doors.
+type Work<'a, 'n> = Diagram<'a, 'n, SideState, (u32, u32)>;
 
 /// A call, and whether it is lent the rule and tally of the second round.
 #[derive(Clone, Copy)]
@@ -98,7 +98,7 @@ fn add_record(sum: u64, place: &Place) -> u64 {
         sum = add_all(sum, &[u32::from(t)]);
     }
     let down = place.label.down;
-    let (set, load) = down.state;
+    let ((set, load), previous) = down.state;
     let (doors, minutes) = down.value;
     let up = place.label.up;
     add_all(
@@ -111,6 +111,7 @@ fn add_record(sum: u64, place: &Place) -> u64 {
             set,
             load.low.cast_unsigned(),
             load.high.cast_unsigned(),
+            previous,
             doors,
             minutes,
             up.allup,

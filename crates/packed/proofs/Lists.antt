@@ -2,7 +2,7 @@
 use Rattle.std.proofs.Common.{◌≡◌, ℕ, zero, suc, ◌+◌, ◌-◌, ◌*◌, ◌/◌, ◌%◌, ◌<◌, ◌&&◌, false, List, [], ◌∷◌, ◌++◌, length, Option, Some, IsSome, is_some, unwrap_or, refl, ap, add-one, arith}
 use Rattle.std.proofs.lemmas.Bool.Decides.{nat_tests}
 use Rattle.std.proofs.lemmas.Grind.{common_steps}
-use Rattle.rules.specs.declared.load.Interval.{Interval}
+use Rattle.rules.specs.Sides.{SideState}
 use Rattle.layers.specs.Settings.{Setting}
 use Rattle.layers.specs.Calls.{answer_of, after_call, after_calls}
 use Rattle.packed.specs.Answers.{word_of, answers}
@@ -52,7 +52,7 @@ length-first bs (suc k) h = go (first_requests bs k) (request_at bs (k * 16)) (l
 pub length-requests : (bs : List ℕ) → IsSome (requests_of bs) → (length bs % 16 ≡ 0) × (length (requests_in bs) ≡ length bs / 16)
 length-requests bs h = grind (arith, nat_tests, length-first bs (length bs / 16))
 
-module _ (by : Setting (ℕ × Interval) (ℕ × ℕ)) where
+module _ (by : Setting SideState (ℕ × ℕ)) where
   pub run-more : (cs : List Request) (c : Request) (xs : Recs) → after_calls by (cs ++ c ∷ []) xs ≡ after_call by c (after_calls by cs xs)
   run-more [] c xs = refl
   run-more (b ∷ cs) c xs = run-more cs c (after_call by b xs)

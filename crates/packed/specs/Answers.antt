@@ -1,6 +1,6 @@
 -- The answers of calls as words.
 use Rattle.std.specs.Prelude.{ℕ, List, [], ◌∷◌, Ok, Err}
-use Rattle.rules.specs.declared.load.Interval.{Interval}
+use Rattle.rules.specs.Sides.{SideState}
 use Rattle.layers.specs.declared.call.Answer.{Answer}
 use Rattle.layers.specs.declared.call.Answer.TheVariants.{Removed, Done, Refined as RefineDone}
 use Rattle.layers.specs.declared.refined.Refined.{Refined}
@@ -29,7 +29,7 @@ word_of (Done done) = word_of_refusal done
 word_of (RefineDone refined) = word_of_refined refined
 
 -- the words of the answers of calls in turn, each on what the earlier ones leave
-unfoldable pub answers : Setting (ℕ × Interval) (ℕ × ℕ) → List Request → Recs → List ℕ
+unfoldable pub answers : Setting SideState (ℕ × ℕ) → List Request → Recs → List ℕ
 unfolding answer_of after_call
 answers by [] xs = []
 answers by (c ∷ cs) xs = word_of (answer_of by c xs) ∷ answers by cs (after_call by c xs)

@@ -3,13 +3,14 @@ ghost use Rattle.std.specs.Prelude.{◌≡◌, ◌≤◌, length};
 ghost use Rattle.packed.specs.Sheets.{first_words, head_words};
 ghost use Rattle.allowed.specs.Senses.{side_of};
 ghost use Rattle.diagram.specs.Words.{room_of, records_of};
-ghost use Rattle.packed.specs.Senses.{side_sense};
+ghost use Rattle.rules.specs.Sides.{side_sense};
 ghost use Rattle.packed.specs.Words.{count_word, begun_with};
 
 use crate::words::{count_word, put_words};
-use crate::work::{Cost, Held, Side};
+use crate::work::Cost;
 use diagram::diagram::Diagram;
 use diagram::room::Room;
+use rules::side::{SideRule, SideState};
 
 /// The bytes ahead of the musts.
 const MUSTS: usize = 24;
@@ -17,8 +18,8 @@ const MUSTS: usize = 24;
 /// The words ahead of the musts, of a diagram on which so many calls were made.
 fn first_words(
     room: Room<'_>,
-    diagram: &Diagram<'_, '_, Held, Cost>,
-    rule: &Side<'_>,
+    diagram: &Diagram<'_, '_, SideState, Cost>,
+    rule: &SideRule<'_>,
     calls: usize,
 ) -> [u32; 6]
     requires room { room_of diagram.now ≡ room }
@@ -39,8 +40,8 @@ fn first_words(
 /// Writes what the diagram is asked after so many calls.
 pub(crate) fn put_head(
     room: Room<'_>,
-    diagram: &Diagram<'_, '_, Held, Cost>,
-    rule: &Side<'_>,
+    diagram: &Diagram<'_, '_, SideState, Cost>,
+    rule: &SideRule<'_>,
     calls: usize,
     out: &mut [u8],
 )

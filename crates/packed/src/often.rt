@@ -7,22 +7,29 @@ ghost use Rattle.layers.specs.Calls.{after_open, after_refine, refine_answer};
 ghost use Rattle.layers.specs.Settings.{setting};
 ghost use Rattle.packed.specs.Answers.{word_of_refined};
 ghost use Rattle.packed.specs.Often.{turns, often_of, answer_word, last_answer, refined_diagram, asked_often};
-ghost use Rattle.packed.specs.Senses.{side_sense, doors_sense};
+ghost use Rattle.packed.specs.Senses.{doors_sense};
+ghost use Rattle.rules.specs.Sides.{side_sense};
 ghost use Rattle.packed.specs.Sheets.{OnRead};
 
 use crate::refusal::Refusal;
 use crate::sheet::RECORDS;
-use crate::work::{Cost, Held, Place, Side, layer_of, side};
+use crate::work::{Cost, Place, layer_of, side};
 use diagram::diagram::Diagram;
 use diagram::room::Room;
 use doors::DoorSet;
 use labels::blank::blank_node;
 use round::table::Round;
+use rules::side::{SideRule, SideState};
 use tallies::late::LateDoors;
 use text::reading::read_bounded;
 
 /// Opens a diagram and refines it, and gives refine's answer as a word.
-fn refine_once(room: Room<'_>, rule: &Side<'_>, tally: &LateDoors<'_>, records: &mut [Place]) -> u32
+fn refine_once(
+    room: Room<'_>,
+    rule: &SideRule<'_>,
+    tally: &LateDoors<'_>,
+    records: &mut [Place],
+) -> u32
     requires { room.round.now.n * room.width + 1 ≤ length records.old }
     ensures answer { let by = setting room.entry.round.now (side_sense rule.now)
         (doors_sense tally.now) room.entry.width in
@@ -93,7 +100,7 @@ fn doors_in(sets: &[DoorSet]) -> u32
 }
 
 /// Asks the diagram, and gives its answer as a word.
-fn ask(diagram: &Diagram<'_, '_, Held, Cost>, rule: &Side<'_>, question: Question) -> u32
+fn ask(diagram: &Diagram<'_, '_, SideState, Cost>, rule: &SideRule<'_>, question: Question) -> u32
     requires { side_sense rule.now ≡ side_of (round_of diagram.now) }
     ensures { let r = round_of diagram.now in
         result ≡ answer_word question r (width_of diagram.now) (records_of diagram.now) }

@@ -1,4 +1,4 @@
-//! The diagram of a round's pairs, load and late doors, put to work by packed calls.
+//! The diagram of a round's side rules and late doors, put to work by packed calls.
 ghost use Rattle.std.specs.Prelude.{◌≡◌, ◌*◌, ◌/◌, ◌≤◌, IsSome, length};
 ghost use Rattle.layers.specs.Calls.{after_call, answer_of, after_calls};
 ghost use Rattle.refine.specs.Answers.{IsInnerIfFull};
@@ -6,33 +6,28 @@ ghost use Rattle.allowed.specs.Senses.{side_of};
 ghost use Rattle.diagram.specs.Words.{room_of, records_of};
 ghost use Rattle.packed.specs.Answers.{word_of_refusal, word_of_refined, word_of, answers};
 ghost use Rattle.packed.specs.Requests.{requests_of, requests_in};
-ghost use Rattle.packed.specs.Senses.{side_sense, setting_by};
+ghost use Rattle.packed.specs.Senses.{setting_by};
+ghost use Rattle.rules.specs.Sides.{side_sense};
 ghost use Rattle.packed.specs.Words.{begun_with};
 
 use crate::call::{CALL, call_at};
 use crate::words::{count_word, put_word};
 use diagram::diagram::Diagram;
-use doors::DoorSet;
 use layers::call::{Answer, Call};
 use layers::node::Node;
 use layers::refined::Refined;
 use layers::refusal::Refusal;
 use round::table::Round;
 use rules::both::Both;
-use rules::load::{Interval, Load};
-use rules::pairs::Pairs;
+use rules::side::{SideRule, SideState};
 use tallies::late::LateDoors;
-
-pub(crate) type Held = (DoorSet, Interval);
 
 pub(crate) type Cost = (u32, u32);
 
-pub(crate) type Side<'a> = Both<Pairs<'a>, Load<'a>>;
+pub(crate) type Place = Node<SideState, Cost>;
 
-pub(crate) type Place = Node<Held, Cost>;
-
-/// The rule of pairs and load together.
-pub(crate) fn side<'a>(round: &'a Round) -> Side<'a>
+/// The side rules of a round.
+pub(crate) fn side<'a>(round: &'a Round) -> SideRule<'a>
     ensures { side_sense result ≡ side_of round.now }
 {
     Both::of(round)
@@ -61,8 +56,8 @@ pub(crate) fn layer_of(refined: Refined) -> u32
 
 /// Makes one call, and gives its answer as a word.
 fn make(
-    diagram: &mut Diagram<'_, '_, Held, Cost>,
-    rule: &Side<'_>,
+    diagram: &mut Diagram<'_, '_, SideState, Cost>,
+    rule: &SideRule<'_>,
     tally: &LateDoors<'_>,
     call: Call<Cost>,
 ) -> u32
@@ -81,8 +76,8 @@ fn make(
 
 /// Makes the calls in turn, and writes their answers.
 pub(crate) fn make_all(
-    diagram: &mut Diagram<'_, '_, Held, Cost>,
-    rule: &Side<'_>,
+    diagram: &mut Diagram<'_, '_, SideState, Cost>,
+    rule: &SideRule<'_>,
     tally: &LateDoors<'_>,
     calls: &[u8],
     out: &mut [u8],

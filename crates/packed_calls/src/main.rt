@@ -48,6 +48,9 @@ const MANY: [Call; 24] = [
 /// No call has this kind.
 const UNKNOWN: Call = [7, 0, 0, 0];
 
+/// The text has a keeper for this door already.
+const SECOND_KEEPER: &[u8] = b"keeper\t5\t7\n";
+
 /// A byte that no case writes.
 const FILL: u8 = 0xee;
 
@@ -136,29 +139,16 @@ fn print_sheets(rt: &HostRuntime, text: &[u8]) -> anyhow::Result<()> {
     Ok(())
 }
 
-/// Every refusal, and which of two comes first.
-fn print_refusals(rt: &HostRuntime, text: &[u8]) -> anyhow::Result<()> {
-    let long = long_text(rt.alloc(), text)?;
-    let one = bytes_of(rt.alloc(), &[REFINE])?;
-    let unknown = bytes_of(rt.alloc(), &[REFINE, UNKNOWN])?;
-    let (one, unknown) = (one.as_slice(), unknown.as_slice());
+/// Texts that are refused.
+fn print_bad_texts(rt: &HostRuntime, fits: Case<'_>) -> anyhow::Result<()> {
+    let text = fits.text;
     let unended = match text.split_last() {
         Some((_, front)) => front,
         None => text,
     };
-    let half = match one.split_first_chunk::<8>() {
-        Some((front, _)) => front.as_slice(),
-        None => one,
-    };
-    let fits = Case {
-        name: "fits",
-        text,
-        width: 4,
-        calls: one,
-        room: 92,
-    };
+    let long = long_text(rt.alloc(), text)?;
+    let second = [text, SECOND_KEEPER].concat(rt.alloc())?;
     let cases = [
-        fits,
         Case {
             name: "no text",
             text: b"",
@@ -174,6 +164,25 @@ fn print_refusals(rt: &HostRuntime, text: &[u8]) -> anyhow::Result<()> {
             text: long.as_slice(),
             ..fits
         },
+        Case {
+            name: "second keeper",
+            text: second.as_slice(),
+            ..fits
+        },
+    ];
+    for case in cases {
+        print_sheet(rt, case)?;
+    }
+    Ok(())
+}
+
+/// Widths, calls and room that are refused.
+fn print_bad_asks(rt: &HostRuntime, fits: Case<'_>, unknown: &[u8]) -> anyhow::Result<()> {
+    let half = match fits.calls.split_first_chunk::<8>() {
+        Some((front, _)) => front.as_slice(),
+        None => fits.calls,
+    };
+    let cases = [
         Case {
             name: "width 0",
             width: 0,
@@ -199,6 +208,16 @@ fn print_refusals(rt: &HostRuntime, text: &[u8]) -> anyhow::Result<()> {
             room: 91,
             ..fits
         },
+    ];
+    for case in cases {
+        print_sheet(rt, case)?;
+    }
+    Ok(())
+}
+
+/// Which of two refusals comes first.
+fn print_first_of_two(rt: &HostRuntime, fits: Case<'_>, unknown: &[u8]) -> anyhow::Result<()> {
+    let cases = [
         Case {
             name: "no text, width 0",
             text: b"",
@@ -222,6 +241,23 @@ fn print_refusals(rt: &HostRuntime, text: &[u8]) -> anyhow::Result<()> {
         print_sheet(rt, case)?;
     }
     Ok(())
+}
+
+/// A sheet that fits, and every refusal.
+fn print_refusals(rt: &HostRuntime, text: &[u8]) -> anyhow::Result<()> {
+    let one = bytes_of(rt.alloc(), &[REFINE])?;
+    let unknown = bytes_of(rt.alloc(), &[REFINE, UNKNOWN])?;
+    let fits = Case {
+        name: "fits",
+        text,
+        width: 4,
+        calls: one.as_slice(),
+        room: 92,
+    };
+    print_sheet(rt, fits)?;
+    print_bad_texts(rt, fits)?;
+    print_bad_asks(rt, fits, unknown.as_slice())?;
+    print_first_of_two(rt, fits, unknown.as_slice())
 }
 
 /// The last answer of so many refines; of asking so many times whether the diagram is settled, once it is refined; and for its musts.

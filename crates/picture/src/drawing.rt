@@ -5,13 +5,12 @@ ghost use Rattle.diagram.specs.Reading.{records_in, round_in, width_in};
 
 use crate::groups::{LayerArcs, LayerGroup};
 use diagram::reading::ReadingForm;
-use doors::DoorSet;
 use round_sheet::sheet::Place;
-use rules::load::Interval;
+use rules::side::SideState;
 use std::fmt;
 
-/// The reading form of a diagram whose rule is pairs and load together, and whose tally is late doors.
-pub type Form<'a, 'n> = ReadingForm<'a, 'n, (DoorSet, Interval), (u32, u32)>;
+/// The reading form of a diagram whose rule is pairs, load and keepers together, and whose tally is late doors.
+pub type Form<'a, 'n> = ReadingForm<'a, 'n, SideState, (u32, u32)>;
 
 /// The records of the nodes of layer i.
 fn nodes_of<'n>(form: &Form<'_, 'n>, i: usize) -> &'n [Place]

@@ -22,16 +22,16 @@ impl fmt::Display for NodeRow<'_> {
         let down = self.node.label.down;
         let (all, some) = (SetWords(down.all), SetWords(down.some));
         let (finish, lasts) = (down.finish, SetWords(down.lasts));
-        let (visited, load) = down.state;
-        let visited = SetWords(visited);
+        let ((visited, load), previous) = down.state;
+        let (visited, previous) = (SetWords(visited), SetWords(previous));
         let (low, high) = (load.low, load.high);
         let (doors, minutes) = down.value;
         let up = self.node.label.up;
         let (allup, someup) = (SetWords(up.allup), SetWords(up.someup));
         let late = up.late;
         write!(f, "{number}\t{arcs}\t{all}\t{some}\t{finish}\t")?;
-        write!(f, "{lasts}\t{visited}\t{low}\t{high}\t{doors}\t")?;
-        writeln!(f, "{minutes}\t{allup}\t{someup}\t{late}")
+        write!(f, "{lasts}\t{visited}\t{low}\t{high}\t{previous}\t")?;
+        writeln!(f, "{doors}\t{minutes}\t{allup}\t{someup}\t{late}")
     }
 }
 
@@ -52,7 +52,7 @@ impl fmt::Display for LayerTable<'_> {
             f,
             "node\tarcs\tall\tsome\tfinish\tlasts\tvisited\tlow\thigh\t"
         )?;
-        writeln!(f, "doors\tminutes\tallup\tsomeup\tlate")?;
+        writeln!(f, "previous\tdoors\tminutes\tallup\tsomeup\tlate")?;
         for (k, node) in self.0.iter().enumerate() {
             let row = NodeRow {
                 number: k + 1,

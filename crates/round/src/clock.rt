@@ -21,6 +21,7 @@ impl Round {
         ensures doors { result.doors ≡ slice_set (replicate 17 blank) 1 new_door }
         ensures drives { result.drives ≡ replicate 17 (replicate 17 0) }
         ensures ahead { result.ahead ≡ replicate 17 0 }
+        ensures keepers { result.keepers ≡ replicate 17 0 }
     {
         let mut doors = [BLANK; 17];
         doors[1] = Door {
@@ -38,6 +39,7 @@ impl Round {
             doors,
             drives: [[0; 17]; 17],
             ahead: [0; 17],
+            keepers: [0; 17],
         }
     }
 

@@ -1,4 +1,4 @@
-//! The round of a day: its doors, drive minutes, load and pairs, and the clock.
+//! The round of a day: its doors, drive minutes, load, pairs and keepers, and the clock.
 #![tactic(auto)]
 
 pub mod clock;

@@ -25,10 +25,10 @@ abbrev pub Claimed : Round → Records → Type 0
 Claimed r xs = ClaimHolds (setting_for r) (KeepsRules r) (Refine ∷ []) xs
 
 allowed-order : (r : Round) (w : List ℕ) → IsAllowed r (KeepsRules r) w → IsAllowedOrder r w
-allowed-order r w a = record { full = record { part = a.part; whole = a.whole }; ordered = a.keeps.0; within = a.keeps.1; timely = a.timely }
+allowed-order r w a = record { full = record { part = a.part; whole = a.whole }; ordered = a.keeps.0.0; within = a.keeps.0.1; spaced = a.keeps.1; timely = a.timely }
 
 order-wanted : (r : Round) (w : List ℕ) → IsAllowedOrder r w → Wanted (setting_for r) (KeepsRules r) (Refine ∷ []) w
-order-wanted r w a = (record { part = a.full.part; whole = a.full.whole; keeps = (a.ordered, a.within); timely = a.timely }, tt)
+order-wanted r w a = (record { part = a.full.part; whole = a.full.whole; keeps = ((a.ordered, a.within), a.spaced); timely = a.timely }, tt)
 
 -- the answer of two different doors
 asked : (n : ℕ) (xs : Records) (i j : ℕ) → IsDoor n i → IsDoor n j → i ≢ j → must_of n 16 xs i j ≡ must n 16 i j xs

@@ -3,12 +3,14 @@ use Rattle.std.proofs.Common.{◌≡◌, ℕ, zero, suc, List, [], ◌∷◌, le
 use Rattle.round.specs.declared.table.Round.{Round}
 use Rattle.doors.specs.Orders.{StandsIn}
 use Rattle.doors.specs.Sets.{Has}
-use Rattle.rules.specs.declared.load.Interval.{Interval}
 use Rattle.rules.specs.Loads.{LiesBetween}
 use Rattle.rules.specs.BothLaws.{both_lawful}
+use Rattle.rules.specs.Keepers.{last_door}
+use Rattle.rules.specs.KeepersLaws.{keepers_lawful}
 use Rattle.rules.specs.LoadLaws.{load_lawful}
 use Rattle.rules.specs.PairsLaws.{pairs_lawful}
 use Rattle.rules.specs.Rules.{RuleLaws}
+use Rattle.rules.specs.Sides.{SideState}
 use Rattle.allowed.specs.Orders.{KeepsRules}
 use Rattle.allowed.specs.Senses.{side_of, late_of}
 use Rattle.layers.specs.declared.node.Node.{Node}
@@ -26,15 +28,15 @@ deep n W zero xs = refl
 deep n W (suc zero) xs = refl
 deep n W (suc (suc k)) xs = ap suc (deep n W (suc k) (drop W xs))
 
--- which orders a state of pairs and load stands for
-abbrev Stands : Round → ℕ × Interval → List ℕ → Type 0
-Stands r s w = ((i : ℕ) → StandsIn i w → Has s.0 i) × LiesBetween r.load r.doors s.1 w
+-- which orders a state of pairs, load and keepers stands for
+abbrev Stands : Round → SideState → List ℕ → Type 0
+Stands r s w = (((i : ℕ) → StandsIn i w → Has s.0.0 i) × LiesBetween r.load r.doors s.0.1 w) × Has s.1 (last_door w)
 
 -- the labels that stand in a diagram of the round are those worked out from its arcs
 worked : (r : Round) → LabelsStand (λ n. r.n ≡ n) (side_of r) (late_of r)
 worked r =
     worked-out {Keeps = KeepsRules r} {Stands = Stands r} (λ n. r.n ≡ n) (side_of r) (late_of r)
-    (λ n e. subst (λ (k : ℕ). RuleLaws k (side_of r) (KeepsRules r) (Stands r)) e (both_lawful (pairs_lawful r.n r.ahead) (load_lawful r)))
+    (λ n e. subst (λ (k : ℕ). RuleLaws k (side_of r) (KeepsRules r) (Stands r)) e (both_lawful (both_lawful (pairs_lawful r.n r.ahead) (load_lawful r)) (keepers_lawful r)))
 
 pub later_kept : (r : Round) (lent : Records) → drop (places_of r) (refined_for r lent).1 ≡ drop (places_of r) lent
 unfolding after_call records_with

@@ -2,7 +2,7 @@
 use Rattle.std.specs.Prelude.{ℕ, ◌+◌, ◌*◌, List}
 use Rattle.allowed.specs.Senses.{side_of, late_of}
 use Rattle.round.specs.declared.table.Round.{Round}
-use Rattle.rules.specs.declared.load.Interval.{Interval}
+use Rattle.rules.specs.Sides.{SideState}
 use Rattle.layers.specs.declared.node.Node.{Node}
 use Rattle.layers.specs.declared.refined.Refined.{Refined}
 use Rattle.layers.specs.Settings.{Setting, setting}
@@ -10,17 +10,16 @@ use Rattle.layers.specs.Calls.{after_open, refinement, bound, is_settled}
 use Rattle.diagram.specs.Musts.{musts}
 use Rattle.round_sheet.specs.declared.sheet.Sheet.{Sheet}
 
--- the records of the diagram: a state of its rule is a set of doors and an interval of loads, a value of its tally late doors and
--- late minutes
+-- the records of the diagram: a state is that of pairs, load and keepers together, a value is late doors and late minutes
 abbrev pub Records : Type 0
-Records = List (Node (ℕ × Interval) (ℕ × ℕ))
+Records = List (Node SideState (ℕ × ℕ))
 
 -- how many records the diagram of a round takes
 abbrev pub places_of : Round → ℕ
 places_of r = r.n * 16 + 1
 
--- what its calls go by: pairs and load together, late doors, and width 16
-abbrev pub setting_for : Round → Setting (ℕ × Interval) (ℕ × ℕ)
+-- what its calls go by: pairs, load and keepers together, late doors, and width 16
+abbrev pub setting_for : Round → Setting SideState (ℕ × ℕ)
 setting_for r = setting r (side_of r) (late_of r) 16
 
 -- the round's diagram as it is opened on a lent list

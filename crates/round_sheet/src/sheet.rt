@@ -15,6 +15,7 @@ use layers::refusal::Refusal;
 use round::table::Round;
 use rules::both::Both;
 use rules::load::Interval;
+use rules::side::SideState;
 use tallies::late::LateDoors;
 
 /// The width of the sheet's diagram.
@@ -23,8 +24,8 @@ pub const WIDTH: usize = 16;
 /// As many records as the diagram of 16 doors takes.
 pub const RECORDS: usize = 257;
 
-/// A record of the sheet's diagram, whose rule is pairs and load together, and whose tally is late doors.
-pub type Place = Node<(DoorSet, Interval), (u32, u32)>;
+/// A record of the sheet's diagram, whose rule is pairs, load and keepers together, and whose tally is late doors.
+pub type Place = Node<SideState, (u32, u32)>;
 
 /// A record with nothing in it, for a list that is to be lent.
 pub const EMPTY: Place = Node {
@@ -35,7 +36,7 @@ pub const EMPTY: Place = Node {
             some: 0,
             finish: 0,
             lasts: 0,
-            state: (0, Interval { low: 0, high: 0 }),
+            state: ((0, Interval { low: 0, high: 0 }), 0),
             value: (0, 0),
         },
         up: Up {
@@ -46,7 +47,7 @@ pub const EMPTY: Place = Node {
     },
 };
 
-/// What a round's diagram of pairs, load and late doors says once it is refined.
+/// What a round's diagram of its side rules and late doors says once it is refined.
 #[derive(Clone, Copy, Debug, PartialEq)]
 pub struct Sheet {
     /// Late doors and late minutes that no allowed order undercuts; none only if no order is allowed.

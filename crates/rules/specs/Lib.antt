@@ -1,7 +1,10 @@
 pub mod Boths
+pub mod Keepers
 pub mod Loads
 pub mod Pairs
 pub mod Rules
+pub mod Sides
 pub mod BothLaws
+pub mod KeepersLaws
 pub mod LoadLaws
 pub mod PairsLaws

@@ -1,33 +1,15 @@
 //! Two rules together are a rule again.
-ghost use Rattle.std.specs.Prelude.{◌≡◌};
 ghost use Rattle.rules.specs.Boths.{both_sense};
 ghost use Rattle.rules.specs.BothLaws.{both_lawful};
 ghost use Rattle.std.proofs.lemmas.Bool.{and_from};
 
-use crate::load::Load;
-use crate::pairs::Pairs;
 use crate::rule::Rule;
-use round::table::Round;
 
 /// Two rules together: kept if both are.
 #[derive(Clone, Copy, Debug, PartialEq, Eq)]
 pub struct Both<A, B> {
     pub first: A,
     pub second: B,
-}
-
-/// The side rules of a round.
-impl<'a> Both<Pairs<'a>, Load<'a>> {
-    /// The pairs and the load of a round.
-    pub fn of(round: &'a Round) -> Both<Pairs<'a>, Load<'a>>
-        ensures first { result.first.round ≡ round.entry }
-        ensures second { result.second.round ≡ round.entry }
-    {
-        Both {
-            first: Pairs::of(round),
-            second: Load::of(round),
-        }
-    }
 }
 
 impl<A: Rule, B: Rule> Rule for Both<A, B> {

@@ -1,31 +1,33 @@
 -- A text of the form is accepted.
-use Rattle.std.proofs.Common.{◌≡◌, ℕ, suc, ◌+◌, ◌-◌, ◌<◌, ◌≤◌, Bool, true, false, nat_eq, nat_lt, List, [], ◌∷◌, ◌++◌, map, fold, length, slice_index_or, drop, slice_set, replicate, ℤ, pos, negsuc, ◌≤ℤ◌, Option, Some, None, Ok, Err, decimal, sym, refl, ap, ◌∙◌, arith, le-ltb, lt-ltb, eq-eqb}
+use Rattle.std.proofs.Common.{◌≡◌, ℕ, zero, suc, ◌+◌, ◌-◌, ◌<◌, ◌≤◌, Bool, true, false, nat_eq, nat_lt, List, [], ◌∷◌, ◌++◌, map, fold, length, slice_index_or, drop, slice_set, replicate, ℤ, pos, negsuc, ◌≤ℤ◌, Option, Some, None, Ok, Err, decimal, sym, refl, ap, ◌∙◌, arith, le-ltb, lt-ltb, eq-eqb}
 use borrow.Author.Differences.{ints}
 use Rattle.std.specs.Fmt.{signed_decimal}
-use Rattle.std.specs.List.{All, list_all, join_with_byte}
+use Rattle.std.specs.List.{All, AllPairs, list_all, join_with_byte}
 use Rattle.std.specs.Str.{all_ascii_digits}
 use Rattle.std.proofs.lemmas.Bool.{and_parts}
 use Rattle.std.proofs.lemmas.Bool.Decides.{nat_tests}
 use Rattle.std.proofs.lemmas.Fmt.{digits_decimal}
-use Rattle.std.proofs.lemmas.List.{drop-drop, get_or-drop}
+use Rattle.std.proofs.lemmas.List.{drop-drop, get_or-drop, get_or-replicate, get_or-set_other}
 use Rattle.std.proofs.lemmas.List.Elements.{All-append, All-cons, All-head, All-tail, All-weaker}
 use Rattle.std.proofs.lemmas.List.Splits.{slice_split_at, slice_split_none}
 use Rattle.std.proofs.lemmas.List.Sums.{AllPass-from_list_all}
 use Rattle.text.specs.declared.refusal.Refusal.{Refusal}
+use Rattle.text.specs.declared.kind.Kind.TheVariants.{Keeper}
 use Rattle.text.specs.declared.stage.Stage.{Stage}
-use Rattle.text.specs.declared.stage.Stage.TheVariants.{Head, Doors, Drives, Pairs}
+use Rattle.text.specs.declared.stage.Stage.TheVariants.{Head, Doors, Drives, Pairs, Keepers}
 use Rattle.text.specs.declared.draft.Draft.{Draft}
 use Rattle.round.specs.declared.door.Door as door
 use Rattle.text.specs.declared.line.Head as head
 use Rattle.text.specs.declared.line.Pair as pair
+use Rattle.text.specs.declared.line.Keeper as keeper
 use Rattle.text.specs.Pieces.{pieces, fields_in, lines_in}
 use Rattle.text.specs.Lines.{leg_in, row_from}
-use Rattle.text.specs.Steps.{line_step}
-use Rattle.text.specs.Reading.{read_lines, read_text}
-use Rattle.text.specs.Drafts.{unread, with_head, with_door, with_row, with_ahead, with_pair}
-use Rattle.text.specs.Form.{Content, Fits, map_from, head_fields, door_fields, leg_field, row_fields, pair_fields, records, written, AllFrom, DoorFits, GridFits, LegFits, RowFits, PairFits, fill, row_of, round_of, HasForm}
+use Rattle.text.specs.Steps.{line_step, kind_step}
+use Rattle.text.specs.Reading.{read_lines, read_text, at_end}
+use Rattle.text.specs.Drafts.{unread, with_head, with_door, with_row, with_ahead, with_pair, with_kept, with_keeper}
+use Rattle.text.specs.Form.{Content, Fits, map_from, head_fields, door_fields, leg_field, row_fields, pair_fields, keeper_fields, records, written, AllFrom, DoorFits, GridFits, LegFits, RowFits, PairFits, KeeperFits, DifferInDoor, fill, row_of, round_of, HasForm}
 use Rattle.text.proofs.Numbers.{own, number-back, change-back}
-use Rattle.text.proofs.Texts.{read_step, doors_from, drives_from, after}
+use Rattle.text.proofs.Texts.{read_step, doors_from, drives_from, after, HasNone}
 
 -- ---- what stands in a field is no separator
 
@@ -139,15 +141,36 @@ clean-legs : (i j : ℕ) (vs : List ℕ) → AllFrom (LegFits i) j vs → list_a
 clean-legs i j [] f = refl
 clean-legs i j (v ∷ vs) f = grind (arith, nat_tests, clear-decimal v, clean-legs i (j + 1) vs f.1)
 
--- the lines of pairs are accepted to the end
-gives-pairs : (qs : List pair.Pair) (line : ℕ) (d : Draft) → d.n ≤ 16 → All (PairFits d.n) qs → Gives (map pair_fields qs) line Pairs d (record d { ahead = fold with_ahead d.ahead qs })
-gives-pairs [] line d l f = refl
-gives-pairs (p ∷ qs) line d l f =
+-- the text may end here, and a line of a keeper is taken as after another
+abbrev TakesKeepers : Stage → Type 0
+TakesKeepers s = (d : Draft) (line : ℕ) → (at_end s d line ≡ Ok d) × ((fs : List (List ℕ)) → kind_step s Keeper d line fs ≡ kind_step Keepers Keeper d line fs)
+
+-- a door that has none has none once another door has one
+none-after : (table : List ℕ) (k j : keeper.Keeper) → DifferInDoor k j → HasNone table j → HasNone (with_kept table k) j
+none-after table k j n h = grind (arith, get_or-set_other table k.door j.door k.number 0)
+
+-- the lines of keepers are accepted to the end
+gives-keepers : (ks : List keeper.Keeper) (line : ℕ) (s : Stage) (d : Draft) → TakesKeepers s → d.n ≤ 16 → All (KeeperFits d.n) ks → AllPairs DifferInDoor ks → All (HasNone d.keepers) ks → Gives (map keeper_fields ks) line s d (record d { keepers = fold with_kept d.keepers ks })
+gives-keepers [] line s d t l f o h = (t d line).0
+gives-keepers (k ∷ ks) line s d t l f o h =
+    let fits = All-head (KeeperFits d.n) k ks f in
+    let none = All-head (HasNone d.keepers) k ks h in
+    let clean : Clean (keeper_fields k) = (omega arith, grind (arith, clear-decimal)) in
+    let step : line_step Keepers d line (keeper_fields k) ≡ Ok (Keepers, with_keeper d k) =
+    grind (arith, nat_tests, number-back 1 d.n k.door line 2, number-back 1 99 k.number line 3) in
+    line-gives (keeper_fields k) (map keeper_fields ks) line s Keepers d (with_keeper d k) _ clean ((t d line).1 (keeper_fields k) ∙ step)
+    (gives-keepers ks (line + 1) Keepers (with_keeper d k) (λ _ _. (refl, λ _. refl)) l (All-tail (KeeperFits d.n) k ks f) (λ i j x a b. o (suc i) (suc j) x (omega arith) (omega arith))
+    (λ i x m. none-after d.keepers k (slice_index_or ks i x) (o zero (suc i) x (omega arith) (omega arith)) (All-tail (HasNone d.keepers) k ks h i x m)))
+
+-- the lines of pairs, and the lines after them
+gives-pairs : (qs : List pair.Pair) (gss : List (List (List ℕ))) (line : ℕ) (d e : Draft) → d.n ≤ 16 → All (PairFits d.n) qs → ((m : ℕ) → Gives gss m Pairs (record d { ahead = fold with_ahead d.ahead qs }) e) → Gives (map pair_fields qs ++ gss) line Pairs d e
+gives-pairs [] gss line d e l f g = g line
+gives-pairs (p ∷ qs) gss line d e l f g =
     let fits = All-head (PairFits d.n) p qs f in
     let clean : Clean (pair_fields p) = (omega arith, grind (arith, clear-decimal)) in
     let step : line_step Pairs d line (pair_fields p) ≡ Ok (Pairs, with_pair d p) =
     grind (arith, nat_tests, number-back 1 d.n p.first line 2, number-back 1 d.n p.then line 3) in
-    line-gives (pair_fields p) (map pair_fields qs) line Pairs Pairs d (with_pair d p) _ clean step (gives-pairs qs (line + 1) (with_pair d p) l (All-tail (PairFits d.n) p qs f))
+    line-gives (pair_fields p) _ line Pairs Pairs d (with_pair d p) e clean step (gives-pairs qs gss (line + 1) (with_pair d p) e l (All-tail (PairFits d.n) p qs f) g)
 
 -- the drive lines from place k on, and the lines after them
 gives-rows : (rs : List (List ℕ)) (gss : List (List (List ℕ))) (k line : ℕ) (d e : Draft) → d.n ≤ 16 → length rs + k ≡ d.n + 1 → AllFrom (RowFits d.n) k rs → ((m : ℕ) → Gives gss m Pairs (record d { drives = fill k (map row_of rs) d.drives }) e) → Gives (map_from row_fields k rs ++ gss) line (drives_from d.n k) d e
@@ -172,14 +195,18 @@ gives-all c f =
     let h = c.head in
     let d = with_head unread h in
     let e = round_of c in
-    let ps = map pair_fields c.pairs in
+    let ks = map keeper_fields c.keepers in
+    let ps = map pair_fields c.pairs ++ ks in
     let u : Draft = record d { doors = fill 1 c.doors unread.doors } in
     let v : Draft = record u { drives = fill 0 (map row_of c.rows) unread.drives } in
+    let w : Draft = record v { ahead = fold with_ahead unread.ahead c.pairs } in
+    let none = All-weaker (KeeperFits h.n) (HasNone unread.keepers) (λ k t. get_or-replicate 17 k.door 0 0 (omega (arith, t.most, f.most))) c.keepers f.keepers in
     let taken = head-back h.n h.load h.cap h.grid f.one f.most f.load f.cap f.grid in
     line-gives (head_fields h) _ 1 Head (Doors 1) unread d _ taken.0 taken.1
     (rw (le-ltb h.n 1 f.one) at (gives-doors c.doors (map_from row_fields 0 c.rows ++ ps) 1 2 d e f.most (omega arith) (omega (arith, f.many)) f.doors
     (λ m. rw (le-ltb h.n 0 (omega arith)) at (gives-rows c.rows ps 0 m u e f.most (omega (arith, f.places)) f.rows
-    (λ n. gives-pairs c.pairs n v f.most f.pairs)))))
+    (λ n. gives-pairs c.pairs ks n v e f.most f.pairs
+    (λ o. gives-keepers c.keepers o Pairs w (λ _ _. (refl, λ _. refl)) f.most f.keepers f.once none))))))
 
 -- a text of the form is accepted, and gives the round of that form
 pub form-accepted : (text : List ℕ) (d : Draft) → HasForm text d → read_text text ≡ Ok d

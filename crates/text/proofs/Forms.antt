@@ -1,29 +1,32 @@
 -- An accepted text has the form of a round's text.
-use Rattle.std.proofs.Common.{◌≡◌, ◌≢◌, ℕ, zero, suc, ◌+◌, ◌-◌, ◌<◌, ◌≤◌, List, [], ◌∷◌, ◌++◌, map, fold, length, slice_index_or, drop, slice_set, replicate, Option, Some, None, Ok, Err, codes, Result, sym, refl, ap, ◌∙◌, subst, arith, le-ltb, lt-ltb}
+use Rattle.std.proofs.Common.{◌≡◌, ◌≢◌, ◌⊎◌, ℕ, zero, suc, ◌+◌, ◌-◌, ◌<◌, ◌≤◌, List, [], ◌∷◌, ◌++◌, map, fold, length, slice_index, slice_index_or, drop, slice_set, replicate, Option, Some, None, Ok, Err, codes, Result, sym, refl, ap, ◌∙◌, subst, ⊎_elim, arith, le-ltb, lt-ltb, length-set}
 use Rattle.std.specs.Bool.{if◌then◌else◌, ◌==◌}
-use Rattle.std.specs.List.{All, join_with_byte, range_with_len}
+use Rattle.std.specs.List.{All, AllPairs, join_with_byte, range_with_len}
 use Rattle.std.proofs.lemmas.Bool.Decides.{nat_tests}
-use Rattle.std.proofs.lemmas.List.{drop_more, drop_all, nil_from_length}
-use Rattle.std.proofs.lemmas.List.Elements.{All-nil, All-cons}
+use Rattle.std.proofs.lemmas.Grind.{get_or-set_at}
+use Rattle.std.proofs.lemmas.List.{drop_more, drop_all, get_or-set_other, nil_from_length}
+use Rattle.std.proofs.lemmas.List.Elements.{All-nil, All-cons, All-weaker}
 use Rattle.std.proofs.lemmas.List.FromFn.{fill_by_all}
+use Rattle.std.proofs.lemmas.List.Kept.{AllPairs-cons}
 use Rattle.std.proofs.lemmas.List.Splits.{join_with_byte-slice_split}
 use Rattle.std.proofs.lemmas.Slice.Eq.{bytes_eq-Decides}
 use Rattle.text.specs.declared.refusal.Refusal.{Refusal}
-use Rattle.text.specs.declared.kind.Kind.TheVariants.{Round, Door, Drive, First}
+use Rattle.text.specs.declared.kind.Kind.TheVariants.{Round, Door, Drive, First, Keeper}
 use Rattle.text.specs.declared.stage.Stage.{Stage}
-use Rattle.text.specs.declared.stage.Stage.TheVariants.{Head, Doors, Drives, Pairs}
+use Rattle.text.specs.declared.stage.Stage.TheVariants.{Head, Doors, Drives, Pairs, Keepers}
 use Rattle.text.specs.declared.draft.Draft.{Draft}
 use Rattle.round.specs.declared.door.Door as door
 use Rattle.text.specs.declared.line.Head as head
 use Rattle.text.specs.declared.line.Pair as pair
+use Rattle.text.specs.declared.line.Keeper as keeper
 use Rattle.text.specs.Fields.{number_in, change_in}
 use Rattle.text.specs.Pieces.{fields_in, lines_in}
 use Rattle.text.specs.Lines.{and_then, counted, number_at, grid_of, in_turn, leg_in, row_from}
 use Rattle.text.specs.Steps.{line_step, kind_step}
 use Rattle.text.specs.Reading.{read_lines, read_text, at_end}
-use Rattle.text.specs.Drafts.{unread, with_head, with_door, with_row, with_ahead, with_pair}
-use Rattle.text.specs.Form.{map_from, grid_fields, head_fields, door_fields, leg_field, row_fields, pair_fields, written, AllFrom, DoorFits, GridFits, LegFits, RowFits, PairFits, fill, row_of, HasForm}
-use Rattle.text.proofs.Texts.{some-piece, doors_from, drives_from, after}
+use Rattle.text.specs.Drafts.{unread, with_head, with_door, with_row, with_ahead, with_pair, with_kept, with_keeper}
+use Rattle.text.specs.Form.{map_from, grid_fields, head_fields, door_fields, leg_field, row_fields, pair_fields, keeper_fields, written, AllFrom, DoorFits, GridFits, LegFits, RowFits, PairFits, KeeperFits, DifferInDoor, fill, row_of, HasForm}
+use Rattle.text.proofs.Texts.{some-piece, doors_from, drives_from, after, HasNone}
 use Rattle.text.proofs.Numbers.{Says, number-says, change-says}
 
 -- ---- results
@@ -39,18 +42,20 @@ then-number low high f line k K b l e =
     let a = then_ok (number_in low high f line k) K b e in
     (a.0, number-says low high f line k a.0 l a.1, a.2)
 
--- where a line is taken, its kind is the one that is due, which its word alone names
+-- where a line is taken, its kind is one that is due, which its word alone names; what is no pair is taken as after a keeper
 abbrev Taken : Stage → Draft → ℕ → List (List ℕ) → Stage × Draft → Type 0
 Taken Head d line fs t = (codes "round" ≡ slice_index_or fs 0 []) × (kind_step Head Round d line fs ≡ Ok t)
 Taken (Doors k) d line fs t = (codes "door" ≡ slice_index_or fs 0 []) × (kind_step (Doors k) Door d line fs ≡ Ok t)
 Taken (Drives k) d line fs t = (codes "drive" ≡ slice_index_or fs 0 []) × (kind_step (Drives k) Drive d line fs ≡ Ok t)
-Taken Pairs d line fs t = (codes "first" ≡ slice_index_or fs 0 []) × (kind_step Pairs First d line fs ≡ Ok t)
+Taken Pairs d line fs t = ((codes "first" ≡ slice_index_or fs 0 []) × (kind_step Pairs First d line fs ≡ Ok t)) ⊎ (line_step Keepers d line fs ≡ Ok t)
+Taken Keepers d line fs t = (codes "keeper" ≡ slice_index_or fs 0 []) × (kind_step Keepers Keeper d line fs ≡ Ok t)
 
 line-due : (s : Stage) (d : Draft) (line : ℕ) (fs : List (List ℕ)) (t : Stage × Draft) → line_step s d line fs ≡ Ok t → Taken s d line fs t
 line-due Head d line fs t e = grind (arith, bytes_eq-Decides (slice_index_or fs 0 []))
 line-due (Doors k) d line fs t e = grind (arith, bytes_eq-Decides (slice_index_or fs 0 []))
 line-due (Drives k) d line fs t e = grind (arith, bytes_eq-Decides (slice_index_or fs 0 []))
 line-due Pairs d line fs t e = grind (arith, bytes_eq-Decides (slice_index_or fs 0 []))
+line-due Keepers d line fs t e = grind (arith, bytes_eq-Decides (slice_index_or fs 0 []))
 
 -- a line that has so many fields, where what they say went on
 counted-ok : {A B : Type 0} (n line : ℕ) (fs : List (List ℕ)) (r : Result A Refusal) (k : A → Result B Refusal) (b : B) → and_then (counted n line fs r) k ≡ Ok b → (length fs ≡ n) × (a : A) × (r ≡ Ok a) × (k a ≡ Ok b)
@@ -68,15 +73,25 @@ fields-are n line fs r k b e =
 -- ---- a line of each kind
 
 -- a line of a pair that is taken is one that is written, in range
-pair-form : (d : Draft) (line : ℕ) (fs : List (List ℕ)) (t : Stage × Draft) → d.n ≤ 16 → line_step Pairs d line fs ≡ Ok t → (p : pair.Pair) × (pair_fields p ≡ fs) × PairFits d.n p × ((Pairs, with_pair d p) ≡ t)
-pair-form d line fs t l e =
-    let q = line-due Pairs d line fs t e in
-    let c = fields-are 3 line fs _ _ t q.1 in
+pair-form : (d : Draft) (line : ℕ) (fs : List (List ℕ)) (t : Stage × Draft) → d.n ≤ 16 → codes "first" ≡ slice_index_or fs 0 [] → kind_step Pairs First d line fs ≡ Ok t → (p : pair.Pair) × (pair_fields p ≡ fs) × PairFits d.n p × ((Pairs, with_pair d p) ≡ t)
+pair-form d line fs t l w e =
+    let c = fields-are 3 line fs _ _ t e in
     let a = then-number 1 d.n (slice_index_or fs 1 []) line 2 _ c.2 (omega arith) c.3 in
     let b = then-number 1 d.n (slice_index_or fs 2 []) line 3 _ c.2 (omega arith) a.2 in
     let p : pair.Pair = record { first = a.0; then = b.0 } in
     let r : (a.0 ≢ b.0) × (p ≡ c.2) = grind (arith, nat_tests, b.2) in
     (p, cc, record { first = a.1.from; most = a.1.to; second = b.1.from; last = b.1.to; apart = r.0 }, cc)
+
+-- so is a line of a keeper, whose door had none
+keeper-form : (d : Draft) (line : ℕ) (fs : List (List ℕ)) (t : Stage × Draft) → d.n ≤ 16 → line_step Keepers d line fs ≡ Ok t → (k : keeper.Keeper) × (keeper_fields k ≡ fs) × KeeperFits d.n k × HasNone d.keepers k × ((Keepers, with_keeper d k) ≡ t)
+keeper-form d line fs t l e =
+    let q = line-due Keepers d line fs t e in
+    let c = fields-are 3 line fs _ _ t q.1 in
+    let a = then-number 1 d.n (slice_index_or fs 1 []) line 2 _ c.2 (omega arith) c.3 in
+    let made : ℕ → Result keeper.Keeper Refusal = λ v. Ok (record { door = a.0; number = v }) in
+    let o : (slice_index d.keepers a.0 ≡ 0) × (and_then (number_at line fs 3 1 99) made ≡ Ok c.2) = grind (arith, nat_tests, a.2) in
+    let b = then-number 1 99 (slice_index_or fs 2 []) line 3 made c.2 (omega arith) o.1 in
+    (record { door = a.0; number = b.0 }, cc, record { door = a.1.from; most = a.1.to; number = b.1.from; last = b.1.to }, o.0, cc)
 
 -- the grid that is read is the one that is written, in range, where one is
 grid-form : (line : ℕ) (fs : List (List ℕ)) (g : Option ℕ) → length fs ≤ 5 → grid_of line fs ≡ Ok g → (grid_fields g ≡ drop 4 fs) × GridFits g
@@ -178,13 +193,42 @@ run-lines (p ∷ q ∷ ps) line s d e l h =
     let same = join_with_byte-slice_split 9 p in
     (fields_in p ∷ r.0, cc, (line, a.0, a.1, r.2))
 
--- the lines from the first pair on
-pairs-form : (fss : List (List (List ℕ))) (d e : Draft) → d.n ≤ 16 → Run fss Pairs d e → (qs : List pair.Pair) × (map pair_fields qs ≡ fss) × (record d { ahead = fold with_ahead d.ahead qs } ≡ e) × All (PairFits d.n) qs
-pairs-form [] d e l r = ([], refl, cc, All-nil (PairFits d.n))
-pairs-form (fs ∷ fss) d e l r =
-    let q = pair-form d r.0 fs r.1 l r.2 in
-    let i = pairs-form fss (with_pair d q.0) e l (subst (λ (z : Stage × Draft). Run fss z.0 z.1 e) (sym q.3) r.3) in
-    (q.0 ∷ i.0, cc, i.2, All-cons (PairFits d.n) q.0 i.0 q.2 i.3)
+-- a door that has none once k has one is another door, and had none
+none-before : (table : List ℕ) (k j : keeper.Keeper) → k.door < length table → 1 ≤ k.number → HasNone (with_kept table k) j → DifferInDoor k j × HasNone table j
+none-before table k j l n h =
+    grind (arith, get_or-set_at table k.door j.door k.number 0, get_or-set_other table k.door j.door k.number 0)
+
+-- the lines from the first keeper on
+keepers-form : (fss : List (List (List ℕ))) (d e : Draft) → d.n ≤ 16 → length d.keepers ≡ 17 → Run fss Keepers d e → (ks : List keeper.Keeper) × (map keeper_fields ks ≡ fss) × (record d { keepers = fold with_kept d.keepers ks } ≡ e) × All (KeeperFits d.n) ks × AllPairs DifferInDoor ks × All (HasNone d.keepers) ks
+keepers-form [] d e l m r = ([], refl, cc, All-nil (KeeperFits d.n), (λ i j x a b. absurd (omega arith)), All-nil (HasNone d.keepers))
+keepers-form (fs ∷ fss) d e l m r =
+    let q = keeper-form d r.0 fs r.1 l r.2 in
+    let table = with_kept d.keepers q.0 in
+    let i = keepers-form fss (with_keeper d q.0) e l (length-set d.keepers q.0.door q.0.number ∙ m) (subst (λ (z : Stage × Draft). Run fss z.0 z.1 e) (sym q.4) r.3) in
+    let before = λ (j : keeper.Keeper) (h : HasNone table j). none-before d.keepers q.0 j (omega (arith, q.2.most)) q.2.number h in (
+      q.0 ∷ i.0,
+      cc,
+      i.2,
+      All-cons (KeeperFits d.n) q.0 i.0 q.2 i.3,
+      AllPairs-cons DifferInDoor q.0 i.0 (All-weaker (HasNone table) (DifferInDoor q.0) (λ j h. (before j h).0) i.0 i.5) i.4,
+      All-cons (HasNone d.keepers) q.0 i.0 q.3 (All-weaker (HasNone table) (HasNone d.keepers) (λ j h. (before j h).1) i.0 i.5),
+    )
+
+-- the lines from the first pair on: lines of pairs, and then of keepers
+pairs-form : (fss : List (List (List ℕ))) (d e : Draft) → d.n ≤ 16 → length d.keepers ≡ 17 → Run fss Pairs d e → (qs : List pair.Pair) × (ks : List keeper.Keeper) × (map pair_fields qs ++ map keeper_fields ks ≡ fss) × (record d { ahead = fold with_ahead d.ahead qs; keepers = fold with_kept d.keepers ks } ≡ e) × All (PairFits d.n) qs × All (KeeperFits d.n) ks × AllPairs DifferInDoor ks
+pairs-form [] d e l m r =
+    let i = keepers-form [] d e l m r in
+    ([], i.0, i.1, i.2, All-nil (PairFits d.n), i.3, i.4)
+pairs-form (fs ∷ fss) d e l m r =
+    ⊎_elim
+    (λ p.
+    let q = pair-form d r.0 fs r.1 l p.0 p.1 in
+    let i = pairs-form fss (with_pair d q.0) e l m (subst (λ (z : Stage × Draft). Run fss z.0 z.1 e) (sym q.3) r.3) in
+    (q.0 ∷ i.0, i.1, cc, i.3, All-cons (PairFits d.n) q.0 i.0 q.2 i.4, i.5, i.6))
+    (λ k.
+    let i = keepers-form (fs ∷ fss) d e l m (r.0, r.1, k, r.3) in
+    ([], i.0, i.1, i.2, All-nil (PairFits d.n), i.3, i.4))
+    (line-due Pairs d r.0 fs r.1 r.2)
 
 -- the lines from the drives of place k on, of m places: drive lines, and what pairs make of the rest
 rows-form : (m : ℕ) (fss : List (List (List ℕ))) (k : ℕ) (d e : Draft) → d.n ≤ 16 → k + m ≡ d.n + 1 → Run fss (drives_from d.n k) d e → (rs : List (List ℕ)) × (gss : List (List (List ℕ))) × (map_from row_fields k rs ++ gss ≡ fss) × (length rs ≡ m) × AllFrom (RowFits d.n) k rs × Run gss Pairs (record d { drives = fill k (map row_of rs) d.drives }) e
@@ -214,9 +258,9 @@ run-form (fs ∷ fss) e r =
     let n = h.0.n in
     let x = doors-form n fss 1 (with_head unread h.0) e h.2.to (omega arith) (rw (le-ltb n 1 h.2.from) (subst (λ (z : Stage × Draft). Run fss z.0 z.1 e) (sym h.5) r.3)) in
     let w = rows-form (n + 1) x.1 0 (record (with_head unread h.0) { doors = fill 1 x.0 unread.doors }) e h.2.to (omega arith) (rw (le-ltb n 0 (omega arith)) x.5) in
-    let p = pairs-form w.1 (record (with_head unread h.0) { doors = fill 1 x.0 unread.doors; drives = fill 0 (map row_of w.0) unread.drives }) e h.2.to w.5 in
+    let p = pairs-form w.1 (record (with_head unread h.0) { doors = fill 1 x.0 unread.doors; drives = fill 0 (map row_of w.0) unread.drives }) e h.2.to refl w.5 in
     record {
-      content = record { head = h.0; doors = x.0; rows = w.0; pairs = p.0 };
+      content = record { head = h.0; doors = x.0; rows = w.0; pairs = p.0; keepers = p.1 };
       fits = record {
         one = h.2.from;
         most = h.2.to;
@@ -227,10 +271,12 @@ run-form (fs ∷ fss) e r =
         doors = x.4;
         places = w.3;
         rows = w.4;
-        pairs = p.3;
+        pairs = p.4;
+        keepers = p.5;
+        once = p.6;
       };
       same = cc;
-      round = p.2;
+      round = p.3;
     }
 
 -- an accepted text has the form, and gives the round of that form

@@ -1,5 +1,5 @@
 -- The round of contents in range is lawful.
-use Rattle.std.proofs.Common.{◌⊎◌, ℕ, zero, suc, ◌+◌, ◌<◌, ◌≤◌, List, [], ◌∷◌, map, length, slice_index_or, slice_set, replicate, pos, negsuc, ◌≤ℤ◌, Option, Some, None, refl, ⊎_elim, arith, length-set}
+use Rattle.std.proofs.Common.{◌≡◌, ◌⊎◌, ℕ, zero, suc, ◌+◌, ◌<◌, ◌≤◌, List, [], ◌∷◌, map, fold, length, slice_index, slice_index_or, slice_set, replicate, pos, negsuc, ◌≤ℤ◌, Option, Some, None, refl, ⊎_elim, arith, length-set}
 use borrow.Author.Differences.{ints}
 use Rattle.std.specs.List.{All}
 use Rattle.std.specs.Option.{unwrap_or}
@@ -9,7 +9,9 @@ use Rattle.std.proofs.lemmas.List.{get_or-set_other, length-map, length-replicat
 use Rattle.std.proofs.lemmas.List.Elements.{All-head, All-tail}
 use Rattle.round.specs.Tables.{blank, at}
 use Rattle.round.specs.declared.door.Door as door
-use Rattle.text.specs.Form.{AllFrom, DoorFits, GridFits, LegFits, RowFits, Fits, Content, fill, row_of, round_of}
+use Rattle.text.specs.declared.line.Keeper as keeper
+use Rattle.text.specs.Drafts.{with_kept}
+use Rattle.text.specs.Form.{AllFrom, DoorFits, GridFits, LegFits, RowFits, KeeperFits, Fits, Content, fill, row_of, round_of}
 
 -- what holds of each element at its place, and of the other places of a table, holds of the table that they fill
 fill-each : {A : Type 0} (P : ℕ → A → Type 0) (d : A) (xs : List A) (i : ℕ) (t : List A) → i + length xs ≤ length t → AllFrom P i xs → ((k : ℕ) → (k < i) ⊎ (i + length xs ≤ k) → P k (slice_index_or t k d)) → (k : ℕ) → P k (slice_index_or (fill i xs t) k d)
@@ -76,3 +78,20 @@ pub rows-fair : (c : Content) → Fits c → (i k : ℕ) → LegFits i k (slice_
 rows-fair c f =
     fill-each FairRow [] (map row_of c.rows) 0 (replicate 17 (replicate 17 0)) (omega (arith, f.places, f.most, length-map c.rows row_of, length-replicate {A = List ℕ} 17 (replicate 17 0)))
     (fair-rows c.head.n 0 c.rows f.most f.rows) (λ i _. replicated (FairRow i) 17 (replicate 17 0) [] (blank-row i) (λ k. (omega arith, λ _. refl)) i)
+
+-- the number of a keeper at place k: up to 99, and 0 at the yard
+abbrev FairKeeper : ℕ → ℕ → Type 0
+FairKeeper k v = (v ≤ 99) × (k ≡ 0 → v ≡ 0)
+
+-- keepers in range leave such numbers in a table of them
+kept-fair : (n : ℕ) (ks : List keeper.Keeper) (t : List ℕ) → n < length t → All (KeeperFits n) ks → ((i : ℕ) → FairKeeper i (slice_index t i)) → (i : ℕ) → FairKeeper i (slice_index (fold with_kept t ks) i)
+kept-fair n [] t l f h i = h i
+kept-fair n (k ∷ ks) t l f h i =
+    let fits = All-head (KeeperFits n) k ks f in
+    kept-fair n ks (with_kept t k) (omega (arith, length-set t k.door k.number)) (All-tail (KeeperFits n) k ks f)
+    (λ m. grind (arith, get_or-set_at t k.door m k.number 0, get_or-set_other t k.door m k.number 0, h m, fits)) i
+
+-- the keepers of the round of contents in range
+pub keepers-fair : (c : Content) → Fits c → (k : ℕ) → FairKeeper k (slice_index (round_of c).keepers k)
+keepers-fair c f =
+    kept-fair c.head.n c.keepers (replicate 17 0) (omega (arith, f.most, length-replicate {A = ℕ} 17 0)) f.keepers (λ k. replicated (FairKeeper k) 17 0 0 (omega arith, λ _. refl) (omega arith, λ _. refl) k)

@@ -1,11 +1,12 @@
 -- One line more of a text, and the stage after it.
-use Rattle.std.proofs.Common.{◌≡◌, ℕ, suc, ◌+◌, ◌-◌, ◌<◌, ◌≤◌, nat_eq, nat_lt, slice_set, List, [], ◌∷◌, length, refl, arith}
+use Rattle.std.proofs.Common.{◌≡◌, ℕ, suc, ◌+◌, ◌-◌, ◌<◌, ◌≤◌, nat_eq, nat_lt, slice_index, slice_set, List, [], ◌∷◌, length, refl, arith}
 use Rattle.std.specs.Bool.{if◌then◌else◌}
 use Rattle.std.proofs.lemmas.Bool.Decides.{nat_tests}
 use Rattle.std.proofs.lemmas.List.Splits.{length-slice_split}
 use Rattle.text.specs.declared.stage.Stage.{Stage}
 use Rattle.text.specs.declared.stage.Stage.TheVariants.{Doors, Drives, Pairs}
 use Rattle.text.specs.declared.draft.Draft.{Draft}
+use Rattle.text.specs.declared.line.Keeper.{Keeper}
 use Rattle.text.specs.Pieces.{pieces, fields_in, lines_in}
 use Rattle.text.specs.Lines.{and_then, leg_in, row_from}
 use Rattle.text.specs.Steps.{line_step}
@@ -35,6 +36,10 @@ drives_from n k = if nat_lt n k then Pairs else Drives k
 -- after number k of n the next is due, or none is left
 pub after : (n k : ℕ) (next end : Stage) → (if nat_lt k n then next else end) ≡ (if nat_lt n (k + 1) then end else next)
 after n k next end = grind (arith, nat_tests)
+
+-- the door has no keeper in the table
+abbrev pub HasNone : List ℕ → Keeper → Type 0
+HasNone table k = slice_index table k.door ≡ 0
 
 -- the drives to the doors from j on: that to j, and those to the doors after it
 pub row_step : (n i j line : ℕ) (fs : List (List ℕ)) (row : List ℕ) → j ≤ n → row_from (n + 1 - j) i j line fs row ≡ and_then (leg_in i j line fs) (λ leg. row_from (n + 1 - (j + 1)) i (j + 1) line fs (slice_set row j leg))

@@ -6,6 +6,7 @@ use Rattle.std.specs.Option.{unwrap_or}
 use Rattle.text.specs.declared.draft.Draft.{Draft}
 use Rattle.text.specs.declared.line.Head.{Head}
 use Rattle.text.specs.declared.line.Pair.{Pair}
+use Rattle.text.specs.declared.line.Keeper.{Keeper}
 
 -- before the first line all is 0
 abbrev pub unread : Draft
@@ -17,6 +18,7 @@ unread = record {
   doors = replicate 17 blank;
   drives = replicate 17 (replicate 17 0);
   ahead = replicate 17 0;
+  keepers = replicate 17 0;
 }
 
 -- the round line; the grid is 1 where it names none
@@ -38,3 +40,11 @@ with_ahead sets p = slice_set sets p.then (bit_or (slice_index sets p.then) (2 ^
 -- the line of a pair
 abbrev pub with_pair : Draft → Pair → Draft
 with_pair d p = record d { ahead = with_ahead d.ahead p }
+
+-- the keepers by door, with one more
+abbrev pub with_kept : List ℕ → Keeper → List ℕ
+with_kept keepers k = slice_set keepers k.door k.number
+
+-- the line of a keeper
+abbrev pub with_keeper : Draft → Keeper → Draft
+with_keeper d k = record d { keepers = with_kept d.keepers k }

@@ -1,5 +1,5 @@
 -- The form of a round's text: how contents are written, which contents are in range, and the round that they make.
-use Rattle.std.specs.Prelude.{◌≡◌, ◌≢◌, ⊤, ℕ, ◌+◌, ◌≤◌, List, [], ◌∷◌, ◌++◌, map, fold, length, replicate, pos, negsuc, ◌≤ℤ◌, codes, decimal, ◌==◌, slice_set, All, Option, Some, None, IfSome, if◌then◌else◌}
+use Rattle.std.specs.Prelude.{◌≡◌, ◌≢◌, ⊤, ℕ, ◌+◌, ◌≤◌, List, [], ◌∷◌, ◌++◌, map, fold, length, replicate, pos, negsuc, ◌≤ℤ◌, codes, decimal, ◌==◌, slice_set, All, AllPairs, Option, Some, None, IfSome, if◌then◌else◌}
 use Rattle.std.specs.List.{join_with_byte}
 use Rattle.std.specs.Option.{unwrap_or}
 use Rattle.std.specs.Str.{byte}
@@ -9,14 +9,16 @@ use Rattle.round.specs.declared.door.Door.{Door}
 use Rattle.text.specs.declared.draft.Draft.{Draft}
 use Rattle.text.specs.declared.line.Head.{Head}
 use Rattle.text.specs.declared.line.Pair.{Pair}
-use Rattle.text.specs.Drafts.{with_ahead}
+use Rattle.text.specs.declared.line.Keeper.{Keeper}
+use Rattle.text.specs.Drafts.{with_ahead, with_kept}
 
--- what a text says: its doors from 1, the drives from each place from the yard, and its pairs, in order
+-- what a text says: its doors from 1, the drives from each place from the yard, its pairs and its keepers, in order
 pub record Content : Type 0 where
   pub head : Head
   pub doors : List Door
   pub rows : List (List ℕ)
   pub pairs : List Pair
+  pub keepers : List Keeper
 
 -- f of each element and its number, where the first has the number i
 abbrev pub map_from : {A B : Type 0} → (ℕ → A → B) → ℕ → List A → List B
@@ -50,11 +52,16 @@ row_fields i vs = codes "drive" ∷ decimal i ∷ map_from (leg_field i) 1 vs
 abbrev pub pair_fields : Pair → List (List ℕ)
 pair_fields p = codes "first" ∷ decimal p.first ∷ decimal p.then ∷ []
 
+-- the fields of the line of a keeper
+abbrev pub keeper_fields : Keeper → List (List ℕ)
+keeper_fields k = codes "keeper" ∷ decimal k.door ∷ decimal k.number ∷ []
+
 -- the lines of a text, by their fields
 abbrev pub records : Content → List (List (List ℕ))
 records c =
     head_fields c.head
-    ∷ (map_from door_fields 1 c.doors ++ (map_from row_fields 0 c.rows ++ map pair_fields c.pairs))
+    ∷ (map_from door_fields 1 c.doors
+    ++ (map_from row_fields 0 c.rows ++ (map pair_fields c.pairs ++ map keeper_fields c.keepers)))
 
 -- the lines, with tabs between the fields and a line feed at the end of each
 abbrev pub written : List (List (List ℕ)) → List ℕ
@@ -100,7 +107,19 @@ pub record PairFits (n : ℕ) (p : Pair) : Type 0 where
   pub last : p.then ≤ n
   pub apart : p.first ≢ p.then
 
--- all numbers are in range, with a line for each of the n doors and for each of the n + 1 places
+-- a keeper of one of the n doors
+pub record KeeperFits (n : ℕ) (k : Keeper) : Type 0 where
+  pub door : 1 ≤ k.door
+  pub most : k.door ≤ n
+  pub number : 1 ≤ k.number
+  pub last : k.number ≤ 99
+
+-- a and b are keepers of different doors
+abbrev pub DifferInDoor : Keeper → Keeper → Type 0
+DifferInDoor a b = a.door ≢ b.door
+
+-- all numbers are in range, with a line for each of the n doors and for each of the n + 1 places, and no door has two lines of
+-- keepers
 pub record Fits (c : Content) : Type 0 where
   pub one : 1 ≤ c.head.n
   pub most : c.head.n ≤ 16
@@ -112,6 +131,8 @@ pub record Fits (c : Content) : Type 0 where
   pub places : length c.rows ≡ c.head.n + 1
   pub rows : AllFrom (RowFits c.head.n) 0 c.rows
   pub pairs : All (PairFits c.head.n) c.pairs
+  pub keepers : All (KeeperFits c.head.n) c.keepers
+  pub once : AllPairs DifferInDoor c.keepers
 
 -- a table whose places from i on hold the elements
 abbrev pub fill : {A : Type 0} → ℕ → List A → List A → List A
@@ -132,6 +153,7 @@ round_of c = record {
   doors = fill 1 c.doors (replicate 17 blank);
   drives = fill 0 (map row_of c.rows) (replicate 17 (replicate 17 0));
   ahead = fold with_ahead (replicate 17 0) c.pairs;
+  keepers = fold with_kept (replicate 17 0) c.keepers;
 }
 
 -- the text is that of some content in range, and d is its round

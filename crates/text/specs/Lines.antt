@@ -1,11 +1,12 @@
 -- What a line says, by its number and its fields, which count from 1; the kind is field 1.
-use Rattle.std.specs.Prelude.{ℕ, ℤ, zero, suc, ◌+◌, ◌-◌, List, [], length, replicate, Option, Some, None, Ok, Err, Result, ◌==◌, slice_index_or, slice_set, if◌then◌else◌}
+use Rattle.std.specs.Prelude.{ℕ, ℤ, zero, suc, ◌+◌, ◌-◌, List, [], length, replicate, Option, Some, None, Ok, Err, Result, ◌==◌, slice_index, slice_index_or, slice_set, if◌then◌else◌}
 use Rattle.text.specs.declared.fields.Line.{Line}
 use Rattle.round.specs.declared.door.Door.{Door}
 use Rattle.text.specs.declared.refusal.Refusal.{Refusal}
-use Rattle.text.specs.declared.refusal.Refusal.TheVariants.{FieldCount, NotNumber, OutOfTurn}
+use Rattle.text.specs.declared.refusal.Refusal.TheVariants.{FieldCount, NotNumber, OutOfTurn, SecondKeeper}
 use Rattle.text.specs.declared.line.Head.{Head}
 use Rattle.text.specs.declared.line.Pair.{Pair}
+use Rattle.text.specs.declared.line.Keeper.{Keeper}
 use Rattle.text.specs.Pieces.{fields_in}
 use Rattle.text.specs.Fields.{number_in, change_in}
 use Rattle.text.specs.Number.{dash}
@@ -94,3 +95,12 @@ pair_of n line fs =
     (and_then (number_at line fs 2 1 n) (λ i.
     and_then (number_at line fs 3 1 n) (λ j.
     if i == j then Err (OutOfTurn line 3) else Ok (record { first = i; then = j }))))
+
+-- a line of a keeper: a door that has none in the table, else 29 at the door's field, and then the keeper's number
+abbrev pub keeper_of : ℕ → List ℕ → ℕ → List (List ℕ) → Result Keeper Refusal
+keeper_of n keepers line fs =
+    counted 3 line fs
+    (and_then (number_at line fs 2 1 n) (λ door.
+    if slice_index keepers door == 0
+    then and_then (number_at line fs 3 1 99) (λ number. Ok (record { door = door; number = number }))
+    else Err (SecondKeeper line 2)))

@@ -3,7 +3,7 @@ use Rattle.std.specs.Prelude.{ℕ, ◌+◌, List, [], ◌∷◌, length, Ok, Err
 use Rattle.text.specs.declared.refusal.Refusal.{Refusal}
 use Rattle.text.specs.declared.refusal.Refusal.TheVariants.{NotDue, Unended}
 use Rattle.text.specs.declared.stage.Stage.{Stage}
-use Rattle.text.specs.declared.stage.Stage.TheVariants.{Head, Pairs}
+use Rattle.text.specs.declared.stage.Stage.TheVariants.{Head, Pairs, Keepers}
 use Rattle.text.specs.declared.draft.Draft.{Draft}
 use Rattle.text.specs.Pieces.{fields_in, lines_in}
 use Rattle.text.specs.Lines.{and_then}
@@ -13,6 +13,7 @@ use Rattle.text.specs.Drafts.{unread}
 -- the text may end once all drives are read
 abbrev pub at_end : Stage → Draft → ℕ → Result Draft Refusal
 at_end Pairs d line = Ok d
+at_end Keepers d line = Ok d
 at_end s d line = Err (NotDue line)
 
 -- the parts of the text between line feeds, line by line; what stands after the last line feed is no line

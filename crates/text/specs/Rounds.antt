@@ -9,7 +9,16 @@ use Rattle.text.specs.Form.{HasForm}
 
 -- what a round holds
 abbrev pub contents : Round → Draft
-contents r = record { n = r.n; load = r.load; cap = r.cap; grid = r.grid; doors = r.doors; drives = r.drives; ahead = r.ahead }
+contents r = record {
+  n = r.n;
+  load = r.load;
+  cap = r.cap;
+  grid = r.grid;
+  doors = r.doors;
+  drives = r.drives;
+  ahead = r.ahead;
+  keepers = r.keepers;
+}
 
 -- an accepted text is written whole, and a refusal alters nothing
 abbrev pub Reads : {A : Type 0} → Result A Refusal → Round → Round → List ℕ → Type 0

@@ -1,8 +1,8 @@
 //! A round while its text is read: plain tables, which need not be lawful yet.
 ghost use Rattle.std.specs.Prelude.{◌≡◌, ◌≤◌};
-ghost use Rattle.text.specs.Drafts.{unread, with_head, with_door, with_row, with_pair};
+ghost use Rattle.text.specs.Drafts.{unread, with_head, with_door, with_row, with_pair, with_keeper};
 
-use crate::line::{Head, Pair};
+use crate::line::{Head, Keeper, Pair};
 use doors::{DoorSet, with};
 use round::door::{BLANK, Door};
 
@@ -16,6 +16,7 @@ pub(crate) struct Draft {
     pub(crate) doors: [Door; 17],
     pub(crate) drives: [[u16; 17]; 17],
     pub(crate) ahead: [DoorSet; 17],
+    pub(crate) keepers: [u16; 17],
 }
 
 impl Draft {
@@ -30,6 +31,7 @@ impl Draft {
             doors: [BLANK; 17],
             drives: [[0; 17]; 17],
             ahead: [0; 17],
+            keepers: [0; 17],
         }
     }
 
@@ -64,5 +66,12 @@ impl Draft {
     {
         let ahead = &mut self.ahead[pair.then as usize];
         *ahead = with(*ahead, pair.first as usize);
+    }
+
+    pub(crate) fn set_keeper(&mut self, keeper: Keeper)
+        requires { keeper.door ≤ 16 }
+        ensures { self.new ≡ with_keeper self.old keeper }
+    {
+        self.keepers[keeper.door as usize] = keeper.number;
     }
 }

@@ -9,6 +9,7 @@ pub(crate) enum Kind {
     Door,
     Drive,
     First,
+    Keeper,
     Other,
 }
 
@@ -21,6 +22,7 @@ fn kind_named(name: &[u8]) -> Kind
         [b'd', b'o', b'o', b'r'] => Kind::Door,
         [b'd', b'r', b'i', b'v', b'e'] => Kind::Drive,
         [b'f', b'i', b'r', b's', b't'] => Kind::First,
+        [b'k', b'e', b'e', b'p', b'e', b'r'] => Kind::Keeper,
         _ => Kind::Other,
     }
 }

@@ -1,7 +1,7 @@
 //! What a line says, by its fields.
 ghost use Rattle.std.specs.Prelude.{◌≡◌, ◌<◌, ◌≤◌, replicate, IfOk};
 ghost use Rattle.text.specs.Lines.{fields_of, number_at, change_at, dash_at, counted, in_turn, door_of};
-ghost use Rattle.text.specs.Lines.{door_due, grid_of, head_of, pair_of, leg_in, row_from, row_due};
+ghost use Rattle.text.specs.Lines.{door_due, grid_of, head_of, pair_of, keeper_of, leg_in, row_from, row_due};
 
 use crate::fields::Line;
 use crate::number::{change, within};
@@ -139,6 +139,31 @@ pub(crate) fn pair_of(line: &Line<'_>, n: u16) -> Result<Pair, Refusal>
         });
     }
     Ok(Pair { first, then })
+}
+
+/// A door and the number of its keeper.
+#[derive(Clone, Copy)]
+pub(crate) struct Keeper {
+    pub(crate) door: u16,
+    pub(crate) number: u16,
+}
+
+/// The line of a keeper, for one of the n doors that has none in the table.
+pub(crate) fn keeper_of(line: &Line<'_>, n: u16, keepers: &[u16; 17]) -> Result<Keeper, Refusal>
+    requires { n ≤ 16 }
+    ensures value { result ≡ keeper_of n keepers.now line.now.number (fields_of line.now) }
+    ensures bound { IfOk result (λ k. k.door ≤ n) }
+{
+    expect_fields(line, 3)?;
+    let door = number_at(line, 2, 1, n)?;
+    if keepers[door as usize] != 0 {
+        return Err(Refusal::SecondKeeper {
+            line: line.number,
+            field: 2,
+        });
+    }
+    let number = number_at(line, 3, 1, 99)?;
+    Ok(Keeper { door, number })
 }
 
 /// A "-" in that field, for a drive of no minutes.

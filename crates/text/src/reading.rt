@@ -23,6 +23,7 @@ pub fn read(round: &mut Round, text: &[u8]) -> Result<(), Refusal>
         doors,
         drives,
         ahead,
+        keepers,
     } = draft_of(text)?;
     *round = Round {
         n: n as usize,
@@ -32,6 +33,7 @@ pub fn read(round: &mut Round, text: &[u8]) -> Result<(), Refusal>
         doors,
         drives,
         ahead,
+        keepers,
     };
     Ok(())
 }

@@ -18,6 +18,8 @@ pub enum Refusal {
     /// no line feed ends the line
     Unended { line: usize },
     TooLong,
+    /// the door has a keeper already
+    SecondKeeper { line: usize, field: usize },
 }
 
 impl Refusal {
@@ -33,6 +35,7 @@ impl Refusal {
             Refusal::OutOfTurn { .. } => 5,
             Refusal::Unended { .. } => 6,
             Refusal::TooLong => 7,
+            Refusal::SecondKeeper { .. } => 29,
         }
     }
 
@@ -46,7 +49,8 @@ impl Refusal {
             | Refusal::NotNumber { line, .. }
             | Refusal::OutOfRange { line, .. }
             | Refusal::OutOfTurn { line, .. }
-            | Refusal::Unended { line } => line,
+            | Refusal::Unended { line }
+            | Refusal::SecondKeeper { line, .. } => line,
             Refusal::TooLong => 0,
         }
     }
@@ -59,7 +63,8 @@ impl Refusal {
             Refusal::NotDue { .. } | Refusal::FieldCount { .. } | Refusal::Unended { .. } => 1,
             Refusal::NotNumber { field, .. }
             | Refusal::OutOfRange { field, .. }
-            | Refusal::OutOfTurn { field, .. } => field,
+            | Refusal::OutOfTurn { field, .. }
+            | Refusal::SecondKeeper { field, .. } => field,
             Refusal::TooLong => 0,
         }
     }

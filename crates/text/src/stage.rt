@@ -6,5 +6,8 @@ pub(crate) enum Stage {
     Doors(u16),
     /// the place whose drives are next
     Drives(u16),
+    /// pairs, or the first keeper
     Pairs,
+    /// keepers alone
+    Keepers,
 }

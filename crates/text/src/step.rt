@@ -1,14 +1,14 @@
 //! One line more of the text.
 ghost use Rattle.std.specs.Prelude.{◌≡◌, ◌≤◌, IfOk};
 ghost use Rattle.text.specs.Lines.{fields_of};
-ghost use Rattle.text.specs.Steps.{Ready, went, kind_step, line_step};
+ghost use Rattle.text.specs.Steps.{Ready, went, keeper_step, kind_step, line_step};
 ghost use Rattle.text.specs.declared.kind.Kind.TheVariants.{Round, Door, Drive, First};
 ghost use Rattle.text.specs.declared.stage.Stage.TheVariants.{Head, Doors, Drives, Pairs};
 
 use crate::draft::Draft;
 use crate::fields::Line;
 use crate::kind::Kind;
-use crate::line::{door_due, head_of, pair_of, row_due};
+use crate::line::{door_due, head_of, keeper_of, pair_of, row_due};
 use crate::refusal::Refusal;
 use crate::stage::Stage;
 
@@ -64,6 +64,17 @@ fn take_pair(draft: &mut Draft, line: &Line<'_>) -> Result<Stage, Refusal>
     Ok(Stage::Pairs)
 }
 
+fn take_keeper(draft: &mut Draft, line: &Line<'_>) -> Result<Stage, Refusal>
+    requires { draft.old.n ≤ 16 }
+    ensures step { went result draft.new
+        ≡ keeper_step draft.old line.now.number (fields_of line.now) }
+    ensures ready { IfOk result (λ s. Ready s draft.new) }
+{
+    let keeper = keeper_of(line, draft.n, &draft.keepers)?;
+    draft.set_keeper(keeper);
+    Ok(Stage::Keepers)
+}
+
 /// One line, whose kind has to be due.
 pub(crate) fn take_line(draft: &mut Draft, stage: Stage, line: &Line<'_>) -> Result<Stage, Refusal>
     requires { Ready stage draft.old }
@@ -76,6 +87,7 @@ pub(crate) fn take_line(draft: &mut Draft, stage: Stage, line: &Line<'_>) -> Res
         (Stage::Doors(due), Kind::Door) => take_door(draft, due, line),
         (Stage::Drives(from), Kind::Drive) => take_drive(draft, from, line),
         (Stage::Pairs, Kind::First) => take_pair(draft, line),
+        (Stage::Pairs | Stage::Keepers, Kind::Keeper) => take_keeper(draft, line),
         _ => Err(Refusal::NotDue { line: line.number }),
     }
 }

@@ -25,7 +25,7 @@ pub(crate) fn draft_of(text: &[u8]) -> Result<Draft, Refusal>
         return Err(Refusal::Unended { line: number });
     }
     match stage {
-        Stage::Pairs => Ok(draft),
+        Stage::Pairs | Stage::Keepers => Ok(draft),
         _ => Err(Refusal::NotDue { line: number }),
     }
 }

@@ -5,30 +5,40 @@ use Rattle.doors.specs.Orders.{IsDoor, IsPartOrder, AtEach}
 use Rattle.doors.proofs.Orders.{is-part, each_none, each_more}
 use Rattle.doors.proofs.Sets.{has-none}
 use Rattle.round.specs.Clock.{finish}
+use Rattle.round.proofs.Fresh.{all_same}
+use Rattle.rules.specs.Keepers.{IsSpaced}
+use Rattle.rules.specs.KeepersLaws.{apart-each}
 use Rattle.rules.specs.Loads.{load_of}
 use Rattle.orders.specs.Allowed.{IsAllowed}
-use Rattle.worked.specs.Rounds.{trio, boxes}
-use Rattle.worked.specs.Cases.{Loaded, Keeps, TwoKeep}
+use Rattle.worked.specs.Rounds.{trio, boxes, two_kept}
+use Rattle.allowed.specs.Orders.{KeepsRules}
+use Rattle.worked.specs.Cases.{Loaded, TwoKeep}
 
 -- what holds at each of three doors
 at-three : (P : List ℕ → ℕ → Type 0) (a b c : ℕ) → P [] a → P (a ∷ []) b → P (a ∷ b ∷ []) c → AtEach P (a ∷ b ∷ c ∷ [])
 at-three P a b c x y z = each_more P (a ∷ b ∷ []) c (each_more P (a ∷ []) b (each_more P [] a (each_none P) x) y) z
 
 module _ (c : ℕ) (h : c ≤ 9999) where
-  -- 1, 3, 2 finishes at 2, 6, 8; there are no pairs and no changes of load
-  pub allowed : 8 ≤ c → IsAllowed (trio c h) (Keeps (trio c h)) (1 ∷ 3 ∷ 2 ∷ [])
+  -- 1, 3, 2 finishes at 2, 6, 8; there are no pairs, no changes of load and no keepers
+  pub allowed : 8 ≤ c → IsAllowed (trio c h) (KeepsRules (trio c h)) (1 ∷ 3 ∷ 2 ∷ [])
   unfolding finish
   allowed l = record {
     part = is-part 3 (1 ∷ 3 ∷ 2 ∷ []) refl;
     whole = refl;
-    keeps = (at-three _ 1 3 2 (λ i p. absurd (has-none i p)) (λ i p. absurd (has-none i p)) (λ i p. absurd (has-none i p)), at-three _ 1 3 2 (omega (arith, ints)) (omega (arith, ints)) (omega (arith, ints)));
+    keeps = ((at-three _ 1 3 2 (λ i p. absurd (has-none i p)) (λ i p. absurd (has-none i p)) (λ i p. absurd (has-none i p)), at-three _ 1 3 2 (omega (arith, ints)) (omega (arith, ints)) (omega (arith, ints))), λ u i j v e k. k.0 (all_same {A = ℕ} 17 0 j));
     timely = at-three _ 1 3 2 (omega arith) (omega arith) (omega arith);
   }
 
   -- 1, 2, 3 ends at 9, and door 3 closes at 8
-  pub not_allowed : IsAllowed (trio c h) (Keeps (trio c h)) (1 ∷ 2 ∷ 3 ∷ []) → ⊥
+  pub not_allowed : IsAllowed (trio c h) (KeepsRules (trio c h)) (1 ∷ 2 ∷ 3 ∷ []) → ⊥
   unfolding finish
   not_allowed a = let t : 9 ≤ 8 = a.timely (1 ∷ 2 ∷ []) 3 [] refl in omega arith
+
+-- ---- the keepers
+
+-- in 1, 3, 2 no two doors of one keeper follow each other: door 3 has none
+pub spaced-one : IsSpaced two_kept (1 ∷ 3 ∷ 2 ∷ [])
+spaced-one = apart-each two_kept (1 ∷ 3 ∷ 2 ∷ []) (at-three _ 1 3 2 (λ k. cc (k.1)) (λ k. k.0 refl) (λ k. cc (k.1)))
 
 -- ---- the load
 

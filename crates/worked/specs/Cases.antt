@@ -1,15 +1,11 @@
--- The worked cases, in one statement on the definitions: the rule is pairs and load together, the tally late doors.
+-- The worked cases, in one statement on the definitions: the rule is pairs, load and keepers together, the tally late doors.
 use Rattle.std.specs.Prelude.{◌≡◌, ℕ, zero, suc, ◌*◌, Bool, true, false, ◌⊎◌, List, [], ◌∷◌, length, map, replicate, take, drop, Some, None, Ok, Err, Result, slice_index_or, ℤ, pos, negsuc}
 use Rattle.std.proofs.Common.{arith}
 use Rattle.doors.specs.Orders.{IsPartOrder}
 use Rattle.round.specs.declared.table.Round.{Round}
-use Rattle.rules.specs.declared.load.Interval.{Interval}
-use Rattle.rules.specs.Rules.{RuleSense}
-use Rattle.rules.specs.Pairs.{IsOrdered, pairs_sense}
-use Rattle.rules.specs.Loads.{IsWithinCap, load_sense}
-use Rattle.rules.specs.Boths.{both_sense}
-use Rattle.tallies.specs.Tallies.{TallySense}
-use Rattle.tallies.specs.Late.{late_sense}
+use Rattle.rules.specs.Keepers.{IsSpaced}
+use Rattle.rules.specs.Loads.{IsWithinCap}
+use Rattle.rules.specs.Sides.{SideState}
 use Rattle.tallies.specs.Driving.{driving_sense}
 use Rattle.orders.specs.Allowed.{IsAllowed}
 use Rattle.orders.specs.Times.{finish_minutes, finish_of}
@@ -23,28 +19,20 @@ use Rattle.layers.specs.declared.refusal.Refusal.{Refusal}
 use Rattle.layers.specs.declared.refusal.Refusal.TheVariants.{NoLayer, NoDoor, WrongLength}
 use Rattle.layers.specs.Settings.{Setting, setting}
 use Rattle.layers.specs.Calls.{after_open, arcs, after_sweep, sweep_answer, after_cut, cut_answer, after_backsweep, backsweep_answer, part_answer, after_part, refinement, bound, must, is_settled, holds, holds_answer, layer_answer}
-use Rattle.worked.specs.Rounds.{trio, loose, boxes}
-
-abbrev pub rule : Round → RuleSense (ℕ × Interval)
-rule r = both_sense (pairs_sense r.n r.ahead) (load_sense r.n r.load r.cap r.doors)
+use Rattle.allowed.specs.Orders.{KeepsRules}
+use Rattle.allowed.specs.Senses.{side_of, late_of}
+use Rattle.worked.specs.Rounds.{trio, loose, boxes, shared}
 
 -- w keeps the load: it is 0 to the cap after every door
 abbrev pub Loaded : Round → List ℕ → Type 0
 Loaded r w = IsWithinCap r.load r.cap r.doors w
 
--- w keeps the rule: the pairs, and the load
-abbrev pub Keeps : Round → List ℕ → Type 0
-Keeps r w = IsOrdered r.ahead w × Loaded r w
-
-abbrev pub late : Round → TallySense (ℕ × ℕ)
-late r = late_sense r.n r.doors
-
 -- what the calls go by, at width W
-abbrev pub by : Round → ℕ → Setting (ℕ × Interval) (ℕ × ℕ)
-by r W = setting r (rule r) (late r) W
+abbrev pub by : Round → ℕ → Setting SideState (ℕ × ℕ)
+by r W = setting r (side_of r) (late_of r) W
 
 abbrev pub Place : Type 0
-Place = Node (ℕ × Interval) (ℕ × ℕ)
+Place = Node SideState (ℕ × ℕ)
 
 -- at width W, on a lent list: opened, and after k sweeps
 abbrev pub sweeps : Round → ℕ → ℕ → List Place → List Place
@@ -90,15 +78,15 @@ pub record Sheet (r : Round) (lent : List Place) : Type 0 where
 pub record AsPrinted (r : Round) (lent : List Place) : Type 0 where
   -- order 1, 3, 2 finishes at 2, 6, 8 and is allowed; 1, 2, 3 ends at 9 and is not
   pub minutes : finish_minutes r (1 ∷ 3 ∷ 2 ∷ []) ≡ 2 ∷ 6 ∷ 8 ∷ []
-  pub is_allowed : IsAllowed r (Keeps r) (1 ∷ 3 ∷ 2 ∷ [])
+  pub is_allowed : IsAllowed r (KeepsRules r) (1 ∷ 3 ∷ 2 ∷ [])
   pub ends_late : finish_of r (1 ∷ 2 ∷ 3 ∷ []) ≡ 9
-  pub not_allowed : IsAllowed r (Keeps r) (1 ∷ 2 ∷ 3 ∷ []) → ⊥
+  pub not_allowed : IsAllowed r (KeepsRules r) (1 ∷ 2 ∷ 3 ∷ []) → ⊥
   -- the verdicts say so: 1, 3, 2 is allowed, and 1, 2, 3 finishes door 3 after it closes
-  pub says_allowed : verdict r (rule r) (1 ∷ 3 ∷ 2 ∷ []) ≡ is.Allowed
-  pub says_closes : verdict r (rule r) (1 ∷ 2 ∷ 3 ∷ []) ≡ is.Closes 3
+  pub says_allowed : verdict r (side_of r) (1 ∷ 3 ∷ 2 ∷ []) ≡ is.Allowed
+  pub says_closes : verdict r (side_of r) (1 ∷ 2 ∷ 3 ∷ []) ≡ is.Closes 3
   -- 1, 3, 2 costs 0 driving, (1, 1) late doors
   pub drives : cost r driving_sense (1 ∷ 3 ∷ 2 ∷ []) ≡ 0
-  pub lateness : cost r (late r) (1 ∷ 3 ∷ 2 ∷ []) ≡ (1, 1)
+  pub lateness : cost r (late_of r) (1 ∷ 3 ∷ 2 ∷ []) ≡ (1, 1)
   -- the bound at opening is (0, 0); four sweeps answer 2, 3, 1, 0
   pub at_opening : bound 3 16 (sweeps r 16 0 lent) ≡ Some (0, 0)
   pub four_sweeps : answer r 16 0 lent ∷ answer r 16 1 lent ∷ answer r 16 2 lent ∷ answer r 16 3 lent ∷ [] ≡ 2 ∷ 3 ∷ 1 ∷ 0 ∷ []
@@ -173,6 +161,20 @@ pub record HandedLayers (r : Round) (lent : List Place) : Type 0 where
   pub how_many : counts 3 (fine r 3 lent).1 ≡ Ok 1 ∷ Ok 2 ∷ Ok 3 ∷ Ok 1 ∷ Err NoLayer ∷ []
   pub which : layer_answer 3 3 1 (fine r 3 lent).1 ≡ Ok (take 2 (drop 3 (fine r 3 lent).1))
 
+-- three doors open 0 to 9,999, due 9,999, work 1, no drive minutes, where 1 and 2 have one keeper
+pub record Spaced (r : Round) (lent : List Place) : Type 0 where
+  -- 1, 2, 3 breaks the rule, and 1, 3, 2 keeps it
+  pub broken : ¬ IsSpaced r.keepers (1 ∷ 2 ∷ 3 ∷ [])
+  pub kept : IsSpaced r.keepers (1 ∷ 3 ∷ 2 ∷ [])
+  -- the verdicts of the six orders: allowed are those in which 3 stands between, and else the later of 1 and 2 is the fault
+  pub says : map (verdict r (side_of r)) six
+      ≡ is.Breaks 2 ∷ is.Breaks 1 ∷ is.Allowed ∷ is.Allowed ∷ is.Breaks 2 ∷ is.Breaks 1 ∷ []
+  -- four lists of two doors keep the rule, so that at width 3 refine is full at layer 2; at width 4 it is whole, and the diagram
+  -- holds these two orders alone
+  pub full_at_3 : (fine r 3 lent).0 ≡ Full 2
+  pub whole_at_4 : (fine r 4 lent).0 ≡ Whole
+  pub two_of_six : map (λ w. holds 3 4 w (fine r 4 lent).1) six ≡ false ∷ false ∷ true ∷ true ∷ false ∷ false ∷ []
+
 -- of all orders of three doors exactly 1, 2, 3 and 2, 1, 3 keep the load
 pub record TwoKeep (r : Round) : Type 0 where
   -- these two keep it
@@ -189,10 +191,11 @@ pub record WorkedOut (lent : List Place) : Type 0 where
   pub last_minutes : LastMinutes (trio 9 (omega arith)) (trio 8 (omega arith)) (trio 7 (omega arith)) lent
   pub held_lists : HeldLists (trio 9 (omega arith)) lent
   pub handed_layers : HandedLayers loose lent
+  pub spaced : Spaced shared lent
   -- an empty van that holds 2, changes 1, 1 and −2: exactly 1, 2, 3 and 2, 1, 3 keep the load
   pub loads : TwoKeep boxes
   -- the verdicts of the six say so: all but these two break the rule, with door 3 as their first fault
-  pub says : map (verdict boxes (rule boxes)) six
+  pub says : map (verdict boxes (side_of boxes)) six
       ≡ is.Allowed ∷ is.Allowed ∷ is.Breaks 3 ∷ is.Breaks 3 ∷ is.Breaks 3 ∷ is.Breaks 3 ∷ []
 
 abbrev pub WorkedCases : Type 0

@@ -1,6 +1,6 @@
 -- Rounds of three doors with no drive minutes, for the worked cases.
 use Rattle.std.proofs.Common.{sym, subst, arith}
-use Rattle.std.specs.Prelude.{ℕ, zero, suc, ◌≤◌, List, ◌∷◌, replicate, ℤ, pos, negsuc, ◌≤ℤ◌}
+use Rattle.std.specs.Prelude.{◌≡◌, ℕ, zero, suc, ◌≤◌, List, ◌∷◌, replicate, slice_index, ℤ, pos, negsuc, ◌≤ℤ◌, refl}
 use Rattle.round.specs.declared.door.Door.{Door}
 use Rattle.round.specs.declared.table.Round.{Round}
 use Rattle.round.specs.Tables.{blank, at}
@@ -33,10 +33,15 @@ worked a b c x y z (suc (suc zero)) p q = y.some
 worked a b c x y z (suc (suc (suc zero))) p q = z.some
 worked a b c x y z (suc (suc (suc (suc j)))) p q = absurd (omega arith)
 
--- the round of these doors: an empty van with room for `cap`, for each door the set of those that have to come ahead of it,
--- and starts at any minute
-abbrev pub round_of : (cap : ℕ) → cap ≤ 999 → List ℕ → (a b c : Door) → Fine a → Fine b → Fine c → Round
-round_of cap h ahead a b c x y z = record {
+-- keepers within their range, and none of the yard
+pub record FineKeepers (keepers : List ℕ) : Type 0 where
+  pub most : (j : ℕ) → slice_index keepers j ≤ 99
+  pub yard : slice_index keepers 0 ≡ 0
+
+-- the round of these doors: an empty van with room for `cap`, for each door the set of those that have to come ahead of it, and its
+-- keeper, and starts at any minute
+abbrev pub round_of : (cap : ℕ) → cap ≤ 999 → List ℕ → (keepers : List ℕ) → FineKeepers keepers → (a b c : Door) → Fine a → Fine b → Fine c → Round
+round_of cap h ahead keepers k a b c x y z = record {
   n = 3;
   load = 0;
   cap = cap;
@@ -44,6 +49,7 @@ round_of cap h ahead a b c x y z = record {
   doors = three a b c;
   drives = replicate 17 (replicate 17 0);
   ahead = ahead;
+  keepers = keepers;
   one = omega arith;
   most = omega arith;
   within = omega arith;
@@ -59,11 +65,20 @@ round_of cap h ahead a b c x y z = record {
   high = each (λ d. d.change ≤ℤ pos 99) a b c (record { le = tt }) x.high y.high z.high;
   legs = λ i j. omega (arith, no-leg 17 17 i j);
   own = λ j. no-leg 17 17 j j;
+  keeper_most = k.most;
+  keeper_yard = k.yard;
 }
 
 -- no door has to come ahead of another
 abbrev pub unordered : List ℕ
 unordered = replicate 17 0
+
+-- no door has a keeper
+abbrev pub unkept : List ℕ
+unkept = replicate 17 0
+
+pub unkept-fine : FineKeepers unkept
+unkept-fine = record { most = λ j. omega (arith, all_same {A = ℕ} 17 0 j); yard = refl }
 
 -- a door with no change of load
 abbrev pub plain : ℕ → ℕ → ℕ → ℕ → Door
@@ -74,7 +89,7 @@ fine o c d w p q s t u = record { opens = p; closes = q; due = s; some = t; work
 
 -- the round of which the sheet is printed, door 2 closing at c
 abbrev pub trio : (c : ℕ) → c ≤ 9999 → Round
-trio c h = round_of 0 (omega arith) unordered (plain 0 3 3 2) (plain 4 c 7 2) (plain 3 8 6 3)
+trio c h = round_of 0 (omega arith) unordered unkept unkept-fine (plain 0 3 3 2) (plain 4 c 7 2) (plain 3 8 6 3)
     (fine 0 3 3 2 (omega arith) (omega arith) (omega arith) (omega arith) (omega arith))
     (fine 4 c 7 2 (omega arith) h (omega arith) (omega arith) (omega arith))
     (fine 3 8 6 3 (omega arith) (omega arith) (omega arith) (omega arith) (omega arith))
@@ -88,7 +103,24 @@ easily = fine 0 9999 9999 1 (omega arith) (omega arith) (omega arith) (omega ari
 
 -- three such doors, where door 2 has to come ahead of door 1
 abbrev pub loose : Round
-loose = round_of 0 (omega arith) (0 ∷ 4 ∷ replicate 15 0) easy easy easy easily easily easily
+loose = round_of 0 (omega arith) (0 ∷ 4 ∷ replicate 15 0) unkept unkept-fine easy easy easy easily easily easily
+
+-- doors 1 and 2 have one keeper, and no other door has one
+abbrev pub two_kept : List ℕ
+two_kept = 0 ∷ 7 ∷ 7 ∷ replicate 14 0
+
+pub two_kept-fine : FineKeepers two_kept
+two_kept-fine = record { most = kept; yard = refl }
+  where
+    kept : (j : ℕ) → slice_index two_kept j ≤ 99
+    kept zero = omega arith
+    kept (suc zero) = omega arith
+    kept (suc (suc zero)) = omega arith
+    kept (suc (suc (suc j))) = omega (arith, all_same {A = ℕ} 14 0 j)
+
+-- three such doors, of which 1 and 2 have one keeper
+abbrev pub shared : Round
+shared = round_of 0 (omega arith) unordered two_kept two_kept-fine easy easy easy easily easily easily
 
 abbrev pub loading : ℤ → Door
 loading z = record { opens = 0; closes = 9999; due = 9999; work = 1; change = z }
@@ -98,4 +130,4 @@ up z a b = record { opens = omega arith; closes = omega arith; due = omega arith
 
 -- three such doors with the changes 1, 1 and −2, and a van that holds 2
 abbrev pub boxes : Round
-boxes = round_of 2 (omega arith) unordered (loading (pos 1)) (loading (pos 1)) (loading (negsuc 1)) (up (pos 1) (record { le = tt }) (record { le = tt })) (up (pos 1) (record { le = tt }) (record { le = tt })) (up (negsuc 1) (record { le = tt }) (record { le = tt }))
+boxes = round_of 2 (omega arith) unordered unkept unkept-fine (loading (pos 1)) (loading (pos 1)) (loading (negsuc 1)) (up (pos 1) (record { le = tt }) (record { le = tt })) (up (pos 1) (record { le = tt }) (record { le = tt })) (up (negsuc 1) (record { le = tt }) (record { le = tt }))

@@ -1,6 +1,6 @@
 use Rattle.std.proofs.Common.{◌≡◌, ℕ, Bool, [], ◌∷◌, ◌++◌, Some, None, Option, refl, arith}
 use Rattle.std.specs.Int.{from_bool}
-use Rattle.rules.specs.declared.load.Interval.{Interval}
+use Rattle.rules.specs.Sides.{SideState}
 use Rattle.rules.specs.Rules.{RuleSense}
 use Rattle.layers.specs.Settings.{setting}
 use Rattle.layers.specs.Calls.{bound, is_settled}
@@ -11,7 +11,7 @@ use Rattle.packed.specs.Sheets.{bound_words, first_words}
 use Rattle.packed.specs.Words.{count_word}
 use Rattle.packed.proofs.head.first_words.Goals as goal
 
-module _ (room m : Room) (R : RuleSense (ℕ × Interval)) (xs : Recs) (calls a b s : ℕ) (y : Bool) (o : Option (ℕ × ℕ)) where
+module _ (room m : Room) (R : RuleSense SideState) (xs : Recs) (calls a b s : ℕ) (y : Bool) (o : Option (ℕ × ℕ)) where
   words-are : m ≡ room → R ≡ side_of room.round.now → a ≡ count_word room.round.now.n → b ≡ count_word calls → s ≡ from_bool y
       → y ≡ is_settled (setting m.round.now R (late_of room.round.now) m.width) xs → o ≡ bound m.round.now.n m.width xs
       → (a ∷ b ∷ s ∷ []) ++ bound_words o ≡ first_words room.round.now room.width (count_word calls) xs

@@ -5,7 +5,8 @@ use Rattle.allowed.specs.Senses.{side_of}
 use Rattle.diagram.specs.declared.room.Room.{Room}
 use Rattle.diagram.specs.Words.{room_of}
 use Rattle.packed.specs.Often.{answer_word, last_answer, refined_diagram}
-use Rattle.packed.specs.Senses.{Recs, side_sense, doors_sense}
+use Rattle.packed.specs.Senses.{Recs, doors_sense}
+use Rattle.rules.specs.Sides.{side_sense}
 use Rattle.packed.proofs.Parts.{setting-is, opened-is}
 use Rattle.packed.proofs.often.ask_times.Goals as goal
 

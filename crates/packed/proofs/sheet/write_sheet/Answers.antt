@@ -5,7 +5,8 @@ use Rattle.layers.specs.Calls.{after_calls}
 use Rattle.diagram.specs.Words.{room_of}
 use Rattle.packed.specs.Answers.{answers}
 use Rattle.packed.specs.Requests.{Request, requests_in}
-use Rattle.packed.specs.Senses.{Recs, side_sense, doors_sense, setting_for}
+use Rattle.packed.specs.Senses.{Recs, doors_sense, setting_for}
+use Rattle.rules.specs.Sides.{side_sense}
 use Rattle.packed.specs.Sheets.{head_words, opened_diagram, sheet_words}
 use Rattle.packed.specs.Words.{count_word, begun_with}
 use Rattle.packed.proofs.Bytes.{begun-behind}

@@ -5,7 +5,8 @@ use Rattle.layers.specs.Calls.{answer_of, after_call, after_calls}
 use Rattle.diagram.specs.Words.{room_of, records_of}
 use Rattle.packed.specs.Answers.{word_of, answers}
 use Rattle.packed.specs.Requests.{Request, first_requests}
-use Rattle.packed.specs.Senses.{Recs, side_sense, doors_sense, setting_by}
+use Rattle.packed.specs.Senses.{Recs, doors_sense, setting_by}
+use Rattle.rules.specs.Sides.{side_sense}
 use Rattle.packed.specs.Words.{bytes_of, begun_with}
 use Rattle.packed.proofs.Bytes.{begun-more}
 use Rattle.packed.proofs.Lists.{taken, unwrap-more, length-first, run-more, answers-more, length-answers}

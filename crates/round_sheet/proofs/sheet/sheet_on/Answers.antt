@@ -17,11 +17,13 @@ pub returns : goal.returns
 returns c =
     let m = c.args.room in
     let r = m.round.now in
-    let a = c.of-rule.result.first.round in
-    let b = c.of-rule.result.second.round in
+    let a = c.of-rule.result.first.first.round in
+    let b = c.of-rule.result.first.second.round in
+    let d = c.of-rule.result.second.round in
     let t = c.of-tally.result.round in
-    let ea = c.of-rule.ensures.first in
-    let eb = c.of-rule.ensures.second in
+    let ea = c.of-rule.ensures.pairs in
+    let eb = c.of-rule.ensures.load in
+    let ed = c.of-rule.ensures.keepers in
     let et = c.of-tally.ensures in
     let ew = c.requires.width in
     let lent = c.args.records.now in
@@ -31,22 +33,23 @@ returns c =
     let o = open'.result.room in
     let same = open'.ensures.room in
     let back : r.n ≡ o.round.now.n = ap (λ (x : Room). x.round.now.n) (sym same) in
-    let serves : (a.now.n ≡ o.round.now.n) × (b.now.n ≡ o.round.now.n) = (ap (λ x. x.now.n) ea ∙ back, ap (λ x. x.now.n) eb ∙ back) in
-    let sure = claimed m a b t ea eb et ew lent opened o same eo (open'.ensures.claim serves (ap (λ x. x.now.n) et ∙ back) (Refine ∷ [])) in
-    let done = is_refined m a b t ea eb et ew lent opened o same eo in
+    let serves : ((a.now.n ≡ o.round.now.n) × (b.now.n ≡ o.round.now.n)) × (d.now.n ≡ o.round.now.n) =
+    ((ap (λ x. x.now.n) ea ∙ back, ap (λ x. x.now.n) eb ∙ back), ap (λ x. x.now.n) ed ∙ back) in
+    let sure = claimed m a b d t ea eb ed et ew lent opened o same eo (open'.ensures.claim serves (ap (λ x. x.now.n) et ∙ back) (Refine ∷ [])) in
+    let done = is_refined m a b d t ea eb ed et ew lent opened o same eo in
     let k = c.refine-refined.new.self in
     let room = c.refine-refined.ensures.room ∙ open'.ensures.room in
     let nodes : k.nodes.now ≡ (refined_for r lent).1 = c.refine-refined.ensures.records ∙ ap (λ p. p.1) done in
     let s : Sheet = record { bound = c.bound.result; refined = c.refine-refined.result; settled = c.settled.result; musts = c.musts.result } in
     let sheet : s ≡ sheet_of r lent =
-    is_sheet m a b t ea eb et ew lent opened o same eo k.room k.nodes.now s room nodes c.bound.ensures (c.refine-refined.ensures.answer ∙ ap (λ p. p.0) done) (c.settled.ensures (late_of r)) c.musts.ensures.sets in
+    is_sheet m a b d t ea eb ed et ew lent opened o same eo k.room k.nodes.now s room nodes c.bound.ensures (c.refine-refined.ensures.answer ∙ ap (λ p. p.0) done) (c.settled.ensures (late_of r)) c.musts.ensures.sets in
     let to = sym sheet in
     let sets : List ℕ = c.musts.result in
     let each : (i j : ℕ) → has (slice_index sets i) j ≡ must_of r.n 16 (refined_for r lent).1 i j =
     λ i j. c.musts.ensures.each i j
     ∙ ap (λ (x : Room). must_of x.round.now.n x.width k.nodes.now i j) room
     ∙ ap₂ (λ W (xs : Records). must_of r.n W xs i j) ew nodes in
-    let whole = settles m a b t ea eb et ew lent opened o same eo (open'.ensures.whole serves []) in
+    let whole = settles m a b d t ea eb ed et ew lent opened o same eo (open'.ensures.whole serves []) in
     record {
       records = search (rules, nodes);
       later = search (rules, ap (drop (places_of r)) nodes ∙ later_kept r lent);

@@ -1,6 +1,6 @@
 use Rattle.std.proofs.Common.{sym, refl}
 use Rattle.std.proofs.lemmas.Result.{err_from_is_err_and}
-use Rattle.text.proofs.Lawful.{doors-fair, grid-fair, rows-fair}
+use Rattle.text.proofs.Lawful.{doors-fair, grid-fair, rows-fair, keepers-fair}
 use Rattle.text.proofs.Forms.{accepted_form}
 use Rattle.text.proofs.Backs.{refused_form}
 use Rattle.text.proofs.reading.read.Goals as goal
@@ -11,6 +11,7 @@ invariant_of-round c =
     let doors = doors-fair w.content w.fits in
     let rows = rows-fair w.content w.fits in
     let grid = grid-fair w.content.head.grid w.fits.grid in
+    let keepers = keepers-fair w.content w.fits in
     rw (← w.round) (record {
       one = w.fits.one;
       most = w.fits.most;
@@ -27,6 +28,8 @@ invariant_of-round c =
       high = λ k. (doors k).high;
       legs = λ i j. (rows i j).0;
       own = λ j. (rows j j).1 refl;
+      keeper_most = λ j. (keepers j).0;
+      keeper_yard = (keepers 0).1 refl;
     })
 
 pub returns-in_err-n-clause-form : goal.returns-in_err-n-clause-form

@@ -11,10 +11,10 @@ returns c =
     let same = c.in-Some.ensures in
     let rule = c.of-2.ensures in
     let told = c.verdict-verdict.ensures in
-    let value = own_verdict c.args.round _ _ _ c.args.doors _ _ rule.first rule.second same.0 same.1 told.value in
-    let means = own_meaning c.args.round _ _ _ c.args.doors _ _ rule.first rule.second same.0 same.1 told.means in
+    let value = own_verdict c.args.round _ _ _ _ c.args.doors _ _ rule.pairs rule.load rule.keepers same.0 same.1 told.value in
+    let means = own_meaning c.args.round _ _ _ _ c.args.doors _ _ rule.pairs rule.load rule.keepers same.0 same.1 told.means in
     record {
-      full = full_order c.args.round _ _ _ c.args.doors _ _ rule.first rule.second same.0 same.1 c.in-Some.order.part value c.in_default-verdict.not-Incomplete;
+      full = full_order c.args.round _ _ _ _ c.args.doors _ _ rule.pairs rule.load rule.keepers same.0 same.1 c.in-Some.order.part value c.in_default-verdict.not-Incomplete;
       doors = search rules;
       finishes = search rules;
       verdict = value;

@@ -1,7 +1,7 @@
-use Rattle.std.proofs.Common.{ℕ, zero, suc, ◌≤◌, set, replicate, pos, negsuc, ◌≤ℤ◌, arith}
+use Rattle.std.proofs.Common.{ℕ, zero, suc, ◌≤◌, set, replicate, pos, negsuc, ◌≤ℤ◌, refl, arith}
 use Rattle.round.specs.declared.door.Door.{Door}
 use Rattle.round.specs.Tables.{blank, new_door, at}
-use Rattle.round.proofs.Fresh.{each-fresh, no-leg}
+use Rattle.round.proofs.Fresh.{all_same, each-fresh, no-leg}
 use Rattle.round.proofs.table.Round.fresh.Goals as goal
 
 some-work : (j : ℕ) → 1 ≤ j → j ≤ 1 → 1 ≤ (at (set (replicate 17 blank) 1 new_door) j).work
@@ -26,4 +26,6 @@ invariant_of-result c = record {
   high = each-fresh (λ (d : Door). d.change ≤ℤ pos 99) (record { le = tt }) (record { le = tt });
   legs = λ i j. omega (arith, no-leg 17 17 i j);
   own = λ j. no-leg 17 17 j j;
+  keeper_most = λ j. omega (arith, all_same {A = ℕ} 17 0 j);
+  keeper_yard = refl;
 }
