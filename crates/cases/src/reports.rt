@@ -1,8 +1,8 @@
 //! Reports of orders as they are printed, worked out by hand and by a second calculation, and orders that are refused.
 use crate::rounds::{QUARTER, THREE, round_of, text_of};
-use order_report::named::doors_named;
+use order_report::named::order_named;
 use order_report::report::{NoOrder, Report};
-use std::alloc::{AllocError, Global};
+use std::alloc::Global;
 use std::test::Fail;
 
 /// Doors that change boxes, where 1 comes ahead of 3: with 1, 3, 2 the van would hold less than nothing.
@@ -40,20 +40,13 @@ const TWICE_REPORT: &str =
 const BETWEEN_REPORT: &str =
     "finish\t2\t15\nfinish\t3\t30\nfinish\t1\t45\nfinish\t4\t60\nallowed\tyes\ndriving\t40\nlate\t2\t45\n";
 
-/// The words of a line, as a program is given them.
-fn words_of(heap: Global, line: &str) -> Result<Vec<String>, AllocError> {
-    let mut words = Vec::new(heap);
-    for word in line.split(' ') {
-        words.push(word.to_string(heap)?)?;
-    }
-    Ok(words)
-}
-
-/// What is printed of the order that the words name.
-fn shown(heap: Global, text: &[u8], words: &[String]) -> Result<String, Fail> {
+/// What is said of the order that the words of a line name, or why they name none.
+fn shown(heap: Global, text: &[u8], line: &str) -> Result<String, Fail> {
     let round = round_of(text)?;
-    let Some(doors) = doors_named(words, heap)? else {
-        return Ok(text_of(heap, NoOrder)?);
+    let words: Vec<&str> = line.split(' ').collect(heap)?;
+    let doors = match order_named(&round, words.as_slice(), heap)? {
+        Ok(doors) => doors,
+        Err(fault) => return Ok(text_of(heap, fault)?),
     };
     match Report::of(&round, doors.as_slice(), heap)? {
         Some(report) => Ok(text_of(heap, report)?),
@@ -63,17 +56,52 @@ fn shown(heap: Global, text: &[u8], words: &[String]) -> Result<String, Fail> {
 
 #[test]
 fn a_report_is_shown_in_lines(rt: HostRuntime) -> Result<(), Fail> {
-    for (text, words, report) in [
+    for (text, line, report) in [
         (THREE, "1 2 3", CLOSES_REPORT),
-        (THREE, "1 3", "refused\torder"),
         (LOAD, "1 3 2", LOAD_REPORT),
         (QUARTER, "2 1 4 3", QUARTER_REPORT),
         (KEPT, "3 4 1 2", TWICE_REPORT),
         (KEPT, "2 3 1 4", BETWEEN_REPORT),
         (FAR, "16 15 14 13 12 11 10 9 8 7 6 5 4 3 2 1", FAR_REPORT),
     ] {
-        let words = words_of(rt.alloc(), words)?;
-        assert_eq!(rt; shown(rt.alloc(), text, words.as_slice())?.as_str(), report);
+        assert_eq!(rt; shown(rt.alloc(), text, line)?.as_str(), report);
+    }
+    Ok(())
+}
+
+#[test]
+fn the_first_fault_of_the_words_is_told(rt: HostRuntime) -> Result<(), Fail> {
+    for (text, line, told) in [
+        (
+            THREE,
+            "3 3 4 0",
+            "'4' is no door of this round: its doors are 1 to 3, in digits with no leading zero",
+        ),
+        (
+            THREE,
+            "1 +2 3",
+            "'+2' is no door of this round: its doors are 1 to 3, in digits with no leading zero",
+        ),
+        (
+            THREE,
+            "1 2 ",
+            "'' is no door of this round: its doors are 1 to 3, in digits with no leading zero",
+        ),
+        (
+            FAR,
+            "1 17",
+            "'17' is no door of this round: its doors are 1 to 16, in digits with no leading zero",
+        ),
+        (THREE, "2 3 3 2", "door 3 comes twice"),
+        (FAR, "16 1 16", "door 16 comes twice"),
+        (THREE, "3", "door 1 is missing"),
+        (
+            FAR,
+            "16 15 14 13 12 11 9 8 7 6 5 4 3 2 1",
+            "door 10 is missing",
+        ),
+    ] {
+        assert_eq!(rt; shown(rt.alloc(), text, line)?.as_str(), told);
     }
     Ok(())
 }

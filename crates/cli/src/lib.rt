@@ -1,5 +1,5 @@
-//! What the programs do with standard input, their arguments and standard output. Each gives the status that its
-//! program is to end with, and prints nothing of its own on any other stream.
+//! What the programs do with their words, a file or standard input, and standard output. Each gives the status that it ends
+//! with. What is wrong with the words, with an order, or with a file that cannot be read is told on standard error.
 #![tactic(auto)]
 
 pub mod input;
@@ -8,3 +8,4 @@ pub mod output;
 pub mod sheet;
 pub mod usage;
 pub mod view;
+pub mod why;

@@ -1,38 +1,52 @@
 //! The program `order`: what is said of one order of a round's doors.
-use crate::input::read_round;
-use crate::output::{answered, refused};
-use order_report::named::doors_named;
+use crate::input::round_in;
+use crate::output::{Status, answered, refused};
+use crate::usage::{file_argument, matched, program};
+use clap::{Arg, Command};
+use order_report::named::order_named;
 use order_report::report::{NoOrder, Report};
 use round::table::Round;
-use std::env;
-use std::process::ExitCode;
+use std::alloc::{AllocError, Global};
 
-/// The arguments, without the program's own name.
-fn arguments(rt: &HostRuntime) -> anyhow::Result<Vec<String>> {
-    let mut arguments = Vec::new(rt.alloc());
-    for argument in env::args(rt)?.skip(1) {
-        arguments.push(argument)?;
-    }
-    Ok(arguments)
+/// What the program takes.
+fn command<'a>(alloc: Global) -> Result<Command<'a>, AllocError> {
+    let about =
+        "Says of an order of a round's doors when each is finished, whether it is allowed, and what it costs";
+    let doors = Arg::new(alloc, "door")
+        .value_name("DOOR")
+        .num_args(1..)
+        .required(true)
+        .help("The round's doors, 1 to n, each once, in the order in which they are visited");
+    program(alloc, "order", about)?
+        .arg(doors)?
+        .arg(file_argument(alloc).long("round"))
 }
 
-/// Reports on the order that the arguments give.
-fn report_on(rt: &HostRuntime, round: &Round) -> anyhow::Result<ExitCode> {
-    let arguments = arguments(rt)?;
-    let Some(doors) = doors_named(arguments.as_slice(), rt.alloc())? else {
-        return refused(rt, NoOrder);
+/// Reports on the order that the words name, or else tells on standard error why they name none.
+fn report_on(rt: &HostRuntime, round: &Round, words: &[&str]) -> anyhow::Result<Status> {
+    let doors = match order_named(round, words, rt.alloc())? {
+        Ok(doors) => doors,
+        Err(fault) => {
+            eprintln!(rt; "error: {fault}")?;
+            return refused(rt, NoOrder);
+        }
     };
     match Report::of(round, doors.as_slice(), rt.alloc())? {
         Some(report) => answered(rt, report),
-        None => refused(rt, NoOrder),
+        None => unreachable!(),
     }
 }
 
-/// Reads a round, and reports on the order of its doors that the arguments give. What is refused, the text or the
-/// order, is printed as its refusal, with status 1.
-pub fn order_program(rt: &HostRuntime) -> anyhow::Result<ExitCode> {
-    match read_round(rt.stdin(), rt.alloc())? {
-        Ok(round) => report_on(rt, &round),
-        Err(refusal) => refused(rt, refusal),
+/// Reads a round, and reports on the order of its doors that the words name. What is refused, the text or the order, is printed
+/// as its refusal, with status 1, and of an order it is told on standard error what is wrong with it. Words that the program does
+/// not take end it with status 2, and a text that cannot be read with 3; both are told on standard error.
+pub fn order_program(rt: &HostRuntime, words: &[String]) -> anyhow::Result<Status> {
+    let matches = match matched(rt, command(rt.alloc())?, words)? {
+        Ok(matches) => matches,
+        Err(status) => return Ok(status),
+    };
+    match round_in(rt, matches.get_str("file"))? {
+        Ok(round) => report_on(rt, &round, matches.get_strs("door").unwrap_or_default()),
+        Err(status) => Ok(status),
     }
 }

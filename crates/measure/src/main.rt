@@ -3,8 +3,7 @@
 //! the next node, and all labels go into a sum, so that the sum tells of every turn.
 #![tactic(auto)]
 
-use cli::input::read_round;
-use cli::output::refused;
+use cli::input::round_in;
 use labels::blank::blank_node;
 use labels::relabel::relabel;
 use layers::node::{Arcs, Node};
@@ -91,11 +90,11 @@ fn measure(rt: &HostRuntime, round: &Round) -> anyhow::Result<()> {
 }
 
 fn main(rt: HostRuntime) -> anyhow::Result<ExitCode> {
-    match read_round(rt.stdin(), rt.alloc())? {
+    match round_in(&rt, None)? {
         Ok(round) => {
             measure(&rt, &round)?;
             Ok(ExitCode::SUCCESS)
         }
-        Err(refusal) => refused(&rt, refusal),
+        Err(status) => Ok(status.into()),
     }
 }

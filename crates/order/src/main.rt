@@ -1,9 +1,12 @@
 //! Says of one order of a round's doors when each door finishes, whether the order is allowed, and what it costs.
-//! The round's text comes on standard input, and the doors as arguments.
+//! The doors come as arguments, and the round's text in a file or on standard input.
 #![tactic(auto)]
 
+use cli::order::order_program;
+use cli::usage::words;
 use std::process::ExitCode;
 
 fn main(rt: HostRuntime) -> anyhow::Result<ExitCode> {
-    cli::order::order_program(&rt)
+    let words = words(&rt)?;
+    Ok(order_program(&rt, words.as_slice())?.into())
 }

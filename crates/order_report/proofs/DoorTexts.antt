@@ -26,20 +26,20 @@ teen j low high =
     let r : 48 + j % 10 ≡ 38 + j = omega arith in
     decimal_step j low (omega arith) ∙ ap₂ (λ (ds : List ℕ) (d : ℕ). ds ++ (d ∷ [])) (ap decimal q ∙ decimal_digit 1 (omega arith)) r
 
-pub one_digit_text : (text bytes : List ℕ) (j : ℕ) → bytes ≡ text → OneDigit bytes j → IsDoorText text j
+pub one_digit_text : (text bytes : List ℕ) (j : ℕ) → bytes ≡ text → OneDigit bytes j → IsDoorText 16 text j
 one_digit_text text bytes j e d = record {
   door = record { low = d.low; high = omega arith };
   digits = sym e ∙ text_from_reads bytes ((48 + j) ∷ []) d.long (d.digit, tt) ∙ sym (decimal_digit j (omega arith));
 }
 
-pub two_digits_text : (text bytes : List ℕ) (j : ℕ) → bytes ≡ text → TwoDigits bytes j → IsDoorText text j
+pub two_digits_text : (text bytes : List ℕ) (j : ℕ) → bytes ≡ text → TwoDigits bytes j → IsDoorText 16 text j
 two_digits_text text bytes j e d = record {
   door = record { low = omega arith; high = d.high };
   digits = sym e ∙ text_from_reads bytes (49 ∷ (38 + j) ∷ []) d.long (d.first, (d.last, tt)) ∙ sym (teen j d.low d.high);
 }
 
 -- no other bytes are the text of a door
-pub digits_of_door : (text bytes : List ℕ) (j : ℕ) → bytes ≡ text → IsDoorText text j → OneDigit bytes j ⊎ TwoDigits bytes j
+pub digits_of_door : (text bytes : List ℕ) (j : ℕ) → bytes ≡ text → IsDoorText 16 text j → OneDigit bytes j ⊎ TwoDigits bytes j
 digits_of_door text bytes j e t = ⊎_elim (λ h. inl (one h)) (λ h. inr (two h)) (cases_lt j 10)
   where
     one : j < 10 → OneDigit bytes j

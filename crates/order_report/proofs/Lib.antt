@@ -1,3 +1,4 @@
 mod DoorTexts
 mod Lines
 mod Meaning
+mod WordOrders

@@ -1,3 +1,5 @@
+pub mod FaultTexts
+pub mod Faults
 pub mod Named
 pub mod Reports
 pub mod Texts

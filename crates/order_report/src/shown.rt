@@ -1,4 +1,5 @@
 //! How a report reads: lines of fields, with tabs between the fields and a line feed at the end of each line.
+use crate::named::OrderFault;
 use crate::report::{NoOrder, Report};
 use orders::verdict::Verdict;
 use std::fmt;
@@ -51,5 +52,24 @@ impl fmt::Display for NoOrder {
 
     fn fmt<W: fmt::Write>(&self, f: &mut fmt::Formatter<W>) -> fmt::Result {
         write!(f, "refused\torder")
+    }
+}
+
+/// What is wrong with the words, in plain words on one line, with no line feed.
+impl fmt::Display for OrderFault<'_> {
+    ghost use Rattle.std.specs.Prelude.{Some};
+    ghost use Rattle.order_report.specs.FaultTexts.{fault_text};
+
+    ghost output = { λ fault. Some (fault_text fault) };
+
+    fn fmt<W: fmt::Write>(&self, f: &mut fmt::Formatter<W>) -> fmt::Result {
+        match self {
+            OrderFault::NoDoor { word, n } => write!(
+                f,
+                "'{word}' is no door of this round: its doors are 1 to {n}, in digits with no leading zero"
+            ),
+            OrderFault::Twice(door) => write!(f, "door {door} comes twice"),
+            OrderFault::Missing(door) => write!(f, "door {door} is missing"),
+        }
     }
 }

@@ -1,11 +1,14 @@
-//! The round sheet: reads a round's text on standard input, opens its diagram, refines it, and prints a cost that no
-//! allowed order undercuts, and which doors have to come ahead of which.
+//! The round sheet: reads a round's text in a file or on standard input, opens its diagram, refines it, and prints a cost
+//! that no allowed order undercuts, and which doors have to come ahead of which.
 #![tactic(auto)]
 
+use cli::sheet::sheet_program;
+use cli::usage::words;
 use round_sheet::sheet::EMPTY;
 use std::process::ExitCode;
 
 fn main(rt: HostRuntime) -> anyhow::Result<ExitCode> {
     let mut records = [EMPTY; 257];
-    cli::sheet::sheet_program(&rt, &mut records)
+    let words = words(&rt)?;
+    Ok(sheet_program(&rt, words.as_slice(), &mut records)?.into())
 }

@@ -3,3 +3,5 @@ pub mod Texts
 pub mod Forms
 pub mod Backs
 pub mod Lawful
+mod Unmet
+mod Stops

@@ -7,6 +7,8 @@ pub mod Kinds
 pub mod Drafts
 pub mod Steps
 pub mod Reading
+pub mod Faults
+pub mod Flaws
 pub mod Form
 pub mod Rounds
 pub mod Codes

@@ -1,5 +1,5 @@
 -- Which line may come next, and what it does.
-use Rattle.std.specs.Prelude.{⊤, ℕ, ◌+◌, ◌≤◌, List, [], Ok, Err, Result, nat_lt, slice_index_or, if◌then◌else◌}
+use Rattle.std.specs.Prelude.{ℕ, ◌+◌, ◌≤◌, List, [], Ok, Err, Result, nat_lt, slice_index_or, if◌then◌else◌}
 use Rattle.text.specs.declared.refusal.Refusal.{Refusal}
 use Rattle.text.specs.declared.refusal.Refusal.TheVariants.{NotDue}
 use Rattle.text.specs.declared.kind.Kind.{Kind}
@@ -13,8 +13,8 @@ use Rattle.text.specs.Drafts.{with_head, with_door, with_row, with_pair, with_ke
 
 -- what a stage asks of the draft
 abbrev pub Ready : Stage → Draft → Type 0
-Ready Head d = ⊤
-Ready (Doors k) d = (k ≤ d.n) × (d.n ≤ 16)
+Ready Head d = d.n ≤ 16
+Ready (Doors k) d = (k ≤ d.n) × (d.n ≤ 16) × (1 ≤ k)
 Ready (Drives k) d = (k ≤ d.n) × (d.n ≤ 16)
 Ready Pairs d = d.n ≤ 16
 Ready Keepers d = d.n ≤ 16

@@ -71,4 +71,20 @@ impl<'a> Line<'a> {
     {
         token_of(self.fields[field - 1], self.number, field)
     }
+
+    /// The bytes of the field of that number, from 1; where there is none, it is empty.
+    pub(crate) fn field(&self, field: usize) -> &'a [u8]
+        requires some { 1 ≤ field }
+        requires most { field ≤ 18 }
+        ensures { result.now ≡ slice_index_or (fields_in self.now.bytes.now) (field - 1) [] }
+    {
+        self.fields[field - 1]
+    }
+
+    /// The bytes of the line.
+    pub(crate) fn bytes(&self) -> &'a [u8]
+        ensures { result ≡ self.now.bytes }
+    {
+        self.bytes
+    }
 }

@@ -3,13 +3,15 @@ ghost use Rattle.std.specs.Prelude.{◌≡◌, List, ℕ, ◌≤◌, length, sli
 ghost use Rattle.std.specs.Borrow.{Bor};
 ghost use Rattle.text.specs.Kinds.{named};
 
-#[derive(Clone, Copy)]
-pub(crate) enum Kind {
+/// The kind of a line.
+#[derive(Clone, Copy, Debug, PartialEq, Eq)]
+pub enum Kind {
     Round,
     Door,
     Drive,
     First,
     Keeper,
+    /// what names no kind
     Other,
 }
 

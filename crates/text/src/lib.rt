@@ -8,13 +8,15 @@
 
 mod cut;
 mod draft;
+pub mod fault;
 mod fields;
-mod kind;
+pub mod flaw;
+pub mod kind;
 mod line;
 mod number;
 pub mod reading;
 pub mod refusal;
-mod stage;
+pub mod stage;
 mod step;
 mod text;
 mod token;

@@ -7,7 +7,7 @@ use crate::text::draft_of;
 use round::table::Round;
 
 /// The longest text that is read where the length is bounded, in bytes.
-const LONGEST: usize = 16_384;
+pub(crate) const LONGEST: usize = 16_384;
 
 /// Writes the round whole once its text is accepted; a refusal leaves the round as it was.
 #[tactic(auto, using(crate::proofs::Forms::accepted_form))]

@@ -1,13 +1,16 @@
-/// Which kind of line is due.
-#[derive(Clone, Copy)]
-pub(crate) enum Stage {
+//! Which kind of line may come next.
+
+/// What the lines ahead lead to.
+#[derive(Clone, Copy, Debug, PartialEq, Eq)]
+pub enum Stage {
+    /// the round line
     Head,
-    /// the door that is next
+    /// the line of that door
     Doors(u16),
-    /// the place whose drives are next
+    /// the drives from that place
     Drives(u16),
-    /// pairs, or the first keeper
+    /// a pair or the first keeper, or the end of the text
     Pairs,
-    /// keepers alone
+    /// a keeper, or the end of the text
     Keepers,
 }

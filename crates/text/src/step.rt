@@ -1,5 +1,5 @@
 //! One line more of the text.
-ghost use Rattle.std.specs.Prelude.{◌≡◌, ◌≤◌, IfOk};
+ghost use Rattle.std.specs.Prelude.{◌≡◌, ◌≤◌, IfOk, OnErr};
 ghost use Rattle.text.specs.Lines.{fields_of};
 ghost use Rattle.text.specs.Steps.{Ready, went, keeper_step, kind_step, line_step};
 ghost use Rattle.text.specs.declared.kind.Kind.TheVariants.{Round, Door, Drive, First};
@@ -16,6 +16,7 @@ fn take_head(draft: &mut Draft, line: &Line<'_>) -> Result<Stage, Refusal>
     ensures step { went result draft.new
         ≡ kind_step Head Round draft.old line.now.number (fields_of line.now) }
     ensures ready { IfOk result (λ s. Ready s draft.new) }
+    ensures stays { OnErr result (draft.new ≡ draft.old) }
 {
     draft.set_head(head_of(line)?);
     Ok(Stage::Doors(1))
@@ -27,6 +28,7 @@ fn take_door(draft: &mut Draft, due: u16, line: &Line<'_>) -> Result<Stage, Refu
     ensures step { went result draft.new
         ≡ kind_step (Doors due) Door draft.old line.now.number (fields_of line.now) }
     ensures ready { IfOk result (λ s. Ready s draft.new) }
+    ensures stays { OnErr result (draft.new ≡ draft.old) }
 {
     let door = door_due(line, draft.n, due)?;
     draft.set_door(due, door);
@@ -43,6 +45,7 @@ fn take_drive(draft: &mut Draft, from: u16, line: &Line<'_>) -> Result<Stage, Re
     ensures step { went result draft.new
         ≡ kind_step (Drives from) Drive draft.old line.now.number (fields_of line.now) }
     ensures ready { IfOk result (λ s. Ready s draft.new) }
+    ensures stays { OnErr result (draft.new ≡ draft.old) }
 {
     let row = row_due(line, draft.n, from)?;
     draft.set_row(from, row);
@@ -58,6 +61,7 @@ fn take_pair(draft: &mut Draft, line: &Line<'_>) -> Result<Stage, Refusal>
     ensures step { went result draft.new
         ≡ kind_step Pairs First draft.old line.now.number (fields_of line.now) }
     ensures ready { IfOk result (λ s. Ready s draft.new) }
+    ensures stays { OnErr result (draft.new ≡ draft.old) }
 {
     let pair = pair_of(line, draft.n)?;
     draft.add_pair(pair);
@@ -69,6 +73,7 @@ fn take_keeper(draft: &mut Draft, line: &Line<'_>) -> Result<Stage, Refusal>
     ensures step { went result draft.new
         ≡ keeper_step draft.old line.now.number (fields_of line.now) }
     ensures ready { IfOk result (λ s. Ready s draft.new) }
+    ensures stays { OnErr result (draft.new ≡ draft.old) }
 {
     let keeper = keeper_of(line, draft.n, &draft.keepers)?;
     draft.set_keeper(keeper);
@@ -81,6 +86,7 @@ pub(crate) fn take_line(draft: &mut Draft, stage: Stage, line: &Line<'_>) -> Res
     ensures step { went result draft.new
         ≡ line_step stage draft.old line.now.number (fields_of line.now) }
     ensures ready { IfOk result (λ s. Ready s draft.new) }
+    ensures stays { OnErr result (draft.new ≡ draft.old) }
 {
     match (stage, line.kind()) {
         (Stage::Head, Kind::Round) => take_head(draft, line),

@@ -2,10 +2,13 @@
 //! language, or one of its layers as a table.
 #![tactic(auto)]
 
+use cli::usage::words;
+use cli::view::view_program;
 use round_sheet::sheet::EMPTY;
 use std::process::ExitCode;
 
 fn main(rt: HostRuntime) -> anyhow::Result<ExitCode> {
     let mut records = [EMPTY; 257];
-    cli::view::view_program(&rt, &mut records)
+    let words = words(&rt)?;
+    Ok(view_program(&rt, words.as_slice(), &mut records)?.into())
 }

@@ -1,7 +1,6 @@
-use Rattle.std.proofs.Common.{take, string_bytes}
-use Rattle.std.specs.List.{AllZip}
-use Rattle.order_report.specs.Named.{IsDoorText}
+use Rattle.std.proofs.Common.{take}
+use Rattle.order_report.specs.Named.{NameDoors}
 use Rattle.order_report.proofs.named.doors_named.Given as goal
 
-abbrev pub invariant-loop-text : goal.invariant-loop-text
-invariant-loop-text l = AllZip (λ text. IsDoorText (string_bytes text)) (take l.text-index l.texts) l.doors.items
+abbrev pub invariant-loop-word : goal.invariant-loop-word
+invariant-loop-word l = NameDoors l.round.n (take l.word-index l.words) l.doors.items

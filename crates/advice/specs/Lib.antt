@@ -1,0 +1,9 @@
+pub mod Advices
+pub mod Expected
+pub mod Flaws
+pub mod Forms
+pub mod Found
+pub mod Items
+pub mod Parts
+pub mod Write
+pub mod Wrong

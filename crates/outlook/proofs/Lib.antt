@@ -1,0 +1,9 @@
+mod Splits
+mod Tables
+mod Ways
+mod DoorSets
+mod LoadSums
+mod KeptSets
+mod ChainLemmas
+mod ReasonLemmas
+mod TextLemmas

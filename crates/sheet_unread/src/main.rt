@@ -1,0 +1,13 @@
+//! The program `sheet` on a file that is not there.
+#![tactic(auto)]
+
+use cli::sheet::sheet_program;
+use cli::usage::words;
+use round_sheet::sheet::EMPTY;
+use std::process::ExitCode;
+
+fn main(rt: HostRuntime) -> anyhow::Result<ExitCode> {
+    let mut records = [EMPTY; 257];
+    let words = words(&rt)?;
+    Ok(sheet_program(&rt, words.as_slice(), &mut records)?.into())
+}
