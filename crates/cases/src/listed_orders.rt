@@ -1,6 +1,6 @@
 //! How many orders the lister gives, and which comes next.
 use crate::rounds::round_of;
-use lister::list::list;
+use lister::list::{Listed, list};
 use lister::next::next_order;
 use rules::keepers::Keepers;
 use rules::pairs::Pairs;
@@ -78,13 +78,20 @@ static APART: [[usize; 4]; 12] = [
     [4, 3, 2, 1],
 ];
 
+/// Whether these are the orders in which 1 and 3 do not stand side by side.
+fn is_apart(orders: &[Listed<u32>]) -> bool {
+    for (order, doors) in orders.iter().zip(&APART) {
+        if &order.doors[..4] != doors.as_slice() {
+            return false;
+        }
+    }
+    orders.len() == APART.len()
+}
+
 #[test]
 fn a_keeper_lets_in_with_another_door_between(rt: HostRuntime) -> Result<(), Fail> {
     let round = round_of(KEPT)?;
     let orders = list(rt.alloc(), &round, &Keepers::of(&round), &Driving)?;
-    assert_eq!(rt; orders.len(), APART.len());
-    for (order, doors) in orders.iter().zip(&APART) {
-        assert_eq!(rt; &order.doors[..4], doors.as_slice());
-    }
+    assert!(rt; is_apart(orders.as_slice()));
     Ok(())
 }

@@ -33,31 +33,31 @@ fn after(heap: Global, ahead: &[&[u8]], text: &[u8]) -> Result<(u8, usize, usize
 /// What follows the round line of one door.
 const ONE: &[u8] = b"door\t1\t2\t90\t80\t7\t-1\ndrive\t0\t33\ndrive\t1\t-\nkeeper\t1\t42\n";
 
+/// Round lines of one door, and the grid that each gives.
+static HEADS: [(&[u8], u16); 3] = [
+    (b"round\t1\t4\t5\n", 1),
+    (b"round\t1\t4\t5\t1\n", 1),
+    (b"round\t1\t4\t5\t60\n", 60),
+];
+
+/// Whether the round is that of such a line and what follows it, on any grid.
+fn is_example(round: &Round) -> bool {
+    let door = round.door(1);
+    let is_head = round.n == 1 && round.load == 4 && round.cap == 5;
+    let is_timed = door.opens == 2 && door.closes == 90 && door.due == 80 && door.work == 7;
+    let is_kept = door.change == -1 && round.keepers.starts_with(&[0, 42, 0]);
+    is_head && is_timed && is_kept && round.drive(0, 1) == 33
+}
+
 #[test]
 fn the_example_is_read_on_each_grid(rt: HostRuntime) -> Result<(), Fail> {
-    for (head, grid) in [
-        (b"round\t1\t4\t5\n".as_slice(), 1),
-        (b"round\t1\t4\t5\t1\n", 1),
-        (b"round\t1\t4\t5\t60\n", 60),
-    ] {
-        let text = [head, ONE].concat(rt.alloc())?;
+    for (head, grid) in &HEADS {
+        let text = [*head, ONE].concat(rt.alloc())?;
         let mut round = Round::fresh();
         round.grid = 7;
         read_bounded(&mut round, text.as_slice())?;
-        assert_eq!(rt;
-            (round.n, round.load, round.cap, round.grid),
-            (1, 4, 5, grid)
-        );
-        let door = round.door(1);
-        assert_eq!(rt;
-            (door.opens, door.closes, door.due, door.work),
-            (2, 90, 80, 7)
-        );
-        assert_eq!(rt; (door.change, round.drive(0, 1)), (-1, 33));
-        assert_eq!(rt;
-            (round.keepers[0], round.keepers[1], round.keepers[2]),
-            (0, 42, 0)
-        );
+        assert!(rt; is_example(&round), "{grid}");
+        assert_eq!(rt; round.grid, *grid);
     }
     Ok(())
 }
@@ -79,26 +79,31 @@ const NO_NUMBER: &[u8] =
 const TWO_KEEPERS: &[u8] =
     b"round\t1\t0\t0\ndoor\t1\t0\t9\t9\t1\t0\ndrive\t0\t1\ndrive\t1\t-\nkeeper\t1\t7\nkeeper\t1\t8\n";
 
+/// Texts, with the line that shows their refusal.
+static REFUSED: [(&[u8], &str); 3] = [
+    (b"round\t1\t5\t4\n", "refused\t4\t1\t4"),
+    (NO_NUMBER, "refused\t3\t4\t3"),
+    (TWO_KEEPERS, "refused\t29\t6\t2"),
+];
+
 #[test]
 fn a_refusal_is_shown_with_tabs(rt: HostRuntime) -> Result<(), Fail> {
-    for (text, line) in [
-        (b"round\t1\t5\t4\n".as_slice(), "refused\t4\t1\t4"),
-        (NO_NUMBER, "refused\t3\t4\t3"),
-        (TWO_KEEPERS, "refused\t29\t6\t2"),
-    ] {
+    for (text, line) in &REFUSED {
         let mut round = Round::fresh();
         let Err(refusal) = read_bounded(&mut round, text) else {
             return Err(Fail::new("read"));
         };
-        assert_eq!(rt; text_of(rt.alloc(), refusal)?.as_str(), line);
+        assert_eq!(rt; text_of(rt.alloc(), refusal)?.as_str(), *line);
     }
     Ok(())
 }
 
-/// Texts, with the number, line and field that each is refused with, and what is wrong.
-type Cases<'a> = &'a [(&'a [u8], (u8, usize, usize), &'a str)];
+/// A text, the number, line and field that it is refused with, and what is wrong.
+type Case<'a> = (&'a [u8], (u8, usize, usize), &'a str);
 
-const LINES: Cases<'static> = &[
+// A function of its own lends each table, since a check takes long over one that names them all.
+
+static LINES: [Case<'static>; 14] = [
     (b"", (1, 1, 1), "empty text"),
     (b"round\t1\t0\t0", (6, 1, 1), "no line feed"),
     (b"junk", (6, 1, 1), "6 ahead of 1"),
@@ -115,7 +120,12 @@ const LINES: Cases<'static> = &[
     (b"keeper\t1\t7\n", (1, 1, 1), "a keeper ahead of the round"),
 ];
 
-const NUMBERS: Cases<'static> = &[
+/// The first lines of a text.
+fn lines() -> &'static [Case<'static>] {
+    &LINES
+}
+
+static NUMBERS: [Case<'static>; 16] = [
     (b"round\t\t0\t0\n", (3, 1, 2), "empty field"),
     (b"round\t+1\t0\t0\n", (3, 1, 2), "plus"),
     (b"round\t01\t0\t0\n", (3, 1, 2), "leading zero"),
@@ -138,8 +148,13 @@ const NUMBERS: Cases<'static> = &[
     ),
 ];
 
+/// The numbers of its first line.
+fn numbers() -> &'static [Case<'static>] {
+    &NUMBERS
+}
+
 /// What may come where a door is due.
-const DOOR_LINES: Cases<'static> = &[
+static DOOR_LINES: [Case<'static>; 9] = [
     (b"door\t2\t0\t9\t9\t1\t0\n", (5, 2, 2), "out of turn"),
     (b"door\t3\t0\t9\t9\t1\t0\n", (4, 2, 2), "4 ahead of 5"),
     (
@@ -155,8 +170,13 @@ const DOOR_LINES: Cases<'static> = &[
     (b"keeper\t1\t7\n", (1, 2, 1), "a keeper ahead of the doors"),
 ];
 
+/// What may come where a door is due.
+fn door_lines() -> &'static [Case<'static>] {
+    &DOOR_LINES
+}
+
 /// What may come where drives are due.
-const DRIVE_LINES: Cases<'static> = &[
+static DRIVE_LINES: [Case<'static>; 10] = [
     (b"", (1, 4, 1), "drives are due"),
     (b"door\t3\t0\t9\t9\t1\t0\n", (1, 4, 1), "no third door"),
     (b"drive\t1\t-\t1\n", (5, 4, 2), "out of turn"),
@@ -173,8 +193,13 @@ const DRIVE_LINES: Cases<'static> = &[
     ),
 ];
 
+/// What may come where drives are due.
+fn drive_lines() -> &'static [Case<'static>] {
+    &DRIVE_LINES
+}
+
 /// What may come once all drives are there.
-const PAIR_LINES: Cases<'static> = &[
+static PAIR_LINES: [Case<'static>; 6] = [
     (b"", (0, 0, 0), "whole"),
     (b"drive\t0\t1\t1\n", (1, 7, 1), "one drive too many"),
     (b"first\t1\t2\nfirst\t1\t2\n", (0, 0, 0), "a pair twice"),
@@ -183,8 +208,13 @@ const PAIR_LINES: Cases<'static> = &[
     (b"first\t1\t2", (6, 7, 1), "no line feed"),
 ];
 
+/// What may come once all drives are there.
+fn pair_lines() -> &'static [Case<'static>] {
+    &PAIR_LINES
+}
+
 /// The lines of keepers, which may come then too.
-const KEEPER_LINES: Cases<'static> = &[
+static KEEPER_LINES: [Case<'static>; 26] = [
     (b"keeper\t1\t1\n", (0, 0, 0), "the least keeper"),
     (b"keeper\t2\t99\n", (0, 0, 0), "the greatest keeper"),
     (b"keeper\t2\t7\nkeeper\t1\t7\n", (0, 0, 0), "one for both"),
@@ -229,8 +259,13 @@ const KEEPER_LINES: Cases<'static> = &[
     ),
 ];
 
+/// The lines of keepers.
+fn keeper_lines() -> &'static [Case<'static>] {
+    &KEEPER_LINES
+}
+
 /// What may come after the keeper of door 1.
-const NEXT_LINES: Cases<'static> = &[
+static NEXT_LINES: [Case<'static>; 20] = [
     (b"keeper\t2\t7\n", (0, 0, 0), "the keeper of another door"),
     (b"keeper\t1\t7\n", (29, 8, 2), "the same line again"),
     (b"keeper\t1\t8\n", (29, 8, 2), "another keeper"),
@@ -273,23 +308,38 @@ const NEXT_LINES: Cases<'static> = &[
     (b"\n", (1, 8, 1), "blank line"),
 ];
 
-/// The parts of the text ahead of the cases.
-const GROUPS: &[(&[&[u8]], Cases<'static>)] = &[
-    (&[], LINES),
-    (&[], NUMBERS),
-    (&[HEAD], DOOR_LINES),
-    (&[HEAD, DOORS], DRIVE_LINES),
-    (&[HEAD, DOORS, DRIVES], PAIR_LINES),
-    (&[HEAD, DOORS, DRIVES], KEEPER_LINES),
-    (&[HEAD, DOORS, DRIVES, KEEPER], NEXT_LINES),
-];
+/// What may come after a keeper.
+fn next_lines() -> &'static [Case<'static>] {
+    &NEXT_LINES
+}
+
+/// What is wrong with the first of the texts that is read otherwise than it should be after these parts.
+fn first_wrong<'a>(
+    heap: Global,
+    ahead: &[&[u8]],
+    cases: &'a [Case<'a>],
+) -> Result<Option<&'a str>, AllocError> {
+    for (text, want, what) in cases {
+        if after(heap, ahead, text)? != *want {
+            return Ok(Some(*what));
+        }
+    }
+    Ok(None)
+}
 
 #[test]
 fn each_refusal_comes_where_it_should(rt: HostRuntime) -> Result<(), Fail> {
-    for (ahead, cases) in GROUPS {
-        for (text, want, what) in *cases {
-            assert_eq!(rt; after(rt.alloc(), ahead, text)?, *want, "{what}");
-        }
+    let parts: [&[u8]; 4] = [HEAD, DOORS, DRIVES, KEEPER];
+    for (ahead, cases) in [
+        (0, lines()),
+        (0, numbers()),
+        (1, door_lines()),
+        (2, drive_lines()),
+        (3, pair_lines()),
+        (3, keeper_lines()),
+        (4, next_lines()),
+    ] {
+        assert_eq!(rt; first_wrong(rt.alloc(), &parts[..ahead], cases)?, None);
     }
     Ok(())
 }
@@ -300,15 +350,18 @@ fn long(heap: Global, pairs: usize, last: &[u8]) -> Result<(u8, usize, usize), A
     after(heap, &[HEAD, DOORS, DRIVES, lines.as_slice()], last)
 }
 
+/// How many such lines, with the last bytes, how the text is read, and its length.
+static LONG: [(usize, &[u8], (u8, usize, usize), &str); 3] = [
+    (1630, b"", (0, 0, 0), "16,384 bytes"),
+    (1630, b"x", (7, 0, 0), "16,385 bytes, 7 ahead of 6"),
+    (1700, b"", (7, 0, 0), "longer"),
+];
+
 #[test]
 fn texts_up_to_16384_bytes(rt: HostRuntime) -> Result<(), Fail> {
     assert_eq!(rt; HEAD.len() + DOORS.len() + DRIVES.len(), 84);
-    for (pairs, last, want, what) in [
-        (1630, b"".as_slice(), (0, 0, 0), "16,384 bytes"),
-        (1630, b"x", (7, 0, 0), "16,385 bytes, 7 ahead of 6"),
-        (1700, b"", (7, 0, 0), "longer"),
-    ] {
-        assert_eq!(rt; long(rt.alloc(), pairs, last)?, want, "{what}");
+    for (pairs, last, want, what) in &LONG {
+        assert_eq!(rt; long(rt.alloc(), *pairs, last)?, *want, "{what}");
     }
     Ok(())
 }

@@ -54,54 +54,60 @@ fn shown(heap: Global, text: &[u8], line: &str) -> Result<String, Fail> {
     }
 }
 
+/// Rounds, with an order by its words, and its report.
+static REPORTS: [(&[u8], &str, &str); 6] = [
+    (THREE, "1 2 3", CLOSES_REPORT),
+    (LOAD, "1 3 2", LOAD_REPORT),
+    (QUARTER, "2 1 4 3", QUARTER_REPORT),
+    (KEPT, "3 4 1 2", TWICE_REPORT),
+    (KEPT, "2 3 1 4", BETWEEN_REPORT),
+    (FAR, "16 15 14 13 12 11 10 9 8 7 6 5 4 3 2 1", FAR_REPORT),
+];
+
 #[test]
 fn a_report_is_shown_in_lines(rt: HostRuntime) -> Result<(), Fail> {
-    for (text, line, report) in [
-        (THREE, "1 2 3", CLOSES_REPORT),
-        (LOAD, "1 3 2", LOAD_REPORT),
-        (QUARTER, "2 1 4 3", QUARTER_REPORT),
-        (KEPT, "3 4 1 2", TWICE_REPORT),
-        (KEPT, "2 3 1 4", BETWEEN_REPORT),
-        (FAR, "16 15 14 13 12 11 10 9 8 7 6 5 4 3 2 1", FAR_REPORT),
-    ] {
-        assert_eq!(rt; shown(rt.alloc(), text, line)?.as_str(), report);
+    for (text, line, report) in &REPORTS {
+        assert_eq!(rt; shown(rt.alloc(), text, line)?.as_str(), *report);
     }
     Ok(())
 }
 
+/// Rounds, with words that name no order, and what is told of them.
+static FAULTS: [(&[u8], &str, &str); 8] = [
+    (
+        THREE,
+        "3 3 4 0",
+        "'4' is no door of this round: its doors are 1 to 3, in digits with no leading zero",
+    ),
+    (
+        THREE,
+        "1 +2 3",
+        "'+2' is no door of this round: its doors are 1 to 3, in digits with no leading zero",
+    ),
+    (
+        THREE,
+        "1 2 ",
+        "'' is no door of this round: its doors are 1 to 3, in digits with no leading zero",
+    ),
+    (
+        FAR,
+        "1 17",
+        "'17' is no door of this round: its doors are 1 to 16, in digits with no leading zero",
+    ),
+    (THREE, "2 3 3 2", "door 3 comes twice"),
+    (FAR, "16 1 16", "door 16 comes twice"),
+    (THREE, "3", "door 1 is missing"),
+    (
+        FAR,
+        "16 15 14 13 12 11 9 8 7 6 5 4 3 2 1",
+        "door 10 is missing",
+    ),
+];
+
 #[test]
 fn the_first_fault_of_the_words_is_told(rt: HostRuntime) -> Result<(), Fail> {
-    for (text, line, told) in [
-        (
-            THREE,
-            "3 3 4 0",
-            "'4' is no door of this round: its doors are 1 to 3, in digits with no leading zero",
-        ),
-        (
-            THREE,
-            "1 +2 3",
-            "'+2' is no door of this round: its doors are 1 to 3, in digits with no leading zero",
-        ),
-        (
-            THREE,
-            "1 2 ",
-            "'' is no door of this round: its doors are 1 to 3, in digits with no leading zero",
-        ),
-        (
-            FAR,
-            "1 17",
-            "'17' is no door of this round: its doors are 1 to 16, in digits with no leading zero",
-        ),
-        (THREE, "2 3 3 2", "door 3 comes twice"),
-        (FAR, "16 1 16", "door 16 comes twice"),
-        (THREE, "3", "door 1 is missing"),
-        (
-            FAR,
-            "16 15 14 13 12 11 9 8 7 6 5 4 3 2 1",
-            "door 10 is missing",
-        ),
-    ] {
-        assert_eq!(rt; shown(rt.alloc(), text, line)?.as_str(), told);
+    for (text, line, told) in &FAULTS {
+        assert_eq!(rt; shown(rt.alloc(), text, line)?.as_str(), *told);
     }
     Ok(())
 }

@@ -75,21 +75,24 @@ fn shown(heap: Global, text: &[u8]) -> Result<String, Fail> {
     Ok(text_of(heap, sheet)?)
 }
 
+/// Rounds, with their sheets.
+static SHEETS: [(&[u8], &str); 10] = [
+    (THREE, THREE_SHEET),
+    (NONE, NONE_SHEET),
+    (KEPT, KEPT_SHEET),
+    (TWO_KEEPERS, TWO_KEEPERS_SHEET),
+    (DECIDED, DECIDED_SHEET),
+    (QUARTER, QUARTER_SHEET),
+    (LIFTED, LIFTED_SHEET),
+    (SPACED, SPACED_SHEET),
+    (FULL, FULL_SHEET),
+    (FREE, FREE_SHEET),
+];
+
 #[test]
 fn a_sheet_is_shown_in_lines(rt: HostRuntime) -> Result<(), Fail> {
-    for (text, sheet) in [
-        (THREE, THREE_SHEET),
-        (NONE, NONE_SHEET),
-        (KEPT, KEPT_SHEET),
-        (TWO_KEEPERS, TWO_KEEPERS_SHEET),
-        (DECIDED, DECIDED_SHEET),
-        (QUARTER, QUARTER_SHEET),
-        (LIFTED, LIFTED_SHEET),
-        (SPACED, SPACED_SHEET),
-        (FULL, FULL_SHEET),
-        (FREE, FREE_SHEET),
-    ] {
-        assert_eq!(rt; shown(rt.alloc(), text)?.as_str(), sheet);
+    for (text, sheet) in &SHEETS {
+        assert_eq!(rt; shown(rt.alloc(), text)?.as_str(), *sheet);
     }
     Ok(())
 }

@@ -44,7 +44,6 @@ impl<S: Copy, V: Copy> Test for LastMinutes<S, V> {
 
 /// Takes out each arc whose arrival finishes after its target's last minute to leave, by the labels that stand, tidies and labels
 /// anew, and answers how many arcs went. A list that has no room for the diagram is left alone.
-#[tactic(auto, unfolding(crate::specs::Steps::backsweep_steps, layers::specs::Calls::after_backsweep))]
 pub fn backsweep<R: Rule, T: Tally>(
     by: &Setting<'_, R, T>,
     nodes: &mut [Node<R::State, T::Value>],

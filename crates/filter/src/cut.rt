@@ -55,7 +55,6 @@ fn all_timely<S: Copy, V: Copy>(nodes: &[Node<S, V>], end: usize) -> bool
 
 /// Takes out each arc whose arrival has a value above the ceiling, by the labels that stand, tidies and labels anew, and answers
 /// how many arcs went. A list that has no room for the diagram, or has a finish that no diagram has, is left alone.
-#[tactic(auto, unfolding(crate::specs::Steps::cut_steps, layers::specs::Calls::after_cut))]
 pub fn cut<R: Rule, T: Tally>(
     by: &Setting<'_, R, T>,
     nodes: &mut [Node<R::State, T::Value>],

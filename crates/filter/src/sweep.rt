@@ -64,7 +64,6 @@ impl<'a, R: Rule, V: Copy> Test for SixTests<'a, R, V> {
 
 /// Takes out each arc that one of the six tests bars, by the labels that stand, tidies and labels anew, and answers how many
 /// arcs went. A list that has no room for the diagram is left alone.
-#[tactic(auto, using(labels::proofs::Folds::all_any), unfolding(crate::specs::Steps::sweep_steps, layers::specs::Calls::after_sweep))]
 pub fn sweep<R: Rule, T: Tally>(
     by: &Setting<'_, R, T>,
     nodes: &mut [Node<R::State, T::Value>],
@@ -92,7 +91,6 @@ pub fn sweep<R: Rule, T: Tally>(
 
 /// The same of records whose labels are those that this setting gives: if no arc goes, there is
 /// nothing to tidy and to label, and the list stays as it is.
-#[tactic(auto, using(labels::proofs::Folds::all_any), unfolding(crate::specs::Steps::sweep_labelled_steps, layers::specs::Calls::after_sweep))]
 pub fn sweep_labelled<R: Rule, T: Tally>(
     by: &Setting<'_, R, T>,
     nodes: &mut [Node<R::State, T::Value>],

@@ -41,7 +41,6 @@ pub(crate) fn arrive<R: Rule, T: Tally>(
 }
 
 /// What two arrivals have together.
-#[tactic(auto, unfolding(layers::specs::Labels::merge))]
 fn merge<R: Rule, T: Tally>(
     rule: &R,
     tally: &T,

@@ -29,7 +29,6 @@ fn unlabel<R: Rule, T: Tally>(rule: &R, tally: &T, vs: &mut [Node<R::State, T::V
 
 /// Works out all labels anew from the arcs: of arcs that a diagram may have, every label is as the definitions say. A list too
 /// short for the round and the width, and a width out of 1 to 128, are left alone.
-#[tactic(auto, using(std::proofs::lemmas::Bool::Decides::nat_tests, crate::proofs::Laying::relabelled_read), unfolding(crate::specs::Passes::relabelled))]
 pub fn relabel<R: Rule, T: Tally>(by: &Setting<'_, R, T>, nodes: &mut [Node<R::State, T::Value>])
     ensures passes { let by = lent_setting by.now (R.sense by.now.rule.now)
         (T.sense by.now.tally.now) in

@@ -24,7 +24,6 @@ const END: Up = Up {
 };
 
 /// The last minute to leave a node over an arc by door j with this leg, where `late` is that to leave its target.
-#[tactic(auto, unfolding(crate::specs::Passes::held_late))]
 fn late_over(round: &Round, leg: u16, late: i32, j: usize) -> i32
     requires { j < 17 }
     ensures { result ≡ held_late round.now leg late j }

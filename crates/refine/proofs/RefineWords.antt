@@ -106,8 +106,8 @@ module _ {S V : Type 0} (by : Setting S V) (self : (s : S) → by.rule.same s s 
           let downs : HasDownsBefore by i Ls zs = subst (λ (k : ℕ). HasDownsBefore by k Ls zs) back (kept-downs by room.low (later xs) (i - 1) Ls zs (omega (arith, q.left.well.deep)) st ∙ ap (λ ys. map down_of (take (suc (i - 1) * by.width) ys)) is) in
           let below : below_steps by i zs ≡ records_with by zs Ls =
           rw (ap (fits n by.width) q.long ∙ swept-fresh.sound.fit, le-leb 1 i lo, le-leb i n (omega arith)) (below-lawful by i Ls zs lo (omega arith) q.left.well q.left.holds.0 downs (placed-ready by Ls zs st.placed)) in
-          ap (λ (ys : Recs). ((layer_steps by i ys).0, below_steps by i (layer_steps by i ys).1)) (once-words (ltb 1 i) h)
-          ∙ ap₂ (λ (b : Bool) (ys : Recs). (b, ys)) q.answer (below ∙ sym is ∙ sym q.left.is)
+          ◌∙◌ {b = ((layer_steps by i (after_sweep by xs)).0, below_steps by i zs)} (ap (λ (ys : Recs). ((layer_steps by i ys).0, below_steps by i (layer_steps by i ys).1)) (once-words (ltb 1 i) h))
+          (ap₂ (λ (b : Bool) (ys : Recs). (b, ys)) q.answer (below ∙ sym is ∙ sym q.left.is))
 
       parts-fresh : Fresh (parts i xs).1
       unfolding records_with

@@ -59,7 +59,6 @@ fn refine_layer<R: Rule, T: Tally>(
     full
 }
 
-#[tactic(auto, using(crate::proofs::Turns::layers_more, crate::proofs::Turns::layers_none))]
 fn refine_layers<R: Rule, T: Tally>(
     by: &Setting<'_, R, T>,
     nodes: &mut [Node<R::State, T::Value>],

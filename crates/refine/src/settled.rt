@@ -12,7 +12,6 @@ use split::agreeing::agreed;
 
 /// Yes if the in-arcs of each node of the layers 1 to n - 1 agree and a sweep would take out nothing. A tally has no say in it.
 /// No for a list that has no room for the diagram.
-#[tactic(auto, using(std::proofs::lemmas::Bool::Decides::nat_tests), unfolding(crate::specs::Steps::settled_steps, split::specs::Steps::agreed_steps, layers::specs::Calls::is_settled))]
 pub fn settled<R: Rule, V: Copy>(
     round: &Round,
     rule: &R,

@@ -7,7 +7,7 @@ ghost use Rattle.std.proofs.Common.{rules};
 use tallies::tally::Tally;
 
 /// The tally of the latest finish so far.
-#[derive(Clone, Copy, Debug, PartialEq, Eq)]
+#[derive(Clone, Copy)]
 pub struct LatestFinish;
 
 impl Tally for LatestFinish {

@@ -6,7 +6,7 @@ ghost use Rattle.cases.specs.OpenerLaws.{opener_lawful, opener_lawful_for};
 use rules::rule::Rule;
 
 /// The rule that an order begins with this door, in rounds of n doors.
-#[derive(Clone, Copy, Debug, PartialEq, Eq)]
+#[derive(Clone, Copy)]
 pub struct Opener {
     pub n: usize,
     pub door: usize,

@@ -17,3 +17,9 @@ returns-in-Some-clause-exact c =
 pub returns-in-Some-missing-clause-exact : goal.returns-in-Some-missing-clause-exact
 returns-in-Some-missing-clause-exact c =
     ((λ e. cc), λ (w, o). absurd (no_fault c.args.round.now c.args.words.now w o (Missing c.in-Some-missing.door) (search rules)))
+
+pub returns-in-Err-clause-fault : goal.returns-in-Err-clause-fault
+returns-in-Err-clause-fault c = search rules
+
+pub returns-in-Some-clause-fault : goal.returns-in-Some-clause-fault
+returns-in-Some-clause-fault c = search rules

@@ -1,4 +1,4 @@
-use Rattle.std.proofs.Common.{ℕ, ⊎_elim, arith, subst}
+use Rattle.std.proofs.Common.{ℕ, ⊎_elim, arith, subst, rules}
 use Rattle.std.proofs.lemmas.Bool.{cases_lt}
 use Rattle.std.proofs.lemmas.List.{get_or_past}
 use Rattle.doors.specs.Sets.{Has}
@@ -14,3 +14,6 @@ returns c = λ i j. (
       (cases_lt j 17),
   λ h. (c.loop-j.invariant i j (omega (arith, leads_inside c.args.ahead.now i h.0 j h.1))).1 h,
 )
+
+pub loop-j-preserved : goal.loop-j-preserved
+loop-j-preserved c = search rules

@@ -1,7 +1,14 @@
+use Rattle.std.proofs.Common.{refl}
 use Rattle.layers.specs.Settings.{lent_setting}
 use Rattle.refine.specs.Steps.{refine_steps}
 use Rattle.refine.proofs.RefineWords.{refine_done}
 use Rattle.refine.proofs.refine.refine.Goals as goal
+
+pub returns-then-not-has_room-clause-within : goal.returns-then-not-has_room-clause-within
+returns-then-not-has_room-clause-within g c = tt
+
+pub returns-then-not-has_room-clause-answer : goal.returns-then-not-has_room-clause-answer
+returns-then-not-has_room-clause-answer g c = rw (← c.if-not-has_room.ensures) refl
 
 pub returns-clause-words : goal.returns-clause-words
 unfolding refine_steps

@@ -1,4 +1,4 @@
-use Rattle.std.proofs.Common.{ℕ, zero, suc, ◌≤◌, set, replicate, pos, negsuc, ◌≤ℤ◌, refl, arith}
+use Rattle.std.proofs.Common.{ℕ, zero, suc, ◌≤◌, set, replicate, pos, negsuc, ◌≤ℤ◌, refl, arith, rules}
 use Rattle.round.specs.declared.door.Door.{Door}
 use Rattle.round.specs.Tables.{blank, new_door, at}
 use Rattle.round.proofs.Fresh.{all_same, each-fresh, no-leg}
@@ -29,3 +29,6 @@ invariant_of-result c = record {
   keeper_most = λ j. omega (arith, all_same {A = ℕ} 17 0 j);
   keeper_yard = refl;
 }
+
+pub returns-clause-cap : goal.returns-clause-cap
+returns-clause-cap c = search rules

@@ -1,0 +1,5 @@
+use Rattle.std.proofs.Common.{rules}
+use Rattle.cli.proofs.view.refined.Goals as goal
+
+pub returns-clause-records : goal.returns-clause-records
+returns-clause-records c = search rules

@@ -1,0 +1,5 @@
+use Rattle.std.proofs.Common.{rules}
+use Rattle.round.proofs.table.Round.door.Goals as goal
+
+pub returns : goal.returns
+returns c = search rules

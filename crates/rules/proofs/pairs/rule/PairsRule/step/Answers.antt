@@ -1,0 +1,5 @@
+use Rattle.std.proofs.Common.{rules}
+use Rattle.rules.proofs.pairs.rule.PairsRule.step.Goals as goal
+
+pub returns-then-has_door : goal.returns-then-has_door
+returns-then-has_door c = search rules
