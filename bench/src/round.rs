@@ -33,7 +33,7 @@ pub struct Round {
 pub enum Keepers {
     /// no door has one
     None,
-    /// a few, and no two doors of one keeper directly follow each other in the order that a round is drawn around
+    /// a few, and the order that a round is drawn around never has a keeper twice running
     Apart,
     /// a few, as they come
     Wild,

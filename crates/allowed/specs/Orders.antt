@@ -25,7 +25,7 @@ pub record IsAllowedOrder (r : Round) (w : List ℕ) : Type 0 where
   pub ordered : IsOrdered r.ahead w
   -- the van holds 0 to cap key boxes after every door
   pub within : IsWithinCap r.load r.cap r.doors w
-  -- no two doors of one keeper directly follow each other
+  -- the van never goes from a door straight to another of the same keeper
   pub spaced : IsSpaced r.keepers w
   -- no door is finished after it closes
   pub timely : KeepsHours r w

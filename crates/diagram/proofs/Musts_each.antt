@@ -48,6 +48,6 @@ module _ {S V : Type 0} (n W : ℕ) (xs : List (Node S V)) where
   asked : (i j : ℕ) → IsDoor n i → IsDoor n j → i ≢ j → must_of n W xs i j ≡ must n W i j xs
   asked i j a b e = let al = a.low in let ah = a.high in let bl = b.low in let bh = b.high in grind (arith, nat_tests)
 
-  -- and so exactly when no path has j at an earlier place than i
+  -- and so exactly when j stands ahead of i on none of the paths
   pub musts-paths : n ≤ 16 → (i j : ℕ) → IsDoor n i → IsDoor n j → i ≢ j → MustMeans n W i j xs (has (get_or (musts n W xs) i 0) j)
   musts-paths most i j a b e = subst (MustMeans n W i j xs) (sym (musts-each most i j ∙ asked i j a b e)) (must-means n W i j xs)

@@ -42,8 +42,8 @@ impl<S: Copy, V: Copy> Test for LastMinutes<S, V> {
     }
 }
 
-/// Takes out each arc whose arrival finishes after its target's last minute to leave, by the labels that stand, tidies and labels
-/// anew, and answers how many arcs went. A list that has no room for the diagram is left alone.
+/// Takes out each arc over which its target is reached after the last minute to leave it, by the labels that stand, tidies and
+/// labels anew, and answers how many arcs went. A list that has no room for the diagram is left alone.
 pub fn backsweep<R: Rule, T: Tally>(
     by: &Setting<'_, R, T>,
     nodes: &mut [Node<R::State, T::Value>],

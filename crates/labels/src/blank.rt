@@ -6,7 +6,7 @@ use layers::node::{Arcs, Down, Label, Node, Up};
 use rules::rule::Rule;
 use tallies::tally::Tally;
 
-/// No arcs, empty sets, finish 0, and the starts of rule and tally.
+/// No arc, no door in any set, finish 0, and the starts of rule and tally.
 pub fn blank_node<R: Rule, T: Tally>(rule: &R, tally: &T) -> Node<R::State, T::Value>
     ensures { result ≡ blank_node (R.sense rule.now) (T.sense tally.now) }
 {

@@ -18,7 +18,7 @@ abbrev pub StandsAhead : ℕ → ℕ → List ℕ → Type 0
 StandsAhead i j [] = ⊥
 StandsAhead i j (k ∷ w) = ((i ≡ k) × StandsIn j w) ⊎ StandsAhead i j w
 
--- w is read along a path from the first node to the end, in the diagram of n doors and width W in these records
+-- some path of the diagram of n doors and width W in these records has the doors of w, from its first node on
 abbrev pub IsPath : {S V : Type 0} → ℕ → ℕ → List (Node S V) → List ℕ → Type 0
 IsPath n W xs w = PathFrom (arcs n W xs) 0 w
 
@@ -29,7 +29,7 @@ pub record MustMeans {S V : Type 0} (n W i j : ℕ) (xs : List (Node S V)) (b : 
 
 -- of the records xs, which the calls cs left
 module _ {S V : Type 0} (by : Setting S V) (Keeps : List ℕ → Type 0) (cs : List (Call V)) where
-  -- an allowed order whose cost is above none of the ceilings
+  -- an allowed order that no ceiling rules out: its cost is above none of them
   abbrev pub Wanted : List ℕ → Type 0
   Wanted w = IsAllowed by.round Keeps w × EachCut (λ c. by.tally.not_above (cost by.round by.tally w) c ≡ true) cs
 
@@ -37,7 +37,7 @@ module _ {S V : Type 0} (by : Setting S V) (Keeps : List ℕ → Type 0) (cs : L
   pub record NothingLost (xs : List (Node S V)) : Type 0 where
     -- every wanted order is a path
     pub still : (w : List ℕ) → Wanted w → IsPath by.round.n by.width xs w
-    -- the bound is not above the cost of any
+    -- no wanted order costs less than the bound
     pub low : (w : List ℕ) (v : V) → Wanted w → bound by.round.n by.width xs ≡ Some v → by.tally.not_above v (cost by.round by.tally w) ≡ true
     -- if there is none, no order is wanted
     pub low_none : bound by.round.n by.width xs ≡ None → (w : List ℕ) → Wanted w → ⊥

@@ -61,7 +61,7 @@ pub record Labelled {S V : Type 0} (r : Round) (Allows : ℕ → V → Type 0) (
   -- a path leads to the node, and one on from it to the end, unless it is the first node: in an empty diagram only that stands
   pub reached : (w : List ℕ) × LeadsTo D i a w
   pub leads : 1 ≤ i → (w : List ℕ) × LeadsOn D i a w
-  -- the doors on every path to the node, and on at least one
+  -- which doors every path to the node has, and which some path
   pub all : Exactly x.label.down.all (OnEvery (LeadsTo D i a))
   pub some : Exactly x.label.down.some (OnOne (LeadsTo D i a))
   -- the doors on every path from it to the end, and on at least one

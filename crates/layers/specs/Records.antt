@@ -46,7 +46,7 @@ module _ {S V : Type 0} where
   abbrev pub arcs_read : List (Node S V) → List Arcs
   arcs_read = map (λ x. x.arcs)
 
--- ---- writing: arcs, with all labels worked out anew from them; an unused place has no arcs, empty sets, finish 0 and the starts
+-- ---- writing: arcs, with all labels worked out anew from them; an unused place is blank, with the starts of rule and tally
 -- the targets by all sixteen doors: 0 past the last of the round
 abbrev pub padded_targets : Outs → List ℕ
 padded_targets nd = table 16 (λ k. slice_index nd k)

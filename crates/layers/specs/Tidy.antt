@@ -1,5 +1,5 @@
--- Tidying: nodes on no path go, with their arcs, and the rest renumber in order. `TidyLaws` says in words of paths what it leaves, and
--- that nothing else is so: nobody has to believe the steps here.
+-- Tidying: only nodes on a path are left, numbered anew as they stood. `TidyLaws` says in words of paths what that comes to, and that
+-- nothing else is so: nobody has to believe the steps here.
 use Rattle.std.specs.Prelude.{ℕ, zero, suc, Bool, true, false, if◌then◌else◌, ◌&&◌, List, [], ◌∷◌, Some, Option, is_some, slice_index_or}
 use Rattle.layers.specs.Net.{Layer, Net, width, redirect}
 use Rattle.layers.specs.Flow.{next, up}

@@ -36,7 +36,7 @@ pub record IsRenumbered (D : Net) (i : ℕ) (old new : Outs) : Type 0 where
   pub doors : length new ≡ length old
   pub arcs : (j c : ℕ) → (target new j ≡ suc c) ↔ ((b : ℕ) × (target old j ≡ suc b) × Becomes D (suc i) b c)
 
--- E is what is left of D when the nodes on no path go, with their arcs, and the others are numbered anew in their order
+-- E is what is left of D when only the nodes on a path and the arcs between them stay, numbered anew as they stood
 pub record IsTidied (D E : Net) : Type 0 where
   -- the paths from the first node to the end are the same
   pub paths : (w : List ℕ) → PathFrom E 0 w ↔ PathFrom D 0 w

@@ -26,7 +26,8 @@ pub fn settled_means<R: Rule, T: Tally>(rule: &R, tally: &T)
 {}
 
 /// In such a run the sets of each node that stands are the doors on every path to it and on at least one, and likewise on from it
-/// to the end; its finish is within the clock's bound for its layer, and its value is one that the tally allows there.
+/// to the end; its finish is within the clock's bound for its layer, its value is one that the tally allows there, and its late is
+/// not below any minute at which an order through it can leave it and keep all later hours.
 pub fn labels_mean<R: Rule, T: Tally>(rule: &R, tally: &T)
     ensures { LabelsMean (R.serves rule.now) (R.sense rule.now) (T.serves tally.now)
         (T.sense tally.now) (T.allows tally.now) }

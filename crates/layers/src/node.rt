@@ -7,7 +7,7 @@ pub struct Arcs {
     pub to: [u8; 16],
 }
 
-/// What is worked out from the first node: the doors on every path to the node and on at least one, the least finish,
+/// What is worked out from the first node: which doors every path to the node has, and which some path, the least finish,
 /// the last places, the rule's state and the least cost.
 #[derive(Clone, Copy)]
 pub struct Down<S, V> {

@@ -1,4 +1,4 @@
--- The clock of a round. What is built on it uses the laws below, and not the text of `finish`.
+-- The clock of a round. Proofs above it use the laws below alone; what `finish` says is for the reader, and for examples that compute.
 use Rattle.std.specs.Prelude.{◌≡◌, ℕ, suc, ◌+◌, ◌*◌, ◌%◌, ◌≤◌, max}
 use Rattle.std.specs.Int.{next_multiple_of}
 use Rattle.round.specs.declared.door.Door.{Door}
@@ -34,9 +34,9 @@ latest_finish k = 9999 + k * 2057
 
 -- What the clock promises.
 pub record ClockLaws (r : Round) : Type 0 where
-  -- leaving later, or driving longer, never means finishing earlier
+  -- whoever leaves later or drives longer is not done sooner
   pub later : (f f' g g' j : ℕ) → f ≤ f' → g ≤ g' → finish r f g j ≤ finish r f' g' j
-  -- a finish is not before departure plus drive plus work
+  -- driving and work take at least their minutes, from the departure on
   pub after : (f g j : ℕ) → f + g + (door r j).work ≤ finish r f g j
   -- one step more, to any door, new or not, with a drive of the table's length
   pub bound : (k f g j : ℕ) → f ≤ latest_finish k → g ≤ 999 → finish r f g j ≤ latest_finish (suc k)

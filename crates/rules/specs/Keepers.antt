@@ -9,7 +9,7 @@ use Rattle.rules.specs.Rules.{RuleSense}
 abbrev pub ShareKeeper : List ℕ → ℕ → ℕ → Type 0
 ShareKeeper keepers i j = (slice_index keepers j ≢ 0) × (slice_index keepers i ≡ slice_index keepers j)
 
--- no two doors of one keeper directly follow each other in w
+-- w never goes from a door straight to another of the same keeper
 abbrev pub IsSpaced : List ℕ → List ℕ → Type 0
 IsSpaced keepers w = (u : List ℕ) (i j : ℕ) (v : List ℕ) → w ≡ u ++ i ∷ j ∷ v → ¬ ShareKeeper keepers i j
 
@@ -41,7 +41,7 @@ share_as_others keepers i j = not (i == j) && share_keeper keepers i j
 abbrev pub only_door : ℕ → ℕ → ℕ → ℕ
 only_door n s j = if is_door n j then 2 ^ j else s
 
--- j is a door of the round, s has a member other than j, and all such members share j's keeper
+-- j is a door of the round, and s has members beside it, all of them doors of j's keeper
 abbrev pub repeats_keeper : ℕ → List ℕ → ℕ → ℕ → Bool
 repeats_keeper n keepers s j = is_door n j && (any_other s j && all_share keepers s j)
 

@@ -10,24 +10,24 @@ pub record RuleSense (S : Type 0) : Type 0 where
   pub bars : S → ℕ → Bool
   pub same : S → S → Bool
 
--- the state of a part order: start, stepped through its doors
+-- the state that a part order leads to, door by door from the start
 abbrev pub state_of : {S : Type 0} → RuleSense S → List ℕ → S
 state_of R w = fold R.step R.start w
 
 -- The laws, for rounds of n doors: Keeps says which part orders keep the rule, and Stands which part orders a state stands for.
 pub record RuleLaws {S : Type 0} (n : ℕ) (R : RuleSense S) (Keeps : List ℕ → Type 0) (Stands : S → List ℕ → Type 0) : Type 0 where
-  -- the empty part order keeps the rule, and so does every beginning of one that does
+  -- the rule is kept before the first door, and up to any door of a part order that keeps it
   pub keeps_none : Keeps []
   pub keeps_front : (w v : List ℕ) → IsPartOrder n (w ++ v) → Keeps (w ++ v) → Keeps w
   -- start stands for the empty part order
   pub start_stands : Stands R.start []
   -- if s stands for w, then step(s, j) for w followed by j
   pub step_stands : (s : S) (w : List ℕ) (j : ℕ) → CanFollow n w j → Stands s w → Stands (R.step s j) (w ++ j ∷ [])
-  -- cover(s, t) stands for all that s or t stands for, and cover(s, s) is s
+  -- what either state stands for, their cover stands for too; a state covers itself
   pub cover_left : (s t : S) (w : List ℕ) → IsPartOrder n w → Stands s w → Stands (R.cover s t) w
   pub cover_right : (s t : S) (w : List ℕ) → IsPartOrder n w → Stands t w → Stands (R.cover s t) w
   pub cover_same : (s : S) → R.cover s s ≡ s
-  -- if a state that stands for w bars j, then w followed by j breaks the rule
+  -- a door is barred at a state only if it breaks the rule behind all that the state stands for
   pub bars_breaks : (s : S) (w : List ℕ) (j : ℕ) → CanFollow n w j → Stands s w → R.bars s j ≡ true → ¬ Keeps (w ++ j ∷ [])
   -- what the state of w itself does not bar keeps the rule
   pub clear_keeps : (w : List ℕ) (j : ℕ) → CanFollow n w j → Keeps w → R.bars (state_of R w) j ≡ false → Keeps (w ++ j ∷ [])

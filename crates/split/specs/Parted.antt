@@ -1,4 +1,4 @@
--- A node parted: the in-arcs that do not stay go to a new node, numbered last, with the same out-arcs.
+-- A node parted: a new last node takes the in-arcs that do not stay, and copies the out-arcs.
 -- `stays` is asked of the label of an in-arc's source, and its door.
 -- Nobody has to believe these steps: `words` of `part` and of `part_layer` say what they come to.
 use Rattle.std.specs.Prelude.{ℕ, suc, Bool, if◌then◌else◌, not, ◌&&◌, ◌||◌, List, ◌++◌, map, take, drop, ◌==◌, slice_index_or, slice_set}

@@ -1,4 +1,4 @@
--- Driving: the legs, added; a number that would pass 1,000,000 stays there.
+-- Driving: the legs, added, up to 1,000,000.
 use Rattle.std.specs.Prelude.{if◌then◌else◌, ℕ, ◌+◌, min, nat_le}
 use Rattle.tallies.specs.Tallies.{TallySense}
 

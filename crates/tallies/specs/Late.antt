@@ -9,7 +9,7 @@ use Rattle.tallies.specs.Tallies.{TallySense}
 abbrev pub late_by : ℕ → List Door → ℕ → ℕ → ℕ
 late_by n doors j finish = if is_door n j then finish - (at doors j).due else 0
 
--- one more door, late by m minutes, or on time where m is 0; a number that would pass 1,000,000 stays there
+-- one more door, late by m minutes, or on time where m is 0; neither number goes above 1,000,000
 abbrev pub late_count : ℕ × ℕ → ℕ → ℕ × ℕ
 late_count v m = if nat_lt 0 m then (min (v.0 + 1) 1000000, min (v.1 + m) 1000000) else v
 

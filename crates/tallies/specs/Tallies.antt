@@ -12,18 +12,18 @@ pub record TallySense (V : Type 0) : Type 0 where
 
 -- The laws, for rounds of n doors: Allows k says which values are allowed after k doors.
 pub record TallyLaws {V : Type 0} (n : ℕ) (T : TallySense V) (Allows : ℕ → V → Type 0) : Type 0 where
-  -- not-above is a total order on all values
+  -- any two values can be compared, and compare as numbers do
   pub order_self : (a : V) → T.not_above a a ≡ true
   pub order_chain : (a b c : V) → T.not_above a b ≡ true → T.not_above b c ≡ true → T.not_above a c ≡ true
   pub order_same : (a b : V) → T.not_above a b ≡ true → T.not_above b a ≡ true → a ≡ b
   pub order_total : (a b : V) → T.not_above a b ≡ false → T.not_above b a ≡ true
-  -- lesser(a, b) is a if a is not above b, else b
+  -- the lesser of two is the first, unless it is above the second
   pub lesser_is : (a b : V) → T.lesser a b ≡ (if T.not_above a b then a else b)
   -- start is allowed after 0 doors, and a step leads from k doors to k + 1
   pub start_allowed : Allows 0 T.start
   pub step_allowed : (k : ℕ) (v : V) (j leg finish : ℕ) → k < 16 → IsDoor n j → leg ≤ 999 → finish ≤ latest_finish 16 → Allows k v → Allows (suc k) (T.step v j leg finish)
-  -- on those values a step never falls when value, leg or finish rises
+  -- with a greater value, a longer leg or a later finish the step gives no less
   pub step_rises : (k : ℕ) (v v' : V) (j leg leg' finish finish' : ℕ) → k < 16 → IsDoor n j → leg ≤ leg' → leg' ≤ 999 → finish ≤ finish' → finish' ≤ latest_finish 16
       → Allows k v → Allows k v' → T.not_above v v' ≡ true → T.not_above (T.step v j leg finish) (T.step v' j leg' finish') ≡ true
-  -- on those values v is not above its step
+  -- a step never lowers the value
   pub step_above : (k : ℕ) (v : V) (j leg finish : ℕ) → k < 16 → IsDoor n j → leg ≤ 999 → finish ≤ latest_finish 16 → Allows k v → T.not_above v (T.step v j leg finish) ≡ true

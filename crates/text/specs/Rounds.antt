@@ -25,7 +25,7 @@ abbrev pub Reads : {A : Type 0} → Result A Refusal → Round → Round → Lis
 Reads (Ok u) was is text = read_text text ≡ Ok (contents is)
 Reads (Err e) was is text = (read_text text ≡ Err e) × (is ≡ was)
 
--- a text is accepted exactly if it has the form of a round's text
+-- what is accepted is what has the form of a round's text, and nothing else
 abbrev pub Accepts : {A : Type 0} → Result A Refusal → Round → List ℕ → Type 0
 Accepts (Ok u) is text = HasForm text (contents is)
 Accepts (Err e) is text = (d : Draft) → ¬ HasForm text d

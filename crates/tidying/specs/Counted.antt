@@ -1,4 +1,5 @@
--- How many arcs leave a record, and several.
+-- How many arcs leave a record, and several, as the code counts them. Nobody has to believe it: on the records of a diagram it is
+-- the `count_arcs` of layers.
 use Rattle.std.specs.Prelude.{ℕ, List, sum_by}
 use Rattle.layers.specs.declared.node.Node.{Node}
 use Rattle.layers.specs.Net.{count_doors}

@@ -1,4 +1,5 @@
--- The nodes of a layer are its places in use, which stand first (`nodes_in`): the passes go over them alone.
+-- The nodes of a layer are its places in use, which stand first (`nodes_in`): the passes go over them alone. Nobody has to believe
+-- these steps.
 use Rattle.std.specs.Prelude.{List, ◌++◌, length, drop}
 use Rattle.layers.specs.declared.node.Node.{Node}
 use Rattle.layers.specs.Records.{nodes_in}

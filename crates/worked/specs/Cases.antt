@@ -76,7 +76,7 @@ pub record Sheet (r : Round) (lent : List Place) : Type 0 where
 
 -- the round of the sheet, door 2 closing at 9 or at 8
 pub record AsPrinted (r : Round) (lent : List Place) : Type 0 where
-  -- order 1, 3, 2 finishes at 2, 6, 8 and is allowed; 1, 2, 3 ends at 9 and is not
+  -- by 1, 3, 2 the doors are finished at 2, 6 and 8, in time; by 1, 2, 3 the last is finished at 9, too late
   pub minutes : finish_minutes r (1 ∷ 3 ∷ 2 ∷ []) ≡ 2 ∷ 6 ∷ 8 ∷ []
   pub is_allowed : IsAllowed r (KeepsRules r) (1 ∷ 3 ∷ 2 ∷ [])
   pub ends_late : finish_of r (1 ∷ 2 ∷ 3 ∷ []) ≡ 9
@@ -84,19 +84,19 @@ pub record AsPrinted (r : Round) (lent : List Place) : Type 0 where
   -- the verdicts say so: 1, 3, 2 is allowed, and 1, 2, 3 finishes door 3 after it closes
   pub says_allowed : verdict r (side_of r) (1 ∷ 3 ∷ 2 ∷ []) ≡ is.Allowed
   pub says_closes : verdict r (side_of r) (1 ∷ 2 ∷ 3 ∷ []) ≡ is.Closes 3
-  -- 1, 3, 2 costs 0 driving, (1, 1) late doors
+  -- what 1, 3, 2 costs by either tally: no minute driven, one late door by one minute
   pub drives : cost r driving_sense (1 ∷ 3 ∷ 2 ∷ []) ≡ 0
   pub lateness : cost r (late_of r) (1 ∷ 3 ∷ 2 ∷ []) ≡ (1, 1)
-  -- the bound at opening is (0, 0); four sweeps answer 2, 3, 1, 0
+  -- just opened, the bound is no late door; what each of four sweeps takes out
   pub at_opening : bound 3 16 (sweeps r 16 0 lent) ≡ Some (0, 0)
   pub four_sweeps : answer r 16 0 lent ∷ answer r 16 1 lent ∷ answer r 16 2 lent ∷ answer r 16 3 lent ∷ [] ≡ 2 ∷ 3 ∷ 1 ∷ 0 ∷ []
   -- what refine leaves
   pub sheet : Sheet r lent
-  -- after those sweeps, cut at (1, 1) answers 0, then at (1, 0) answers 3
+  -- a cut behind them at the order's own cost takes out nothing, one a minute below it the whole path
   pub cut_none : cut_answer (by r 16) (1, 1) (sweeps r 16 4 lent) ≡ 0
   pub cut_three : cut_answer (by r 16) (1, 0) (after_cut (by r 16) (1, 1) (sweeps r 16 4 lent)) ≡ 3
 
--- with door 2 closing at 7, refine is whole and there is no bound
+-- door 2 closes at 7: no order is allowed
 pub record ClosedEarly (r : Round) (lent : List Place) : Type 0 where
   pub whole : (fine r 16 lent).0 ≡ Whole
   pub none : bound 3 16 (fine r 16 lent).1 ≡ None
@@ -104,15 +104,15 @@ pub record ClosedEarly (r : Round) (lent : List Place) : Type 0 where
   pub none_of_six : map (λ w. holds 3 16 w (fine r 16 lent).1) six ≡ replicate 6 false
   pub first_node : counts 16 (fine r 16 lent).1 ≡ Ok 1 ∷ Ok 0 ∷ Ok 0 ∷ Ok 0 ∷ Err NoLayer ∷ []
 
--- three doors open 0 to 9,999, due 9,999, work 1, no drive minutes, where 2 has to come ahead of 1
+-- three doors with all the time there is and a minute of work each, of which 2 has to come ahead of 1
 pub record Paired (r : Round) (lent : List Place) : Type 0 where
-  -- at width 2: sweep answers 1; part(1, 1) moves door 3's arc; sweep answers 3
+  -- at width 2 a sweep takes out one arc; node 1 of layer 1 is parted, and the arc by door 3 goes to the new node; then a sweep takes out three
   pub sweep_one : answer r 2 0 lent ≡ 1
   pub parts : part_answer (by r 2) 1 1 (sweeps r 2 1 lent) ≡ Ok tt
   pub before_part : slice_index_or (arcs 3 2 (sweeps r 2 1 lent)) 0 [] ≡ (0 ∷ 1 ∷ 1 ∷ []) ∷ []
   pub part_moves : slice_index_or (arcs 3 2 (after_part (by r 2) 1 1 (sweeps r 2 1 lent))) 0 [] ≡ (0 ∷ 1 ∷ 2 ∷ []) ∷ []
   pub sweep_three : sweep_answer (by r 2) (after_part (by r 2) 1 1 (sweeps r 2 1 lent)) ≡ 3
-  -- just opened: refine at width 2 is full at layer 2 and settled no; at width 3 whole, must(2, 1) yes, must(3, 1) no
+  -- refined from opening on: width 2 does not suffice, width 3 does, and then 2 ahead of 1 is a must, and 3 ahead of 1 is none
   pub full_at_2 : (fine r 2 lent).0 ≡ Full 2
   pub not_settled : is_settled (by r 2) (fine r 2 lent).1 ≡ false
   pub whole_at_3 : (fine r 3 lent).0 ≡ Whole
@@ -161,7 +161,7 @@ pub record HandedLayers (r : Round) (lent : List Place) : Type 0 where
   pub how_many : counts 3 (fine r 3 lent).1 ≡ Ok 1 ∷ Ok 2 ∷ Ok 3 ∷ Ok 1 ∷ Err NoLayer ∷ []
   pub which : layer_answer 3 3 1 (fine r 3 lent).1 ≡ Ok (take 2 (drop 3 (fine r 3 lent).1))
 
--- three doors open 0 to 9,999, due 9,999, work 1, no drive minutes, where 1 and 2 have one keeper
+-- three doors with all the time there is and a minute of work each, of which 1 and 2 have one keeper
 pub record Spaced (r : Round) (lent : List Place) : Type 0 where
   -- 1, 2, 3 breaks the rule, and 1, 3, 2 keeps it
   pub broken : ¬ IsSpaced r.keepers (1 ∷ 2 ∷ 3 ∷ [])
@@ -175,7 +175,7 @@ pub record Spaced (r : Round) (lent : List Place) : Type 0 where
   pub whole_at_4 : (fine r 4 lent).0 ≡ Whole
   pub two_of_six : map (λ w. holds 3 4 w (fine r 4 lent).1) six ≡ false ∷ false ∷ true ∷ true ∷ false ∷ false ∷ []
 
--- of all orders of three doors exactly 1, 2, 3 and 2, 1, 3 keep the load
+-- which orders of the three doors keep the load
 pub record TwoKeep (r : Round) : Type 0 where
   -- these two keep it
   pub these : Loaded r (1 ∷ 2 ∷ 3 ∷ []) × Loaded r (2 ∷ 1 ∷ 3 ∷ [])
@@ -184,7 +184,7 @@ pub record TwoKeep (r : Round) : Type 0 where
 
 pub record WorkedOut (lent : List Place) : Type 0 where
   pub printed_at_9 : AsPrinted (trio 9 (omega arith)) lent
-  -- with door 2 closing at 8 nothing changes
+  -- a minute sooner makes no difference
   pub printed_at_8 : AsPrinted (trio 8 (omega arith)) lent
   pub closed_at_7 : ClosedEarly (trio 7 (omega arith)) lent
   pub paired : Paired loose lent
@@ -192,7 +192,7 @@ pub record WorkedOut (lent : List Place) : Type 0 where
   pub held_lists : HeldLists (trio 9 (omega arith)) lent
   pub handed_layers : HandedLayers loose lent
   pub spaced : Spaced shared lent
-  -- an empty van that holds 2, changes 1, 1 and −2: exactly 1, 2, 3 and 2, 1, 3 keep the load
+  -- an empty van that holds two boxes; doors 1 and 2 have one each, and door 3 takes both
   pub loads : TwoKeep boxes
   -- the verdicts of the six say so: all but these two break the rule, with door 3 as their first fault
   pub says : map (verdict boxes (side_of boxes)) six

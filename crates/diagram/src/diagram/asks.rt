@@ -18,14 +18,16 @@ impl<'a, 'n, S: Copy, V: Copy> Diagram<'a, 'n, S, V> {
         &*self.nodes
     }
 
-    /// What no wanted order undercuts; none if no order is left.
+    /// The value of the end; none if there is no path. In a run with one rule and one tally that serve the round, no wanted order
+    /// undercuts it.
     pub fn bound(&self) -> Option<V>
         ensures { result ≡ bound (round_of self.now).n (width_of self.now) (records_of self.now) }
     {
         self.reading_form().bound()
     }
 
-    /// Yes if no path has door j at an earlier place than door i, and so if i is ahead of j in every wanted order.
+    /// Yes if door j stands ahead of door i on none of the paths. In a run with one rule and one tally that serve the round, i is
+    /// then ahead of j in every wanted order.
     pub fn must(&self, i: usize, j: usize) -> Result<bool, Refusal>
         ensures answer { let n = (round_of self.now).n in
             result ≡ must_answer n (width_of self.now) i j (records_of self.now) }
@@ -45,8 +47,8 @@ impl<'a, 'n, S: Copy, V: Copy> Diagram<'a, 'n, S, V> {
         self.reading_form().holds(doors)
     }
 
-    /// Yes if the in-arcs of each node agree and a sweep would take out nothing: then every path is an allowed order. Whatever
-    /// tally counts, it has no say in it.
+    /// Yes if the in-arcs of each node agree and a sweep would take out nothing. In a run with one rule and one tally that serve the
+    /// round, every path is an allowed order then. Whatever tally counts, it has no say in the answer.
     pub fn settled<R: Rule<State = S>>(&self, rule: &R) -> bool
         ensures { (t : TallySense V) → let by = setting_of self.now (R.sense rule.now) t in
             result ≡ is_settled by (records_of self.now) }

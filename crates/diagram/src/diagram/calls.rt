@@ -69,8 +69,8 @@ impl<'a, 'n, S: Copy, V: Copy> Diagram<'a, 'n, S, V> {
         cut(&by, self.nodes, ceiling)
     }
 
-    /// Takes out each arc whose arrival finishes after its target's last minute to leave, by the labels that stand, and answers
-    /// how many arcs went.
+    /// Takes out each arc over which its target is reached after the last minute to leave it, by the labels that stand, and
+    /// answers how many arcs went.
     pub fn backsweep<R: Rule<State = S>, T: Tally<Value = V>>(
         &mut self,
         rule: &R,

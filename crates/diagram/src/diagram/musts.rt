@@ -10,7 +10,7 @@ use super::Diagram;
 use doors::DoorSet;
 
 impl<'a, 'n, S: Copy, V: Copy> Diagram<'a, 'n, S, V> {
-    /// All musts: element i is the set of the doors that come behind door i in every wanted order, and none where i is no door.
+    /// All musts: element i is the set of the doors j of which must(i, j) is yes, and none where i is no door.
     pub fn musts(&self) -> [DoorSet; 17]
         ensures sets { let n = (round_of self.now).n in
             result ≡ musts n (width_of self.now) (records_of self.now) }
@@ -18,7 +18,7 @@ impl<'a, 'n, S: Copy, V: Copy> Diagram<'a, 'n, S, V> {
         ensures each { let n = (round_of self.now).n in
             (i j : ℕ) → has (slice_index result i) j
             ≡ must_of n (width_of self.now) (records_of self.now) i j }
-        // and so, of two doors, exactly when no path has j at an earlier place than i
+        // and so, of two doors, exactly when j stands ahead of i on none of the paths
         ensures paths { let n = (round_of self.now).n in
             (i j : ℕ) → IsDoor n i → IsDoor n j → i ≢ j
             → MustMeans n (width_of self.now) i j (records_of self.now)

@@ -34,7 +34,8 @@ fn end_value<S: Copy, V: Copy>(nodes: &[Node<S, V>], n: usize, width: usize) -> 
 }
 
 impl<'a, 'n, S: Copy, V: Copy> ReadingForm<'a, 'n, S, V> {
-    /// What no wanted order undercuts; none if no order is left.
+    /// The value of the end; none if there is no path. In a run with one rule and one tally that serve the round, no wanted order
+    /// undercuts it.
     pub fn bound(&self) -> Option<V>
         ensures { result ≡ bound (round_in self.now).n (width_in self.now) (records_in self.now) }
     {
@@ -42,7 +43,8 @@ impl<'a, 'n, S: Copy, V: Copy> ReadingForm<'a, 'n, S, V> {
         end_value(self.nodes, round.n, width)
     }
 
-    /// Yes if no path has door j at an earlier place than door i, and so if i is ahead of j in every wanted order.
+    /// Yes if door j stands ahead of door i on none of the paths. In a run with one rule and one tally that serve the round, i is
+    /// then ahead of j in every wanted order.
     pub fn must(&self, i: usize, j: usize) -> Result<bool, Refusal>
         ensures answer { let n = (round_in self.now).n in
             result ≡ must_answer n (width_in self.now) i j (records_in self.now) }
@@ -60,7 +62,7 @@ impl<'a, 'n, S: Copy, V: Copy> ReadingForm<'a, 'n, S, V> {
         Ok(must(self.nodes, round.n, width, i, j))
     }
 
-    /// All musts: element i is the set of the doors that come behind door i in every wanted order, and none where i is no door.
+    /// All musts: element i is the set of the doors j of which must(i, j) is yes, and none where i is no door.
     pub fn musts(&self) -> [DoorSet; 17]
         ensures sets { let n = (round_in self.now).n in
             result ≡ musts n (width_in self.now) (records_in self.now) }
@@ -68,7 +70,7 @@ impl<'a, 'n, S: Copy, V: Copy> ReadingForm<'a, 'n, S, V> {
         ensures each { let n = (round_in self.now).n in
             (i j : ℕ) → has (slice_index result i) j
             ≡ must_of n (width_in self.now) (records_in self.now) i j }
-        // and so, of two doors, exactly when no path has j at an earlier place than i
+        // and so, of two doors, exactly when j stands ahead of i on none of the paths
         ensures paths { let n = (round_in self.now).n in
             (i j : ℕ) → IsDoor n i → IsDoor n j → i ≢ j
             → MustMeans n (width_in self.now) i j (records_in self.now)
@@ -95,8 +97,8 @@ impl<'a, 'n, S: Copy, V: Copy> ReadingForm<'a, 'n, S, V> {
         Ok(holds(self.nodes, round.n, width, doors))
     }
 
-    /// Yes if the in-arcs of each node agree and a sweep would take out nothing: then every path is an allowed order. Whatever
-    /// tally counts, it has no say in it.
+    /// Yes if the in-arcs of each node agree and a sweep would take out nothing. In a run with one rule and one tally that serve the
+    /// round, every path is an allowed order then. Whatever tally counts, it has no say in the answer.
     pub fn settled<R: Rule<State = S>>(&self, rule: &R) -> bool
         ensures { (t : TallySense V) → let by = setting_in self.now (R.sense rule.now) t in
             result ≡ is_settled by (records_in self.now) }

@@ -17,8 +17,8 @@ impl<'a, 'n, S: Copy, V: Copy> ReadingForm<'a, 'n, S, V> {
         self.room
     }
 
-    /// The records of layer i, 0 to n, as they stand: a part of the lent list, node 1 first, with as many records as the layer has
-    /// nodes. It may be kept when the form is gone, for as long as the list is lent to the form.
+    /// The records of layer i, 0 to n, as they stand in the lent list: one for each node of the layer, from node 1 on.
+    /// It may be kept when the form is gone, for as long as the list is lent to the form.
     pub fn layer(&self, i: usize) -> Result<&'n [Node<S, V>], Refusal>
         ensures { let n = (round_in self.now).n in
             handed_out result ≡ layer_answer n (width_in self.now) i (records_in self.now) }

@@ -1,5 +1,5 @@
-//! `Keepers` is a side rule: a state is the set of possible last doors, and stands for the part orders that end with one of them; 0
-//! is in it where the part order may be empty.
+//! `Keepers` is a side rule: a state is a set of doors, and stands for the part orders that end with one of them; 0 is in it where
+//! the part order may be empty.
 ghost use Rattle.std.specs.Prelude.{◌≡◌};
 ghost use Rattle.doors.specs.Sets.{Has};
 ghost use Rattle.rules.specs.Keepers.{IsSpaced, keepers_sense, last_door};

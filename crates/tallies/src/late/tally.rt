@@ -1,4 +1,4 @@
-//! `LateDoors` is a tally: late doors, then late minutes summed, compared in that order.
+//! `LateDoors` is a tally: how many doors are late, and of as many, by how many minutes together.
 ghost use Rattle.std.specs.Prelude.{◌≡◌, ◌*◌, ◌≤◌};
 ghost use Rattle.round.specs.Clock.{latest_finish};
 ghost use Rattle.tallies.specs.Late.{late_by, late_sense};
