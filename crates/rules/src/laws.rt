@@ -1,5 +1,5 @@
-//! Which rounds each rule serves, when it is kept, what it answers, and its laws with no premise left. The functions do nothing when
-//! they run: their contracts are the laws.
+//! Which rounds each rule serves, when it is kept, what it answers, and its laws, with no premise left. The functions do nothing
+//! when they run: their contracts are what they are for.
 ghost use Rattle.std.specs.Prelude.{◌≡◌, ◌↔◌, ℕ, List};
 ghost use Rattle.rules.specs.Boths.{both_sense};
 ghost use Rattle.rules.specs.Keepers.{IsSpaced, keepers_sense};

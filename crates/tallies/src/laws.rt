@@ -1,5 +1,5 @@
-//! Which rounds each tally serves, what it answers, and its laws with no premise left. The functions do nothing when they run: their
-//! contracts are the laws.
+//! Which rounds each tally serves, what it answers, and its laws, with no premise left. The functions do nothing when they run:
+//! their contracts are what they are for.
 ghost use Rattle.std.specs.Prelude.{◌≡◌, ℕ};
 ghost use Rattle.tallies.specs.Driving.{driving_sense};
 ghost use Rattle.tallies.specs.Late.{late_sense};
