@@ -35,7 +35,7 @@ pub fn load_serves<'a>(rule: &Load<'a>)
         RuleLaws rule.now.round.now.n (R.sense rule.now) (R.keeps rule.now) (R.stands rule.now) }
 {}
 
-/// The keepers of a round serve it, and are kept if no two doors of one keeper directly follow each other.
+/// The keepers of a round serve it, and are kept if the van never goes from a door straight to another of the same keeper.
 pub fn keepers_serve<'a>(rule: &Keepers<'a>)
     ensures serves { ⟦<Keepers<'a> as Rule>⟧.serves rule.now rule.now.round.now.n }
     ensures kept { (w : List ℕ) →
