@@ -3,6 +3,7 @@
 
 pub mod both;
 pub mod keepers;
+pub mod laws;
 pub mod load;
 pub mod pairs;
 pub mod rule;

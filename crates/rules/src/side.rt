@@ -5,6 +5,7 @@ use crate::both::Both;
 use crate::keepers::Keepers;
 use crate::load::{Interval, Load};
 use crate::pairs::Pairs;
+use crate::rule::Rule;
 use doors::DoorSet;
 use round::table::Round;
 
@@ -15,11 +16,12 @@ pub type SideRule<'a> = Both<Both<Pairs<'a>, Load<'a>>, Keepers<'a>>;
 pub type SideState = ((DoorSet, Interval), DoorSet);
 
 impl<'a> SideRule<'a> {
-    /// The side rules of a round.
+    /// The side rules of a round, which serve it.
     pub fn of(round: &'a Round) -> SideRule<'a>
         ensures pairs { result.first.first.round ≡ round.entry }
         ensures load { result.first.second.round ≡ round.entry }
         ensures keepers { result.second.round ≡ round.entry }
+        ensures serves { ⟦<SideRule<'a> as Rule>⟧.serves result round.now.n }
     {
         Both {
             first: Both {

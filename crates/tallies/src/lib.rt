@@ -4,4 +4,5 @@
 mod capped;
 pub mod driving;
 pub mod late;
+pub mod laws;
 pub mod tally;
