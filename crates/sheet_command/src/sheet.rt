@@ -1,8 +1,8 @@
 //! The program `sheet`: what a round's diagram of its side rules and late doors says once it is refined.
-use crate::input::round_in;
-use crate::output::{Status, answered, refused};
-use crate::usage::{file_argument, matched, program};
 use clap::Command;
+use cli::input::round_in;
+use cli::output::{Status, answered, print, refused};
+use cli::usage::{file_argument, matched, program};
 use round::table::Round;
 use round_sheet::sheet::{Place, Sheet};
 use std::alloc::{AllocError, Global};
@@ -17,8 +17,8 @@ fn command<'a>(alloc: Global) -> Result<Command<'a>, AllocError> {
 /// Prints the round's sheet, which is made over the lent records.
 fn show(rt: &HostRuntime, round: &Round, records: &mut [Place]) -> anyhow::Result<Status> {
     match Sheet::of(round, records) {
-        Ok(sheet) => answered(rt, sheet),
-        Err(refusal) => refused(rt, refusal),
+        Ok(sheet) => print(rt, &answered(rt.alloc(), &sheet)?),
+        Err(refusal) => print(rt, &refused(rt.alloc(), &refusal)?),
     }
 }
 
