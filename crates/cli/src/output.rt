@@ -80,11 +80,7 @@ pub fn refused<D: Display>(alloc: Global, refusal: &D) -> Result<Reply, AllocErr
     ensures { IfOk result (λ reply. IfSome (D.output refusal.now)
         (λ text. Prints reply (text ++ 10 ∷ []) [] Status.Refused)) }
 {
-    Ok(Reply {
-        out: format!(in alloc; "{refusal}\n")?,
-        told: String::new(alloc),
-        status: Status::Refused,
-    })
+    Reply::of(alloc, &format_args!("{refusal}\n"), Status::Refused)
 }
 
 /// The same, and on standard error a line of what is wrong.
@@ -97,11 +93,9 @@ pub fn refused_for<D: Display, E: Display>(
         IfSome (E.output fault.now) (λ words.
         Prints reply (text ++ 10 ∷ []) (error_line words) Status.Refused))) }
 {
-    Ok(Reply {
-        out: format!(in alloc; "{refusal}\n")?,
-        told: format!(in alloc; "error: {fault}\n")?,
-        status: Status::Refused,
-    })
+    let mut reply = refused(alloc, refusal)?;
+    reply.told = format!(in alloc; "error: {fault}\n")?;
+    Ok(reply)
 }
 
 /// Prints a reply on both streams, and gives the status to end with.
