@@ -12,3 +12,7 @@ pub record Prints (reply : Reply) (printed noted : List ℕ) (ending : statuses.
 -- the line that says on standard error what is wrong
 abbrev pub error_line : List ℕ → List ℕ
 error_line words = codes "error: " ++ words ++ 10 ∷ []
+
+-- the line that says there of a file, or of standard input, by its name, why it could not be read
+abbrev pub unread_line : List ℕ → List ℕ → List ℕ
+unread_line name why = codes "error: " ++ name ++ (codes ": " ++ why ++ 10 ∷ [])

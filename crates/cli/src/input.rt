@@ -48,7 +48,10 @@ pub fn text_in(rt: &HostRuntime, file: Option<&str>) -> anyhow::Result<Result<Ve
     match read_from(rt, file) {
         Ok(bytes) => Ok(Ok(bytes)),
         Err(error) if error.kind() == ErrorKind::OutOfMemory => Err(error.into()),
-        Err(error) => Ok(Err(unread(rt, file.unwrap_or("standard input"), error)?)),
+        Err(error) => {
+            let name = file.unwrap_or("standard input");
+            Ok(Err(print(rt, &unread(rt.alloc(), name, &error)?)?))
+        }
     }
 }
 

@@ -1,7 +1,7 @@
 //! What a program prints, and how it ends.
 ghost use Rattle.std.specs.Prelude.{◌≡◌, [], ◌∷◌, ◌++◌, IfOk, IfSome};
 ghost use Rattle.std.specs.Process.{exit_status};
-ghost use Rattle.cli.specs.Replies.{Prints, error_line};
+ghost use Rattle.cli.specs.Replies.{Prints, error_line, unread_line};
 ghost use Rattle.cli.specs.Statuses.{number_of};
 
 use std::alloc::{AllocError, Global};
@@ -98,16 +98,22 @@ pub fn refused_for<D: Display, E: Display>(
     Ok(reply)
 }
 
+/// Why a file, or standard input, could not be read, on standard error alone.
+pub fn unread<E: Display>(alloc: Global, name: &str, error: &E) -> Result<Reply, AllocError>
+    ensures { IfOk result (λ reply. IfSome (E.output error.now)
+        (λ why. Prints reply [] (unread_line name.now why) Status.Unread)) }
+{
+    Ok(Reply {
+        out: String::new(alloc),
+        told: format!(in alloc; "error: {name}: {error}\n")?,
+        status: Status::Unread,
+    })
+}
+
 /// Prints a reply on both streams, and gives the status to end with.
 pub fn print(rt: &HostRuntime, reply: &Reply) -> anyhow::Result<Status> {
     let (told, out) = (&reply.told, &reply.out);
     eprint!(rt; "{told}")?;
     print!(rt; "{out}")?;
     Ok(reply.status)
-}
-
-/// Tells on standard error why a file, or standard input, could not be read.
-pub fn unread<E: Display + Drop>(rt: &HostRuntime, name: &str, error: E) -> anyhow::Result<Status> {
-    eprintln!(rt; "error: {name}: {error}")?;
-    Ok(Status::Unread)
 }

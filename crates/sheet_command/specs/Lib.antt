@@ -1,1 +1,1 @@
-pub mod Texts
+pub mod Replies

@@ -25,11 +25,13 @@ abbrev pub IsMade : List ℕ → Records → Records → Result Sheet Refusal �
 IsMade text lent left (Ok s) = IsSheetIn text lent left s
 IsMade text lent left (Err e) = IsRead text (Err e) × (left ≡ lent)
 
--- the reply to a sheet is its text, and to a refusal its line
-abbrev pub Replies : Result Sheet Refusal → Reply → Type 0
-Replies (Ok s) reply = Prints reply (sheet_text s.bound s.refined s.musts) [] Answered
-Replies (Err e) reply = Prints reply (told e ++ 10 ∷ []) [] Refused
+-- the reply by what is made of the text: the text of the sheet, or the line of the refusal
+abbrev pub RepliesBy : Result Sheet Refusal → Reply → Type 0
+RepliesBy (Ok s) reply = Prints reply (sheet_text s.bound s.refined s.musts) [] Answered
+RepliesBy (Err e) reply = Prints reply (told e ++ 10 ∷ []) [] Refused
 
--- the reply to a text is that to the sheet or the refusal which is made of it
-abbrev pub IsReplyTo : List ℕ → Records → Records → Reply → Type 0
-IsReplyTo text lent left reply = (made : Result Sheet Refusal) × IsMade text lent left made × Replies made reply
+-- the reply to the text
+pub record RepliesTo (text : List ℕ) (lent left : Records) (reply : Reply) : Type 0 where
+  pub made : Result Sheet Refusal
+  pub is_made : IsMade text lent left made
+  pub replies : RepliesBy made reply
