@@ -2,7 +2,7 @@
 ghost use Rattle.std.specs.Prelude.{◌≡◌, IfOk, IfSome, take};
 ghost use Rattle.cli.specs.Input.{IsRead, Suffices};
 
-use crate::output::{Status, refused, unread};
+use crate::output::{Status, print, refused, unread};
 use round::table::Round;
 use std::alloc::Global;
 use std::fs::File;
@@ -48,7 +48,10 @@ pub fn text_in(rt: &HostRuntime, file: Option<&str>) -> anyhow::Result<Result<Ve
     match read_from(rt, file) {
         Ok(bytes) => Ok(Ok(bytes)),
         Err(error) if error.kind() == ErrorKind::OutOfMemory => Err(error.into()),
-        Err(error) => Ok(Err(unread(rt, file.unwrap_or("standard input"), error)?)),
+        Err(error) => {
+            let name = file.unwrap_or("standard input");
+            Ok(Err(print(rt, &unread(rt.alloc(), name, &error)?)?))
+        }
     }
 }
 
@@ -61,6 +64,6 @@ pub fn round_in(rt: &HostRuntime, file: Option<&str>) -> anyhow::Result<Result<R
     };
     match round_of(bytes.as_slice()) {
         Ok(round) => Ok(Ok(round)),
-        Err(refusal) => Ok(Err(refused(rt, refusal)?)),
+        Err(refusal) => Ok(Err(print(rt, &refused(rt.alloc(), &refusal)?)?)),
     }
 }

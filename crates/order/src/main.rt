@@ -2,8 +2,8 @@
 //! The doors come as arguments, and the round's text in a file or on standard input.
 #![tactic(auto)]
 
-use cli::order::order_program;
 use cli::usage::words;
+use order_command::order::order_program;
 use std::process::ExitCode;
 
 fn main(rt: HostRuntime) -> anyhow::Result<ExitCode> {

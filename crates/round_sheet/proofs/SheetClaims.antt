@@ -13,7 +13,7 @@ use Rattle.layers.specs.Calls.{bound, must, is_settled}
 use Rattle.layers.specs.Claim.{ClaimHolds, Wanted}
 use Rattle.allowed.specs.Orders.{IsAllowedOrder, KeepsRules, IsNotAbove, late_cost}
 use Rattle.diagram.specs.Musts.{must_of}
-use Rattle.round_sheet.specs.Claims.{NoneUndercuts, MustsHold, BoundIsReached, NoMustMissing}
+use Rattle.round_sheet.specs.Claims.{NoneUndercuts, MustsNameDoors, MustsHold, BoundIsReached, NoMustMissing}
 use Rattle.round_sheet.specs.Sheets.{Records, setting_for}
 
 -- the order on costs, as a test and in words
@@ -38,6 +38,12 @@ asked n xs i j a b d = let al = a.low in let ah = a.high in let bl = b.low in le
 yes-must : (n : ℕ) (xs : Records) (i j : ℕ) → must_of n 16 xs i j ≡ true → IsDoor n i × IsDoor n j × (i ≢ j) × (must n 16 i j xs ≡ true)
 yes-must n xs i j e =
     (record { low = grind (arith, nat_tests); high = grind (arith, nat_tests) }, record { low = grind (arith, nat_tests); high = grind (arith, nat_tests) }, grind (arith, nat_tests), grind (arith, nat_tests))
+
+-- each must names two different doors, where the sets are those of the diagram's musts
+pub musts_named : (r : Round) (xs : Records) (sets : List ℕ) → ((i j : ℕ) → has (slice_index sets i) j ≡ must_of r.n 16 xs i j) → MustsNameDoors r sets
+musts_named r xs sets each i j h =
+    let p = yes-must r.n xs i j (sym (each i j) ∙ ap (λ k. k == 1) h) in
+    (p.0, p.1, p.2)
 
 module _ (r : Round) (xs : Records) (sure : Claimed r xs) where
   undercuts_of : (o : Option (ℕ × ℕ)) → bound r.n 16 xs ≡ o → NoneUndercuts r o

@@ -3,7 +3,7 @@ ghost use Rattle.std.specs.Prelude.{◌≡◌, ◌+◌, ◌*◌, ◌<◌, ◌≤
 ghost use Rattle.layers.specs.declared.refusal.Refusal.TheVariants.{Short};
 ghost use Rattle.layers.specs.declared.refined.Refined.TheVariants.{Whole};
 ghost use Rattle.refine.specs.Answers.{IsInnerIfFull};
-ghost use Rattle.round_sheet.specs.Claims.{NoneUndercuts, MustsHold, BoundIsReached, NoMustMissing};
+ghost use Rattle.round_sheet.specs.Claims.{NoneUndercuts, MustsNameDoors, MustsHold, BoundIsReached, NoMustMissing};
 ghost use Rattle.round_sheet.specs.Sheets.{places_of, refined_for, sheet_of};
 
 use diagram::diagram::Diagram;
@@ -70,6 +70,7 @@ fn sheet_on(room: Room<'_>, records: &mut [Place]) -> Sheet
     ensures sheet { result ≡ sheet_of room.entry.round.now records.old }
     ensures layer { IsInnerIfFull room.entry.round.now.n result.refined }
     ensures none_undercuts { NoneUndercuts room.entry.round.now result.bound }
+    ensures musts_named { MustsNameDoors room.entry.round.now result.musts }
     ensures musts_hold { MustsHold room.entry.round.now result.musts }
     ensures whole_settles { result.refined ≡ Whole → result.settled ≡ true }
     ensures bound_reached { result.settled ≡ true
@@ -94,8 +95,9 @@ impl Sheet {
     /// records, and later places as they were lent. A list with fewer records than the diagram takes is refused, and left as
     /// it was lent.
     ///
-    /// Of every allowed order: it costs no less than the bound, and keeps each must; without a bound there is none. If the
-    /// sheet is settled, the bound is what one of them costs, and where a must is missing one goes the other way round.
+    /// Of every allowed order: it costs no less than the bound, and keeps each must, which names two different doors of the
+    /// round; without a bound there is no such order. If the sheet is settled, the bound is what one of them costs, and where
+    /// a must is missing one goes the other way round.
     pub fn of(round: &Round, records: &mut [Place]) -> Result<Sheet, Refusal>
         ensures room { IsOk result ↔ (places_of round.now ≤ length records.old) }
         ensures refusal { IfErr result (λ e. e ≡ Short) }
@@ -106,6 +108,7 @@ impl Sheet {
         ensures sheet { IfOk result (λ s. s ≡ sheet_of round.now records.old) }
         ensures layer { IfOk result (λ s. IsInnerIfFull round.now.n s.refined) }
         ensures none_undercuts { IfOk result (λ s. NoneUndercuts round.now s.bound) }
+        ensures musts_named { IfOk result (λ s. MustsNameDoors round.now s.musts) }
         ensures musts_hold { IfOk result (λ s. MustsHold round.now s.musts) }
         ensures whole_settles { IfOk result (λ s. s.refined ≡ Whole → s.settled ≡ true) }
         ensures bound_reached { IfOk result

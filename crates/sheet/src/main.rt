@@ -2,9 +2,9 @@
 //! that no allowed order undercuts, and which doors have to come ahead of which.
 #![tactic(auto)]
 
-use cli::sheet::sheet_program;
 use cli::usage::words;
 use round_sheet::sheet::EMPTY;
+use sheet_command::sheet::sheet_program;
 use std::process::ExitCode;
 
 fn main(rt: HostRuntime) -> anyhow::Result<ExitCode> {

@@ -1,9 +1,9 @@
 //! The program `sheet` on a file that is not there.
 #![tactic(auto)]
 
-use cli::sheet::sheet_program;
 use cli::usage::words;
 use round_sheet::sheet::EMPTY;
+use sheet_command::sheet::sheet_program;
 use std::process::ExitCode;
 
 fn main(rt: HostRuntime) -> anyhow::Result<ExitCode> {

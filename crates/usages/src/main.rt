@@ -7,13 +7,13 @@ mod texts;
 
 use crate::lines::LINES;
 use crate::texts::{REFUSED, ROUNDS};
-use cli::order::order_program;
 use cli::output::Status;
-use cli::sheet::sheet_program;
-use cli::view::view_program;
-use cli::why::why_program;
+use order_command::order::order_program;
 use round_sheet::sheet::EMPTY;
+use sheet_command::sheet::sheet_program;
 use std::alloc::AllocError;
+use view_command::view::view_program;
+use why_command::why::why_program;
 
 /// The words of a command line.
 fn words_of(rt: &HostRuntime, line: &str) -> Result<Vec<String>, AllocError> {

@@ -3,9 +3,9 @@
 #![tactic(auto)]
 
 use cli::usage::words;
-use cli::view::view_program;
 use round_sheet::sheet::EMPTY;
 use std::process::ExitCode;
+use view_command::view::view_program;
 
 fn main(rt: HostRuntime) -> anyhow::Result<ExitCode> {
     let mut records = [EMPTY; 257];

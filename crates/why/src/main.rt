@@ -6,5 +6,5 @@ use std::process::ExitCode;
 
 fn main(rt: HostRuntime) -> anyhow::Result<ExitCode> {
     let words = cli::usage::words(&rt)?;
-    Ok(cli::why::why_program(&rt, words.as_slice())?.into())
+    Ok(why_command::why::why_program(&rt, words.as_slice())?.into())
 }

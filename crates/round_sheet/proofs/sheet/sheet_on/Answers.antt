@@ -8,7 +8,7 @@ use Rattle.refine.specs.Answers.{IsInnerIfFull}
 use Rattle.round_sheet.specs.declared.sheet.Sheet.{Sheet}
 use Rattle.round_sheet.specs.Claims.{NoneUndercuts, BoundIsReached}
 use Rattle.round_sheet.specs.Sheets.{Records, places_of, refined_for, sheet_of}
-use Rattle.round_sheet.proofs.SheetClaims.{none_undercuts, musts_hold, bound_reached, none_missing}
+use Rattle.round_sheet.proofs.SheetClaims.{none_undercuts, musts_named, musts_hold, bound_reached, none_missing}
 use Rattle.round_sheet.proofs.SheetLater.{later_kept}
 use Rattle.round_sheet.proofs.SheetOpened.{claimed, settles, is_refined, is_sheet}
 use Rattle.round_sheet.proofs.sheet.sheet_on.Goals as goal
@@ -56,6 +56,7 @@ returns c =
       sheet = sheet;
       layer = subst (λ (x : Room). IsInnerIfFull x.round.now.n c.refine-refined.result) open'.ensures.room c.refine-refined.ensures.within;
       none_undercuts = subst (λ (s : Sheet). NoneUndercuts r s.bound) to (none_undercuts r (refined_for r lent).1 sure);
+      musts_named = musts_named r (refined_for r lent).1 sets each;
       musts_hold = musts_hold r (refined_for r lent).1 sure sets each;
       whole_settles = λ e. ap (λ s. s.settled) sheet ∙ whole (sym (ap (λ s. s.refined) sheet) ∙ e);
       bound_reached = λ e. subst (λ (s : Sheet). BoundIsReached r s.bound) to (bound_reached r (refined_for r lent).1 sure (sym (ap (λ s. s.settled) sheet) ∙ e));

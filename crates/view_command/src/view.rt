@@ -3,10 +3,10 @@ ghost use Rattle.std.specs.Prelude.{◌≡◌, ◌+◌, ◌*◌, ◌≤◌, leng
 ghost use Rattle.diagram.specs.Reading.{room_in, records_in};
 ghost use Rattle.round_sheet.specs.Sheets.{refined_for};
 
-use crate::input::round_in;
-use crate::output::{Status, answered, refused};
-use crate::usage::{file_argument, matched, no_number, number, program};
 use clap::{Arg, Command};
+use cli::input::round_in;
+use cli::output::{Status, answered, print, refused};
+use cli::usage::{file_argument, matched, no_number, number, program};
 use diagram::diagram::Diagram;
 use diagram::room::Room;
 use picture::drawing::{Form, Picture};
@@ -53,14 +53,14 @@ fn show(
 ) -> anyhow::Result<Status> {
     let room = match Room::check(round, WIDTH, records.len()) {
         Ok(room) => room,
-        Err(refusal) => return refused(rt, refusal),
+        Err(refusal) => return print(rt, &refused(rt.alloc(), &refusal)?),
     };
     let form = refined(room, records);
     match layer {
-        None => answered(rt, Picture(&form)),
+        None => print(rt, &answered(rt.alloc(), &Picture(&form))?),
         Some(i) => match form.layer(i) {
-            Ok(nodes) => answered(rt, LayerTable(nodes)),
-            Err(refusal) => refused(rt, refusal),
+            Ok(nodes) => print(rt, &answered(rt.alloc(), &LayerTable(nodes))?),
+            Err(refusal) => print(rt, &refused(rt.alloc(), &refusal)?),
         },
     }
 }

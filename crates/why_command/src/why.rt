@@ -3,11 +3,11 @@ ghost use Rattle.std.specs.Prelude.{Ok, MatchResult};
 ghost use Rattle.cli.specs.Input.{IsRead};
 ghost use Rattle.text.specs.Faults.{IsFault};
 
-use crate::input::{round_of, text_in};
-use crate::output::{Status, answered};
-use crate::usage::{file_argument, matched, program};
 use advice::advice::Advice;
 use clap::Command;
+use cli::input::{round_of, text_in};
+use cli::output::{Reply, Status, answered, print};
+use cli::usage::{file_argument, matched, program};
 use outlook::outlook::Outlook;
 use round::table::Round;
 use std::alloc::{AllocError, Global};
@@ -33,11 +33,11 @@ fn command<'a>(alloc: Global) -> Result<Command<'a>, AllocError> {
 /// Prints what is wrong with the text, as one that is refused, or what its round holds.
 fn explain(rt: &HostRuntime, text: &[u8]) -> anyhow::Result<Status> {
     match judged(text) {
-        Ok(round) => answered(rt, Outlook::of(&round, rt.alloc())?),
-        Err(fault) => {
-            rt.print(Advice(fault))?;
-            Ok(Status::Refused)
-        }
+        Ok(round) => print(
+            rt,
+            &answered(rt.alloc(), &Outlook::of(&round, rt.alloc())?)?,
+        ),
+        Err(fault) => print(rt, &Reply::of(rt.alloc(), &Advice(fault), Status::Refused)?),
     }
 }
 

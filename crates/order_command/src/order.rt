@@ -1,8 +1,8 @@
 //! The program `order`: what is said of one order of a round's doors.
-use crate::input::round_in;
-use crate::output::{Status, answered, refused};
-use crate::usage::{file_argument, matched, program};
 use clap::{Arg, Command};
+use cli::input::round_in;
+use cli::output::{Status, answered, print, refused_for};
+use cli::usage::{file_argument, matched, program};
 use order_report::named::order_named;
 use order_report::report::{NoOrder, Report};
 use round::table::Round;
@@ -27,12 +27,11 @@ fn report_on(rt: &HostRuntime, round: &Round, words: &[&str]) -> anyhow::Result<
     let doors = match order_named(round, words, rt.alloc())? {
         Ok(doors) => doors,
         Err(fault) => {
-            eprintln!(rt; "error: {fault}")?;
-            return refused(rt, NoOrder);
+            return print(rt, &refused_for(rt.alloc(), &NoOrder, &fault)?);
         }
     };
     match Report::of(round, doors.as_slice(), rt.alloc())? {
-        Some(report) => answered(rt, report),
+        Some(report) => print(rt, &answered(rt.alloc(), &report)?),
         None => unreachable!(),
     }
 }

@@ -1,0 +1,4 @@
+//! The program `view`: what it prints of a text, and how it ends.
+#![tactic(auto)]
+
+pub mod view;

@@ -1,0 +1,4 @@
+//! The program `why`: what it prints of a text, and how it ends.
+#![tactic(auto)]
+
+pub mod why;
