@@ -1,7 +1,7 @@
 //! Command lines of the programs.
 
 /// The command lines, whose words stand apart by a blank. The first that names no file reads standard input.
-pub const LINES: [&str; 47] = [
+pub const LINES: [&str; 66] = [
     "sheet --help",
     "sheet --version",
     "sheet",
@@ -25,6 +25,24 @@ pub const LINES: [&str; 47] = [
     "order 1 3 4 --round three.txt",
     "order 1 3 3 --round three.txt",
     "order 1 3 --round three.txt",
+    "order 1 3 2 1 --round three.txt",
+    "order 1 2 3 4 5 6 7 8 9 10 11 12 13 14 15 16 1 --round sixteen.txt",
+    "order 1 3 2 4 --round too_late.txt",
+    "order 2 4 3 1 --round quarter.txt",
+    "order 3 1 5 2 4 --round keepers.txt",
+    "order 3 1 5 4 2 --round keepers.txt",
+    "order 1 2 5 6 3 4 --round six.txt",
+    "order 1 4 6 7 3 2 5 --round seven.txt",
+    "order 5 2 8 3 1 4 6 7 --round eight_load.txt",
+    "order 3 2 4 7 9 1 8 6 5 --round nine_too_late.txt",
+    "order 2 6 3 10 4 7 8 9 1 5 --round ten_circle.txt",
+    "order 4 6 10 9 11 8 5 2 1 7 3 --round eleven.txt",
+    "order 1 6 3 7 11 8 5 12 9 10 2 4 --round twelve_late.txt",
+    "order 11 5 10 7 4 12 6 13 1 8 3 2 9 --round thirteen_pairs.txt",
+    "order 2 4 5 10 12 1 9 13 8 6 11 7 14 3 --round fourteen.txt",
+    "order 10 6 7 15 14 11 1 5 12 13 8 4 9 2 3 --round fifteen.txt",
+    "order 3 4 14 12 8 5 15 13 6 16 2 9 10 11 7 1 --round sixteen.txt",
+    "order 6 14 3 8 1 13 9 11 12 10 16 5 2 7 4 15 --round sixteen_rules.txt",
     "order --round three.txt",
     "order",
     "view --help",
@@ -37,6 +55,7 @@ pub const LINES: [&str; 47] = [
     "view missing.txt",
     "view refused.txt",
     "view --layer 4 three.txt",
+    "view --layer 17 sixteen.txt",
     "view --layer 01 three.txt",
     "view --layer 1 --layer 1 three.txt",
     "view three.txt --layer",

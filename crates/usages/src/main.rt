@@ -1,12 +1,12 @@
-//! Runs command lines of the programs in turn, and asks `why` of the texts of rounds, and `sheet` and `why` of texts that are
-//! refused. All files lie where it runs. After each it prints the status that the program would end with.
+//! Runs command lines of the programs in turn, then shows diagrams, sheets and outlooks of rounds, and asks `sheet` and `why`
+//! about texts that are refused. All files lie where it runs. After each it prints the status that the program would end with.
 #![tactic(auto)]
 
 mod lines;
 mod texts;
 
 use crate::lines::LINES;
-use crate::texts::{REFUSED, ROUNDS};
+use crate::texts::{DRAWN, REFUSED, ROUNDS, SHEETS};
 use cli::output::Status;
 use order_command::order::order_program;
 use round_sheet::sheet::EMPTY;
@@ -57,6 +57,12 @@ fn main(rt: HostRuntime) -> anyhow::Result<()> {
     for line in LINES {
         show(&rt, line)?;
     }
+    show_all(
+        &rt,
+        &["sheet", "view", "view --layer 0", "view --layer 2"],
+        &DRAWN,
+    )?;
+    show_all(&rt, &["sheet"], &SHEETS)?;
     show_all(&rt, &["why"], &ROUNDS)?;
     show_all(&rt, &["sheet", "why"], &REFUSED)
 }

@@ -1,30 +1,68 @@
 //! Files with texts.
 
-/// Those with the texts of rounds.
-pub const ROUNDS: [&str; 6] = [
+/// Those with the texts of rounds whose sheet and diagram are shown: two whole ones, a full one, and one of which no order is
+/// allowed.
+pub const DRAWN: [&str; 4] = ["keepers.txt", "quarter.txt", "sixteen.txt", "too_late.txt"];
+
+/// Those of rounds whose sheet alone is shown. What `no` is ahead of in a name is left out of that round.
+pub const SHEETS: [&str; 13] = [
+    "branches.txt",
+    "chains.txt",
+    "four.txt",
+    "six.txt",
+    "six_no_pairs.txt",
+    "six_no_load.txt",
+    "six_no_keepers.txt",
+    "six_no_grid.txt",
+    "bytes_6000.txt",
+    "bytes_16384.txt",
+    "twelve_late.txt",
+    "sixteen_rules.txt",
+    "sixteen_full.txt",
+];
+
+/// Those of which `why` says what their rounds hold.
+pub const ROUNDS: [&str; 19] = [
     "one.txt",
     "chains.txt",
     "too_late.txt",
     "circle.txt",
     "load_never.txt",
     "load_pairs.txt",
+    "bytes_16384.txt",
+    "six.txt",
+    "seven.txt",
+    "eight_load.txt",
+    "nine_too_late.txt",
+    "ten_circle.txt",
+    "eleven.txt",
+    "twelve_late.txt",
+    "thirteen_pairs.txt",
+    "fourteen.txt",
+    "fifteen.txt",
+    "sixteen.txt",
+    "sixteen_rules.txt",
 ];
 
 /// Those with texts that are refused, for each number of a refusal.
-pub const REFUSED: [&str; 48] = [
+pub const REFUSED: [&str; 66] = [
     "kind_later.txt",
     "kind_unknown.txt",
     "kind_capital.txt",
     "kind_blanks.txt",
     "kind_commas.txt",
+    "kind_letter.txt",
     "mark_utf8.txt",
     "mark_utf16.txt",
+    "mark_utf16_high.txt",
     "mark_none.txt",
     "first_late.txt",
+    "first_early.txt",
     "line_empty.txt",
     "ends_early.txt",
     "empty.txt",
     "fields_few.txt",
+    "fields_one.txt",
     "fields_grid.txt",
     "fields_tab.txt",
     "fields_blank.txt",
@@ -38,26 +76,40 @@ pub const REFUSED: [&str; 48] = [
     "number_point.txt",
     "number_empty.txt",
     "number_blank.txt",
+    "number_space.txt",
+    "number_capital.txt",
+    "number_quotes.txt",
+    "number_backslash.txt",
+    "number_load.txt",
+    "number_first.txt",
     "line_ends.txt",
     "number_change.txt",
     "number_minus.txt",
     "number_letter.txt",
     "number_dash.txt",
+    "dash_letter.txt",
     "drive_dash.txt",
     "range_doors.txt",
     "range_cap.txt",
     "range_grid.txt",
     "range_work.txt",
+    "range_41_digits.txt",
+    "range_due.txt",
     "range_change.txt",
     "range_drive.txt",
     "range_first.txt",
     "pair_alone.txt",
+    "pair_one_door.txt",
     "range_keeper.txt",
+    "keeper_one_door.txt",
     "turn_door.txt",
     "turn_drive.txt",
     "pair_itself.txt",
+    "line_128.txt",
     "unended.txt",
     "unended_returns.txt",
     "too_long.txt",
+    "bytes_16385.txt",
     "second_keeper.txt",
+    "keeper_none_left.txt",
 ];
