@@ -10,7 +10,7 @@ returns-in-Err c =
     let r = c.args.round.now in
     let words = c.args.words.now in
     let first : IsFirstFault r.n words c.in-Err.fault = search rules in
-    fault_told r words c.refused_for.result c.in-Err.fault first c.refused_for.ensures
+    fault_told r words _ c.in-Err.fault first (search rules)
 
 pub returns : goal.returns
 returns c =
@@ -20,4 +20,4 @@ returns c =
     let p = c.in-Some.report in
     let named : NameOrder r words w = search rules in
     let reports : Reports r w p = search rules in
-    report_told r words c.answered.result w p named reports c.answered.ensures
+    report_told r words _ w p named reports (search rules)

@@ -8,4 +8,4 @@ returns-in_ok-of-in-Ok c =
     let r = c.in-Ok.round in
     let o = c.in_ok-of-in-Ok.field-0 in
     let tells : Tells r o = search rules in
-    outlook_told c.args.text.now r o c.answered.result c.in-Ok.ensures tells c.answered.ensures
+    outlook_told c.args.text.now r o _ c.in-Ok.ensures tells (search rules)
