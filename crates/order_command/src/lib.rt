@@ -2,3 +2,4 @@
 #![tactic(auto)]
 
 pub mod order;
+pub mod reply;

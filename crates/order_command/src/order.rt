@@ -1,11 +1,9 @@
 //! The program `order`: what is said of one order of a round's doors.
+use crate::reply::order_reply;
 use clap::{Arg, Command};
-use cli::input::round_in;
-use cli::output::{Status, answered, print, refused_for};
+use cli::input::text_in;
+use cli::output::{Status, print};
 use cli::usage::{file_argument, matched, program};
-use order_report::named::order_named;
-use order_report::report::{NoOrder, Report};
-use round::table::Round;
 use std::alloc::{AllocError, Global};
 
 /// What the program takes.
@@ -22,20 +20,6 @@ fn command<'a>(alloc: Global) -> Result<Command<'a>, AllocError> {
         .arg(file_argument(alloc).long("round"))
 }
 
-/// Reports on the order that the words name, or else tells on standard error why they name none.
-fn report_on(rt: &HostRuntime, round: &Round, words: &[&str]) -> anyhow::Result<Status> {
-    let doors = match order_named(round, words, rt.alloc())? {
-        Ok(doors) => doors,
-        Err(fault) => {
-            return print(rt, &refused_for(rt.alloc(), &NoOrder, &fault)?);
-        }
-    };
-    match Report::of(round, doors.as_slice(), rt.alloc())? {
-        Some(report) => print(rt, &answered(rt.alloc(), &report)?),
-        None => unreachable!(),
-    }
-}
-
 /// Reads a round, and reports on the order of its doors that the words name. What is refused, the text or the order, is printed
 /// as its refusal, with status 1, and of an order it is told on standard error what is wrong with it. Words that the program does
 /// not take end it with status 2, and a text that cannot be read with 3; both are told on standard error.
@@ -44,8 +28,10 @@ pub fn order_program(rt: &HostRuntime, words: &[String]) -> anyhow::Result<Statu
         Ok(matches) => matches,
         Err(status) => return Ok(status),
     };
-    match round_in(rt, matches.get_str("file"))? {
-        Ok(round) => report_on(rt, &round, matches.get_strs("door").unwrap_or_default()),
-        Err(status) => Ok(status),
-    }
+    let text = match text_in(rt, matches.get_str("file"))? {
+        Ok(text) => text,
+        Err(status) => return Ok(status),
+    };
+    let doors = matches.get_strs("door").unwrap_or_default();
+    print(rt, &order_reply(text.as_slice(), doors, rt.alloc())?)
 }

@@ -1,4 +1,5 @@
 //! The program `why`: what it prints of a text, and how it ends.
 #![tactic(auto)]
 
+pub mod reply;
 pub mod why;
