@@ -1,4 +1,4 @@
-use Rattle.std.proofs.Common.{sym, ◌∙◌, below_more, arith, rules}
+use Rattle.std.proofs.Common.{sym, ◌∙◌, below_more, arith}
 use Rattle.order_report.proofs.WordOrders.{any-stands, stands-any, whole}
 use Rattle.order_report.proofs.named.missing.Goals as goal
 
@@ -21,9 +21,3 @@ returns-else-not-contains c =
       part = c.requires;
       whole = whole _ _ c.requires (λ k low high. below_more _ _ c.loop-door.invariant (λ l. here) k (omega arith) low);
     }
-
-pub loop-door-init : goal.loop-door-init
-loop-door-init c = search rules
-
-pub returns : goal.returns
-returns c = search rules

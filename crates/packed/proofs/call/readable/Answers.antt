@@ -1,4 +1,4 @@
-use Rattle.std.proofs.Common.{◌≡◌, false, is_some, refl, ap, ◌∙◌, sym, arith, rules}
+use Rattle.std.proofs.Common.{◌≡◌, false, is_some, refl, ap, ◌∙◌, sym, arith}
 use Rattle.std.proofs.lemmas.Grind.{common_steps}
 use Rattle.packed.specs.Requests.{first_requests}
 use Rattle.packed.proofs.Lists.{some_more, no_requests}
@@ -15,6 +15,3 @@ returns-then-is_none c =
 
 pub loop-k-preserved : goal.loop-k-preserved
 loop-k-preserved c = grind (arith, common_steps, some_more)
-
-pub returns : goal.returns
-returns c = search rules

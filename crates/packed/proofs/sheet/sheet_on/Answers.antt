@@ -1,4 +1,4 @@
-use Rattle.std.proofs.Common.{arith, rules}
+use Rattle.std.proofs.Common.{arith}
 use Rattle.std.proofs.lemmas.Grind.{common_steps}
 use Rattle.packed.proofs.Long.{calls_sheet, long_of}
 use Rattle.packed.proofs.sheet.sheet_on.Goals as goal
@@ -14,6 +14,3 @@ returns-clause-answer c = grind (arith, common_steps, calls_sheet, long_of)
 
 pub returns-clause-out : goal.returns-clause-out
 returns-clause-out c = grind (arith, common_steps, calls_sheet)
-
-pub returns-then-not-readable-clause-answer : goal.returns-then-not-readable-clause-answer
-returns-then-not-readable-clause-answer c = search rules

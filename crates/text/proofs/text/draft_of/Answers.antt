@@ -1,4 +1,4 @@
-use Rattle.std.proofs.Common.{arith, rules}
+use Rattle.std.proofs.Common.{arith}
 use Rattle.text.proofs.Texts.{read_step}
 use Rattle.text.proofs.text.draft_of.Goals as goal
 
@@ -15,6 +15,3 @@ loop-bytes-preserved c =
       numbered = omega (arith, c.in-Some.ensures.lengths);
       same = grind (arith, read_step l.rest.now c.in-Some.bytes.now c.in-Some.after.now l.number l.stage l.draft);
     }
-
-pub returns-in_default-stage : goal.returns-in_default-stage
-returns-in_default-stage c = search rules

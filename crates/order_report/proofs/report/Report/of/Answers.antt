@@ -23,6 +23,3 @@ returns c =
       driving = search rules;
       late = grind (arith, common_steps);
     }
-
-pub returns-in-Incomplete : goal.returns-in-Incomplete
-returns-in-Incomplete c = search rules

@@ -1,8 +1,5 @@
-use Rattle.std.proofs.Common.{append_assoc, rules}
+use Rattle.std.proofs.Common.{append_assoc}
 use Rattle.order_report.proofs.shown.OrderFaultDisplay.fmt.Goals as goal
 
 pub returns-in-NoDoor-clause-writes : goal.returns-in-NoDoor-clause-writes
 returns-in-NoDoor-clause-writes g c = λ p ok. simp (c.in-NoDoor.is, append_assoc) (c.write.ensures.writes p ok)
-
-pub returns-in-Missing-clause-writes : goal.returns-in-Missing-clause-writes
-returns-in-Missing-clause-writes g c = search rules

@@ -1,4 +1,4 @@
-use Rattle.std.proofs.Common.{slice_index, sym, arith, take_all, rules}
+use Rattle.std.proofs.Common.{slice_index, sym, arith, take_all}
 use Rattle.std.proofs.lemmas.Bool.Decides.{nat_tests}
 use Rattle.doors.specs.Orders.{IsDoor}
 use Rattle.doors.specs.Sets.{Has}
@@ -24,6 +24,3 @@ loop-j-preserved c =
 
 pub returns : goal.returns
 returns c = rw (take_all c.loop-j.j-index c.args.list.now c.loop-j-test.false) at (sym (part-is c.args.round.now.n _ c.loop-j.invariant.part))
-
-pub loop-j-init : goal.loop-j-init
-loop-j-init c = search rules

@@ -48,6 +48,3 @@ returns-else-is_empty-clause-writes g c = λ plain ok.
     let so = c.loop-j.invariant in
     has_written_of_eq _ _ _ _ _ (spaced-some (set_words set c.loop-j.j-counter) _ so.gap (sym c.is_empty.ensures ∙ c.if-is_empty.false) ∙ set_text-is set c.loop-j.j-counter (omega arith))
     (so.written plain)
-
-pub loop-j-init : goal.loop-j-init
-loop-j-init g c = search rules

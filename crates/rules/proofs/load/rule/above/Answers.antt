@@ -1,5 +1,0 @@
-use Rattle.std.proofs.Common.{rules}
-use Rattle.rules.proofs.load.rule.above.Goals as goal
-
-pub returns : goal.returns
-returns c = search rules

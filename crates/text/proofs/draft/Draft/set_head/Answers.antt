@@ -1,5 +1,0 @@
-use Rattle.std.proofs.Common.{rules}
-use Rattle.text.proofs.draft.Draft.set_head.Goals as goal
-
-pub returns : goal.returns
-returns c = search rules
