@@ -591,12 +591,16 @@ impl<'r> Diagram<'r> {
         answer
     }
 
+    pub fn arcs(&self) -> usize {
+        self.arcs
+    }
+
     /// How many nodes a layer has.
     pub fn nodes_in(&self, layer: usize) -> usize {
         self.count[layer]
     }
 
-    /// The arcs and labels of all places up to the end in one number, as the program `mixed_calls` puts them together: a place
+    /// The arcs and labels of all places up to the end in one number, as the program `checks` puts them together: a place
     /// that is not in use has no arcs, empty sets, finish 0, the starts of rule and tally, which the first node has too, and
     /// -40,000.
     pub fn records_sum(&self) -> u64 {

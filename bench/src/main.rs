@@ -4,7 +4,7 @@
 //!     morvuges-bench measure             calls at 16 doors: times and ratios
 //!     morvuges-bench stack               how much stack a call of the library takes
 //!     morvuges-bench texts | sheets      rounds by chance, and their sheets as the twin works them out
-//!     morvuges-bench mixed-texts | mixed-answers CASES    cases for the program mixed_calls, and what it is to print
+//!     morvuges-bench mixed-texts | mixed-answers CASES    cases for `checks mixed`, and what it is to print
 //!     morvuges-bench repeat library|twin WIDTH TIMES ROUNDS    open and refine in one of the two alone, for a profiler
 
 mod chance;

@@ -114,32 +114,42 @@ fn single(kind: &str, d: &Diagram) -> Option<[Call; 2]> {
     }
 }
 
-/// The library's time for one of these calls: that of a sheet with them less that of one without.
-fn single_of_library(text: &[u8], width: usize, calls: &[Call]) -> f64 {
-    let refine = [Call::Refine];
-    let mut out = vec![0; 88 + 4 * (OFTEN + 1)];
-    let mut sheet = |calls: &[Call]| {
-        let asked = bytes(calls.iter().flat_map(|call| call.words()));
-        least(1, || library::sheet(black_box(text), width, &asked, &mut out))
-    };
-    let with: Vec<Call> = refine.iter().chain(calls.iter().cycle().take(OFTEN)).copied().collect();
-    ((sheet(&with) - sheet(&refine)) / OFTEN as f64).max(0.0)
+/// What is timed: calls in turn, so often, after others.
+struct Timed<'a> {
+    before: &'a [Call],
+    calls: &'a [Call],
+    often: usize,
 }
 
-/// The twin's time for one of them.
-fn single_of_twin(round: &Round, width: usize, calls: &[Call]) -> f64 {
-    let mut d = Diagram::new(black_box(round), width);
-    (0..TRIES)
-        .map(|_| {
-            d.open();
-            d.refine();
-            let start = clock::now();
-            for call in calls.iter().cycle().take(OFTEN) {
-                black_box(call.make(&mut d));
-            }
-            (clock::now() - start).as_secs_f64() * 1e6 / OFTEN as f64
-        })
-        .fold(f64::MAX, f64::min)
+impl Timed<'_> {
+    fn repeated(&self) -> impl Iterator<Item = &Call> {
+        self.calls.iter().cycle().take(self.often)
+    }
+
+    /// The library's time for one of the calls: that of a sheet with them less that of one without.
+    fn of_library(&self, text: &[u8], width: usize) -> f64 {
+        let mut out = vec![0; 88 + 4 * (self.before.len() + self.often)];
+        let mut sheet = |calls: &[Call]| {
+            let asked = bytes(calls.iter().flat_map(|call| call.words()));
+            least(1, || library::sheet(black_box(text), width, &asked, &mut out))
+        };
+        let with: Vec<Call> = self.before.iter().chain(self.repeated()).copied().collect();
+        ((sheet(&with) - sheet(self.before)) / self.often as f64).max(0.0)
+    }
+
+    /// The twin's time for one of them.
+    fn of_twin(&self, round: &Round, width: usize) -> f64 {
+        let mut d = Diagram::new(black_box(round), width);
+        (0..TRIES)
+            .map(|_| {
+                d.open();
+                self.before.iter().for_each(|call| _ = black_box(call.make(&mut d)));
+                let start = clock::now();
+                self.repeated().for_each(|call| _ = black_box(call.make(&mut d)));
+                (clock::now() - start).as_secs_f64() * 1e6 / self.often as f64
+            })
+            .fold(f64::MAX, f64::min)
+    }
 }
 
 /// One kind of call on refined diagrams, for one width.
@@ -150,11 +160,41 @@ fn singles(rounds: &[Round], width: usize, kind: &str) -> Sums {
         d.open();
         d.refine();
         if let Some(calls) = single(kind, &d) {
-            let library = single_of_library(round.text().as_bytes(), width, &calls);
-            sums.add(library, single_of_twin(round, width, &calls));
+            let timed = Timed { before: &[Call::Refine], calls: &calls, often: OFTEN };
+            sums.add(timed.of_library(round.text().as_bytes(), width), timed.of_twin(round, width));
         }
     }
     sums
+}
+
+/// How often a filled diagram is swept, so that its time stands out.
+const SWEPT: usize = 512;
+
+/// Calls that fill a diagram of width 128, where every order of the doors will do: each layer is parted as far as it can be.
+fn filling() -> Vec<Call> {
+    let parts = |layer| (1..128).map(move |node| Call::Part(layer, node)).chain([Call::Sweep]);
+    (1..16).flat_map(parts).collect()
+}
+
+/// Sweeps of a filled diagram, so that labels are worked out again and again over as many arcs as there can be; no if answers
+/// differ or a sweep takes out an arc.
+fn print_filled(drawn: &Round) -> bool {
+    let round = drawn.with_every_order();
+    let (text, before) = (round.text(), filling());
+    let mut d = Diagram::new(&round, 128);
+    let answers: Vec<u32> = before.iter().map(|call| call.make(&mut d) as u32).collect();
+    let mut out = vec![0; 88 + 4 * before.len()];
+    library::sheet(text.as_bytes(), 128, &bytes(before.iter().flat_map(|call| call.words())), &mut out);
+    if out[88..] != bytes(answers)[..] || d.sweep() != 0 {
+        println!("answers differ on a filled diagram, or it is not swept");
+        return false;
+    }
+    println!("width        rounds  library     twin  ratio (least to most)   sweep, on a filled diagram with {} arcs", d.arcs());
+    let timed = Timed { before: &before, calls: &[Call::Sweep], often: SWEPT };
+    let mut sums = Sums::new();
+    sums.add(timed.of_library(text.as_bytes(), 128), timed.of_twin(&round, 128));
+    sums.print("  128      ");
+    true
 }
 
 /// How often a refined diagram is asked, so that its time stands out.
@@ -230,7 +270,7 @@ pub fn measure() -> ExitCode {
             sums.print(&format!("{width:5}      "));
         }
     }
-    if !print_refines(&tight(Keepers::Apart), "open and refine, rounds with keepers") {
+    if !print_filled(&rounds[0]) || !print_refines(&tight(Keepers::Apart), "open and refine, rounds with keepers") {
         return ExitCode::FAILURE;
     }
     ExitCode::SUCCESS

@@ -1,6 +1,6 @@
-//! Calls that are lent the rule and tally of one round or of another in turn: the cases that the library's program `mixed_calls`
-//! is to work off, and what it is to print as the twin works it out: what each call answers, and all records that it leaves, as
-//! one number.
+//! Calls that are lent the rule and tally of one round or of another in turn: the cases that the library's program `checks` is to
+//! work off with the word `mixed`, and what it is to print as the twin works it out: what each call answers, and all records that
+//! it leaves, as one number.
 
 use crate::chance::Chance;
 use crate::compare::{Call, round_by_chance};

@@ -85,6 +85,12 @@ impl Round {
         round
     }
 
+    /// This round with all doors open all day, no pairs, no keepers and no key boxes.
+    pub fn with_every_order(&self) -> Round {
+        let doors = self.doors.map(|door| Door { opens: 0, closes: 9_999, change: 0, ..door });
+        Round { doors, ahead: [0; 17], keepers: [0; 17], ..*self }
+    }
+
     pub fn text(&self) -> String {
         let mut s = String::new();
         write!(s, "round\t{}\t{}\t{}", self.n, self.load, self.cap).unwrap();

@@ -1,4 +1,5 @@
-//! Rounds whose sheets the library's program `sheets` is to print: their texts, and their sheets as the twin works them out.
+//! Rounds whose sheets the library's program `checks` is to print with the word `sheets`: their texts, and their sheets as the twin
+//! works them out.
 
 use crate::chance::Chance;
 use crate::diagram::Diagram;

@@ -1,10 +1,9 @@
-//! Calls that are lent the rule and the tally of one round or of another in turn: reads cases on standard input, makes the calls
-//! of each on the diagram of its first round, and prints what they answer, all records that each leaves as one number, and what
-//! the diagram then says, to be compared with what another program works out. A case is the texts of two rounds, then a line
-//! with the width and a line for each call: 1 or 2 for the round whose rule and tally it is lent, its kind, and three numbers.
-//! Each of the three has an empty line after it.
-#![tactic(auto)]
-
+//! Calls that are lent the rule and the tally of one round or of another in turn: reads cases, makes the calls of each on the
+//! diagram of its first round, and prints what they answer, all records that each leaves as one number, and what the diagram then
+//! says, to be compared with what another program works out. A case is the texts of two rounds, then a line with the width and a
+//! line for each call: 1 or 2 for the round whose rule and tally it is lent, its kind, and three numbers. Each of the three has an
+//! empty line after it.
+use crate::rounds::{parts_of, round_of};
 use anyhow::anyhow;
 use diagram::diagram::Diagram;
 use diagram::room::Room;
@@ -16,7 +15,6 @@ use round_sheet::sheet::{EMPTY, Place, RECORDS};
 use rules::both::Both;
 use rules::side::SideState;
 use tallies::late::LateDoors;
-use text::reading::read_bounded;
 
 /// A diagram under pairs, load, keepers and late doors.
 type Work<'a, 'n> = Diagram<'a, 'n, SideState, (u32, u32)>;
@@ -26,15 +24,6 @@ type Work<'a, 'n> = Diagram<'a, 'n, SideState, (u32, u32)>;
 struct Lent {
     second: bool,
     call: Call<(u32, u32)>,
-}
-
-/// The round of a text.
-fn round_of(text: &str) -> anyhow::Result<Round> {
-    let mut round = Round::fresh();
-    if read_bounded(&mut round, text.as_bytes()).is_err() {
-        return Err(anyhow!("a text is refused"));
-    }
-    Ok(round)
 }
 
 /// The numbers of a line, 0 for those that it lacks.
@@ -197,29 +186,14 @@ fn print_case(rt: &HostRuntime, rounds: &[Round; 2], asked: &str) -> anyhow::Res
     }
 }
 
-fn main(rt: HostRuntime) -> anyhow::Result<()> {
-    let mut rounds = [Round::fresh(), Round::fresh()];
-    let mut text = String::new(rt.alloc());
-    let mut part: usize = 0;
+/// The cases of a text, each under its number.
+pub(crate) fn print_cases(rt: &HostRuntime, text: &str) -> anyhow::Result<()> {
     let mut number: usize = 0;
-    for line in rt.lines(rt.alloc()) {
-        let line = line?;
-        if !line.is_empty() {
-            text.push_str(&line)?;
-            text.push('\n')?;
-            continue;
-        }
-        match part {
-            0 => rounds[0] = round_of(&text)?,
-            1 => rounds[1] = round_of(&text)?,
-            _ => {
-                number = number.saturating_add(1);
-                println!(rt; "case\t{number}")?;
-                print_case(&rt, &rounds, &text)?;
-            }
-        }
-        part = if part < 2 { part + 1 } else { 0 };
-        text.clear();
+    for case in parts_of(rt.alloc(), text)?.chunks_exact(3) {
+        number = number.saturating_add(1);
+        println!(rt; "case\t{number}")?;
+        let rounds = [round_of(&case[0])?, round_of(&case[1])?];
+        print_case(rt, &rounds, &case[2])?;
     }
     Ok(())
 }

@@ -1,12 +1,8 @@
-//! Makes packed calls on a round's diagram: reads a round's text on standard input, and prints the words of its sheet after
-//! lists of calls of every kind, and what is refused.
-#![tactic(auto)]
-
+//! Packed calls on the diagram of a round: the words of its sheet after lists of calls of every kind, and what is refused.
 use packed::often::{Question, ask_often, refine_often};
 use packed::refusal::code_of;
 use packed::sheet::sheet;
 use std::alloc::{AllocError, Global};
-use std::io::Read;
 
 /// A call as its four words.
 type Call = [u32; 4];
@@ -280,10 +276,9 @@ fn print_often(rt: &HostRuntime, text: &[u8]) -> anyhow::Result<()> {
     Ok(())
 }
 
-fn main(rt: HostRuntime) -> anyhow::Result<()> {
-    let mut text = Vec::new(rt.alloc());
-    rt.stdin().read_to_end(&mut text)?;
-    print_sheets(&rt, text.as_slice())?;
-    print_refusals(&rt, text.as_slice())?;
-    print_often(&rt, text.as_slice())
+/// All of these for the round of a text.
+pub(crate) fn print_calls(rt: &HostRuntime, text: &[u8]) -> anyhow::Result<()> {
+    print_sheets(rt, text)?;
+    print_refusals(rt, text)?;
+    print_often(rt, text)
 }
