@@ -2,7 +2,7 @@
 ghost use Rattle.std.specs.Prelude.{◌≡◌, IfOk, IfSome, take};
 ghost use Rattle.cli.specs.Input.{IsRead, Suffices};
 
-use crate::output::{Status, print, refused, unread};
+use crate::output::{Status, print, unread};
 use round::table::Round;
 use std::alloc::Global;
 use std::fs::File;
@@ -52,18 +52,5 @@ pub fn text_in(rt: &HostRuntime, file: Option<&str>) -> anyhow::Result<Result<Ve
             let name = file.unwrap_or("standard input");
             Ok(Err(print(rt, &unread(rt.alloc(), name, &error)?)?))
         }
-    }
-}
-
-/// The round of the text in a file, or on standard input if no file is named; or, once it is told that the text cannot be read
-/// or printed that it is refused, the status to end with.
-pub fn round_in(rt: &HostRuntime, file: Option<&str>) -> anyhow::Result<Result<Round, Status>> {
-    let bytes = match text_in(rt, file)? {
-        Ok(bytes) => bytes,
-        Err(status) => return Ok(Err(status)),
-    };
-    match round_of(bytes.as_slice()) {
-        Ok(round) => Ok(Ok(round)),
-        Err(refusal) => Ok(Err(print(rt, &refused(rt.alloc(), &refusal)?)?)),
     }
 }
