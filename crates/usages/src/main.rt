@@ -1,17 +1,14 @@
-//! Runs command lines of the programs in turn, then shows diagrams, sheets and outlooks of rounds, and asks `sheet` and `why`
-//! about texts that are refused. All files lie where it runs. After each it prints the status that the program would end with.
+//! Runs the command lines of the file `lines.txt` in turn: each program with its words, wrong ones among them, then on rounds and on
+//! texts that are refused. A blank stands between two words; the first line that names no file reads standard input. All files lie
+//! where it runs. After what each prints stands the status that the program would end with.
 #![tactic(auto)]
 
-mod lines;
-mod texts;
-
-use crate::lines::LINES;
-use crate::texts::{DRAWN, REFUSED, ROUNDS, SHEETS};
 use cli::output::Status;
 use order_command::order::order_program;
 use round_sheet::sheet::EMPTY;
 use sheet_command::sheet::sheet_program;
 use std::alloc::AllocError;
+use std::fs;
 use view_command::view::view_program;
 use why_command::why::why_program;
 
@@ -43,26 +40,10 @@ fn show(rt: &HostRuntime, line: &str) -> anyhow::Result<()> {
     Ok(println!(rt; "status {status}")?)
 }
 
-/// Shows each of the programs on each of the files in turn.
-fn show_all(rt: &HostRuntime, programs: &[&str], files: &[&str]) -> anyhow::Result<()> {
-    for file in files {
-        for program in programs {
-            show(rt, &format!(in rt.alloc(); "{program} {file}")?)?;
-        }
-    }
-    Ok(())
-}
-
 fn main(rt: HostRuntime) -> anyhow::Result<()> {
-    for line in LINES {
+    let lines = fs::read_to_string(&rt, "lines.txt")?;
+    for line in lines.as_str().lines() {
         show(&rt, line)?;
     }
-    show_all(
-        &rt,
-        &["sheet", "view", "view --layer 0", "view --layer 2"],
-        &DRAWN,
-    )?;
-    show_all(&rt, &["sheet"], &SHEETS)?;
-    show_all(&rt, &["why"], &ROUNDS)?;
-    show_all(&rt, &["sheet", "why"], &REFUSED)
+    Ok(())
 }
