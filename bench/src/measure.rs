@@ -185,7 +185,7 @@ fn print_filled(drawn: &Round) -> bool {
     let answers: Vec<u32> = before.iter().map(|call| call.make(&mut d) as u32).collect();
     let mut out = vec![0; 88 + 4 * before.len()];
     library::sheet(text.as_bytes(), 128, &bytes(before.iter().flat_map(|call| call.words())), &mut out);
-    if out[88..] != bytes(answers)[..] || d.sweep() != 0 {
+    if out[88..] != bytes(answers) || d.sweep() != 0 {
         println!("answers differ on a filled diagram, or it is not swept");
         return false;
     }
